@@ -1,0 +1,6 @@
+-- Laws that belong to no one function.
+pub mod Laws
+pub mod EndianLaws
+pub mod AnswerLaws
+pub mod RowLaws
+pub mod RecordLaws

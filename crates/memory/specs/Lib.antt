@@ -1,0 +1,5 @@
+-- The definitions that contracts over lent byte slices cite.
+pub mod Region
+pub mod Endian
+pub mod Answers
+pub mod Records
