@@ -25,13 +25,16 @@ module _ {W : Type 0} where
       pub attained : (es : List (Arc W)) × Closes A q es × (delay i j es ≡ m)
       pub bound : (es : List (Arc W)) → Closes A q es → m ≤ℤ delay i j es
 
+    -- m is the greatest delay
     pub record IsGreatest (m : ℤ) : Type 0 where
       pub attained : (es : List (Arc W)) × Closes A q es × (delay i j es ≡ m)
       pub bound : (es : List (Arc W)) → Closes A q es → delay i j es ≤ℤ m
 
+    -- delays below every bound
     abbrev pub EndlessBelow : Type 0
     EndlessBelow = (z : ℤ) → (es : List (Arc W)) × Closes A q es × (delay i j es ≤ℤ z)
 
+    -- delays above every bound
     abbrev pub EndlessAbove : Type 0
     EndlessAbove = (z : ℤ) → (es : List (Arc W)) × Closes A q es × (z ≤ℤ delay i j es)
 
