@@ -2,4 +2,5 @@
 pub mod Region
 pub mod Endian
 pub mod Answers
+pub mod Pairs
 pub mod Records
