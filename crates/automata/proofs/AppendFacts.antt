@@ -110,3 +110,20 @@ module _ {A : Type 0} where
   -- a list begins with its first elements
   pub take-begins : (i : ℕ) (xs : List A) → Begins (take i xs) xs
   take-begins i xs = record { rest = drop i xs; joined = sym (take-append-drop i xs) }
+
+-- ---- the values of numbered elements, by the first elements
+
+module _ {A B : Type 0} (f : ℕ × A → Option B) (xs : List A) (j : ℕ) where
+  -- one element more
+  pub first-values-suc : {a : A} → getElem? xs j ≡ some a
+      → mapMaybe f (numbered zero (take (suc j) xs)) ≡ mapMaybe f (numbered zero (take j xs)) ++ consMaybe (f (j, a)) []
+  first-values-suc {a} e = ap (mapMaybe f) (numbered-place xs j e) ∙ mapMaybe-append f (numbered zero (take j xs)) ((j, a) ∷ [])
+
+  -- they come first
+  pub first-values-begin : Begins (mapMaybe f (numbered zero (take j xs))) (mapMaybe f (numbered zero xs))
+  first-values-begin = record {
+    rest = mapMaybe f (numbered (zero + length (take j xs)) (drop j xs));
+    joined = ap (λ (l : List A). mapMaybe f (numbered zero l)) (sym (take-append-drop j xs))
+        ∙ ap (mapMaybe f) (numbered-append zero (take j xs) (drop j xs))
+        ∙ mapMaybe-append f (numbered zero (take j xs)) (numbered (zero + length (take j xs)) (drop j xs));
+  }

@@ -6,23 +6,24 @@ use mathlib.Core.List.{List, [], _∷_, _++_, map, append-nil}
 use Prim.Native.Nat.{ℕ, zero, suc, _≤_}
 use lib.Dec.{eqb}
 use lib.ListN.{length, length-map, take, getElem?}
-use lib.Seq.{take-all}
+use lib.Seq.{take-length}
 use Rattle.automata.specs.Lists.{if, and, or, any, filter, Distinct, numbered, guard, bind, consMaybe, mapMaybe}
 use Rattle.automata.specs.Automaton.{Arc, Automaton}
 use Rattle.automata.specs.TapePair.{TapePair}
 use Rattle.automata.specs.Config.{Config, sameConfig, tooLong, follow}
-use Rattle.automata.specs.Explore.{edges, edgeGraph}
+use Rattle.automata.specs.Explore.{Edge, edges, edgeGraph}
 use Rattle.automata.specs.Search.{Search, note, noteAll}
 use Rattle.automata.specs.Rounds.{iterate, round}
 use Rattle.automata.specs.Graph.{Graph}
 use Rattle.automata.specs.Marks.{mark, coaccessible}
 use Rattle.automata.specs.Trim.{atMarks, trimmed, keptEdges}
-use Rattle.automata.specs.Intersect.{arcOf, accepting, stateOf, candidate, candidates, out, delayed, assemble}
+use Rattle.automata.specs.Intersect.{arcOf, accepting, stateOf, starts, candidate, candidates, out, reachedConfigs, delayed, assemble}
 use Rattle.automata.specs.Offer.{Offer, nothing, late, to, successor, isLate, offerTo, offer, stepBy, outUpTo, lateUpTo}
 use Rattle.automata.proofs.ListFacts
 use Rattle.automata.proofs.AppendFacts
 use Rattle.automata.proofs.AppendFacts.{Begins}
 use Rattle.automata.proofs.RoundFacts.{length-sweep}
+use Rattle.automata.proofs.Explored.{reached-explored}
 use Rattle.automata.proofs.Configurations.{configs-decided}
 use Rattle.automata.proofs.KeptEdges.{kept-edges}
 use Rattle.automata.proofs.SearchFacts.{noteAll-snoc}
@@ -119,11 +120,90 @@ module _ {W : Type 0} (A : Automaton W) (ps : List TapePair) (viable : Config �
   pub outUpTo-suc : (j : ℕ) (a : Arc W) (c : Config) → getElem? (A .arcs) j ≡ some a
       → outUpTo A ps viable (suc j) c ≡ outUpTo A ps viable j c ++ consMaybe (stepBy A ps viable c (j, a)) []
   unfolding outUpTo
-  outUpTo-suc j a c e = ap (mapMaybe (stepBy A ps viable c)) (AppendFacts.numbered-place (A .arcs) j e)
-      ∙ AppendFacts.mapMaybe-append (stepBy A ps viable c) (numbered zero (take j (A .arcs))) ((j, a) ∷ [])
+  outUpTo-suc j a c e = AppendFacts.first-values-suc (stepBy A ps viable c) (A .arcs) j e
+
+  -- the same by what the arc offers: one step more, or none
+  pub outUpTo-to : (j : ℕ) (a : Arc W) (c d : Config) → getElem? (A .arcs) j ≡ some a → offer ps viable c a ≡ to d
+      → outUpTo A ps viable (suc j) c ≡ outUpTo A ps viable j c ++ (((j, a), d) ∷ [])
+  outUpTo-to j a c d e h = outUpTo-suc j a c e ∙ ap (λ o. outUpTo A ps viable j c ++ consMaybe (Option·map (λ d. ((j, a), d)) (successor o)) []) h
+
+  pub outUpTo-none : (j : ℕ) (a : Arc W) (c : Config) → getElem? (A .arcs) j ≡ some a → successor (offer ps viable c a) ≡ none
+      → outUpTo A ps viable (suc j) c ≡ outUpTo A ps viable j c
+  outUpTo-none j a c e h = outUpTo-suc j a c e ∙ ap (λ o. outUpTo A ps viable j c ++ consMaybe (Option·map (λ d. ((j, a), d)) o) []) h
+      ∙ append-nil (outUpTo A ps viable j c)
 
   -- all arcs
-  pub outUpTo-all : (j : ℕ) (c : Config) → length (A .arcs) ≤ j → outUpTo A ps viable j c ≡ out A ps viable c
+  pub outUpTo-all : (c : Config) → outUpTo A ps viable (length (A .arcs)) c ≡ out A ps viable c
   unfolding outUpTo
-  outUpTo-all j c h =
-      ap (λ (arcs : List (Arc W)). mapMaybe (stepBy A ps viable c) (numbered zero arcs)) (take-all j (A .arcs) h) ∙ sym (out-offers c)
+  outUpTo-all c = ap (λ (arcs : List (Arc W)). mapMaybe (stepBy A ps viable c) (numbered zero arcs)) (take-length (A .arcs)) ∙ sym (out-offers c)
+
+  -- the steps by the first arcs come first
+  pub outUpTo-begins : (j : ℕ) (c : Config) → Begins (outUpTo A ps viable j c) (out A ps viable c)
+  unfolding outUpTo
+  outUpTo-begins j c = rw (out-offers c) (AppendFacts.first-values-begin (stepBy A ps viable c) (A .arcs) j)
+
+  -- the search after the steps by one arc more
+  pub noted-to : (k : ℕ) (s : Search Config (ℕ × Arc W)) (j : ℕ) (a : Arc W) (c d : Config) → getElem? (A .arcs) j ≡ some a → offer ps viable c a ≡ to d
+      → noteAll sameConfig k s (outUpTo A ps viable (suc j) c) ≡ note sameConfig k (noteAll sameConfig k s (outUpTo A ps viable j c)) ((j, a), d)
+  noted-to k s j a c d e h = ap (noteAll sameConfig k s) (outUpTo-to j a c d e h) ∙ noteAll-snoc sameConfig configs-decided k s (outUpTo A ps viable j c) ((j, a), d)
+
+  pub noted-none : (k : ℕ) (s : Search Config (ℕ × Arc W)) (j : ℕ) (a : Arc W) (c : Config) → getElem? (A .arcs) j ≡ some a
+      → successor (offer ps viable c a) ≡ none
+      → noteAll sameConfig k s (outUpTo A ps viable (suc j) c) ≡ noteAll sameConfig k s (outUpTo A ps viable j c)
+  noted-none k s j a c e h = ap (noteAll sameConfig k s) (outUpTo-none j a c e h)
+
+  -- whether a step is too long: by no arc, by one arc more, by all
+  pub lateUpTo-zero : (c : Config) → lateUpTo A ps viable zero c ≡ false
+  unfolding lateUpTo
+  lateUpTo-zero c = refl
+
+  pub lateUpTo-suc : (j : ℕ) (a : Arc W) (c : Config) → getElem? (A .arcs) j ≡ some a
+      → lateUpTo A ps viable (suc j) c ≡ or (lateUpTo A ps viable j c) (isLate (offer ps viable c a))
+  unfolding lateUpTo
+  lateUpTo-suc j a c e = ap (any (λ a. isLate (offer ps viable c a))) (AppendFacts.take-place (A .arcs) j e)
+      ∙ AppendFacts.any-snoc (λ a. isLate (offer ps viable c a)) (take j (A .arcs)) a
+
+  pub lateUpTo-all : (c : Config)
+      → lateUpTo A ps viable (length (A .arcs)) c ≡ any (λ s. tooLong ps (s .1 .leftovers)) (candidates A ps viable c)
+  unfolding lateUpTo
+  lateUpTo-all c = ap (any (λ a. isLate (offer ps viable c a))) (take-length (A .arcs)) ∙ sym (late-offers c)
+
+  -- Some step from one of the configurations is too long where some arc's offer to one of them is.
+  pub delayed-late : (cs : List Config) → delayed A ps viable cs ≡ any (lateUpTo A ps viable (length (A .arcs))) cs
+  unfolding delayed
+  delayed-late [] = refl
+  delayed-late (c ∷ cs) = rw (lateUpTo-all c) (ap (or (any long (candidates A ps viable c))) (delayed-late cs))
+
+-- ---- the result
+
+-- there are as many marks as vertices
+pub length-coaccessible : {E : Type 0} (G : Graph E) (finals : List Bool) → length (coaccessible G finals) ≡ length finals
+length-coaccessible G finals = rounds (length finals)
+  where
+    rounds : (k : ℕ) → length (iterate k (round G false (mark G)) finals) ≡ length finals
+    rounds zero = refl
+    rounds (suc k) = length-sweep G false (mark G) (iterate k (round G false (mark G)) finals) (iterate k (round G false (mark G)) finals) (G .arcs) ∙ rounds k
+
+module _ {W : Type 0} (A : Automaton W) (ps : List TapePair) (viable : Config → Bool) where
+  -- the edges between configurations, and the marks of those on a successful path
+  abbrev pub configEdges : List Config → List (Edge (ℕ × Arc W))
+  configEdges cs = edges sameConfig (out A ps viable) cs
+
+  abbrev pub configMarks : List Config → List Bool
+  configMarks cs = coaccessible (edgeGraph (configEdges cs)) (map (accepting A) cs)
+
+  -- The result has the marked configurations as states, and the edges between them as arcs.
+  pub assembled : (cs : List Config) → Distinct cs
+      → assemble A ps viable cs .automaton
+      ≡ record { tapes = A .tapes; states = map (stateOf A) (atMarks (configMarks cs) cs); arcs = map arcOf (keptEdges (configMarks cs) (configEdges cs)) }
+  unfolding assemble trimmed
+  assembled cs d =
+      let many : length (configMarks cs) ≡ length cs =
+      length-coaccessible (edgeGraph (configEdges cs)) (map (accepting A) cs) ∙ length-map cs (accepting A) in
+      ap (λ (es : List (Edge (ℕ × Arc W))). record { tapes = A .tapes; states = map (stateOf A) (atMarks (configMarks cs) cs); arcs = map arcOf es })
+      (kept-edges sameConfig configs-decided (out A ps viable) cs (configMarks cs) d many)
+
+  -- every reached configuration stands once
+  pub reachedConfigs-distinct : (cap : ℕ) → Distinct (reachedConfigs A ps viable cap)
+  unfolding reachedConfigs
+  reachedConfigs-distinct cap = reached-explored sameConfig configs-decided (out A ps viable) (starts A ps viable) cap .distinct
