@@ -10,11 +10,12 @@ use lib.Seq.{take-append-le}
 use Rattle.automata.specs.Lists.{if, or, any, filter, concat, numbered, consMaybe, mapMaybe}
 use Rattle.automata.proofs.ListFacts
 
--- either of three tests, and either of one
+-- either of three tests
 or-assoc : (a b c : Bool) → or (or a b) c ≡ or a (or b c)
 or-assoc true b c = refl
 or-assoc false b c = refl
 
+-- either of a test and one that fails
 pub or-none : (a : Bool) → or a false ≡ a
 or-none true = refl
 or-none false = refl
@@ -89,21 +90,24 @@ pub record Begins {A : Type 0} (xs ys : List A) : Type 0 where
   pub joined : ys ≡ xs ++ rest
 
 module _ {A : Type 0} where
-  -- every list begins with itself, and with what a list begins with that it begins with
+  -- every list begins with itself
   pub begins-self : (xs : List A) → Begins xs xs
   begins-self xs = record { rest = []; joined = sym (append-nil xs) }
 
+  -- what begins with a list begins with what that begins with
   pub begins-on : {xs ys zs : List A} → Begins xs ys → Begins ys zs → Begins xs zs
   begins-on {xs} b c =
       record { rest = b .rest ++ c .rest; joined = c .joined ∙ ap (λ (l : List A). l ++ c .rest) (b .joined) ∙ append-assoc xs (b .rest) (c .rest) }
 
-  -- what the longer list keeps: the length, the places, the first elements
+  -- the longer list is no shorter
   pub begins-length : {xs ys : List A} → Begins xs ys → length xs ≤ length ys
   begins-length {xs} b = let l = ap length (b .joined) ∙ length-append xs (b .rest) in omega arith
 
+  -- what stands at a place stands there in the longer list
   pub begins-place : {xs ys : List A} → Begins xs ys → (i : ℕ) {a : A} → getElem? xs i ≡ some a → getElem? ys i ≡ some a
   begins-place {xs} b i h = ap (λ (l : List A). getElem? l i) (b .joined) ∙ ListFacts.place-append xs (b .rest) i h
 
+  -- the first elements are those of the longer list
   pub begins-take : {xs ys : List A} → Begins xs ys → (i : ℕ) → i ≤ length xs → take i ys ≡ take i xs
   begins-take {xs} b i h = ap (take i) (b .joined) ∙ take-append-le i xs (b .rest) h
 

@@ -3,11 +3,11 @@ use mathlib.Core.Path.{_≡_, refl, sym, _∙_, ap}
 use mathlib.Core.Bool.{Bool, true, false, not}
 use mathlib.Core.Option.{Option, none, some, Option·map}
 use mathlib.Core.List.{List, [], _∷_, _++_, map, append-nil}
-use Prim.Native.Nat.{ℕ, zero, suc, _≤_}
+use Prim.Native.Nat.{ℕ, zero, suc}
 use lib.Dec.{eqb}
 use lib.ListN.{length, length-map, take, getElem?}
 use lib.Seq.{take-length}
-use Rattle.automata.specs.Lists.{if, and, or, any, filter, Distinct, numbered, guard, bind, consMaybe, mapMaybe}
+use Rattle.automata.specs.Lists.{if, or, any, filter, Distinct, numbered, guard, bind, consMaybe, mapMaybe}
 use Rattle.automata.specs.Automaton.{Arc, Automaton}
 use Rattle.automata.specs.TapePair.{TapePair}
 use Rattle.automata.specs.Config.{Config, sameConfig, tooLong, follow}
@@ -18,8 +18,7 @@ use Rattle.automata.specs.Graph.{Graph}
 use Rattle.automata.specs.Marks.{mark, coaccessible}
 use Rattle.automata.specs.Trim.{atMarks, trimmed, keptEdges}
 use Rattle.automata.specs.Intersect.{arcOf, accepting, stateOf, starts, candidate, candidates, out, reachedConfigs, delayed, assemble}
-use Rattle.automata.specs.Offer.{Offer, nothing, late, to, successor, isLate, offerTo, offer, stepBy, outUpTo, lateUpTo}
-use Rattle.automata.proofs.ListFacts
+use Rattle.automata.specs.Offer.{nothing, late, to, successor, isLate, offerTo, offer, stepBy, outUpTo, lateUpTo}
 use Rattle.automata.proofs.AppendFacts
 use Rattle.automata.proofs.AppendFacts.{Begins}
 use Rattle.automata.proofs.RoundFacts.{length-sweep}
@@ -122,11 +121,12 @@ module _ {W : Type 0} (A : Automaton W) (ps : List TapePair) (viable : Config �
   unfolding outUpTo
   outUpTo-suc j a c e = AppendFacts.first-values-suc (stepBy A ps viable c) (A .arcs) j e
 
-  -- the same by what the arc offers: one step more, or none
+  -- one arc more that leads to a successor
   pub outUpTo-to : (j : ℕ) (a : Arc W) (c d : Config) → getElem? (A .arcs) j ≡ some a → offer ps viable c a ≡ to d
       → outUpTo A ps viable (suc j) c ≡ outUpTo A ps viable j c ++ (((j, a), d) ∷ [])
   outUpTo-to j a c d e h = outUpTo-suc j a c e ∙ ap (λ o. outUpTo A ps viable j c ++ consMaybe (Option·map (λ d. ((j, a), d)) (successor o)) []) h
 
+  -- one arc more that does not
   pub outUpTo-none : (j : ℕ) (a : Arc W) (c : Config) → getElem? (A .arcs) j ≡ some a → successor (offer ps viable c a) ≡ none
       → outUpTo A ps viable (suc j) c ≡ outUpTo A ps viable j c
   outUpTo-none j a c e h = outUpTo-suc j a c e ∙ ap (λ o. outUpTo A ps viable j c ++ consMaybe (Option·map (λ d. ((j, a), d)) o) []) h
@@ -142,27 +142,30 @@ module _ {W : Type 0} (A : Automaton W) (ps : List TapePair) (viable : Config �
   unfolding outUpTo
   outUpTo-begins j c = rw (out-offers c) (AppendFacts.first-values-begin (stepBy A ps viable c) (A .arcs) j)
 
-  -- the search after the steps by one arc more
+  -- the search after one arc more that leads to a successor
   pub noted-to : (k : ℕ) (s : Search Config (ℕ × Arc W)) (j : ℕ) (a : Arc W) (c d : Config) → getElem? (A .arcs) j ≡ some a → offer ps viable c a ≡ to d
       → noteAll sameConfig k s (outUpTo A ps viable (suc j) c) ≡ note sameConfig k (noteAll sameConfig k s (outUpTo A ps viable j c)) ((j, a), d)
   noted-to k s j a c d e h = ap (noteAll sameConfig k s) (outUpTo-to j a c d e h) ∙ noteAll-snoc sameConfig configs-decided k s (outUpTo A ps viable j c) ((j, a), d)
 
+  -- the search after one arc more that does not
   pub noted-none : (k : ℕ) (s : Search Config (ℕ × Arc W)) (j : ℕ) (a : Arc W) (c : Config) → getElem? (A .arcs) j ≡ some a
       → successor (offer ps viable c a) ≡ none
       → noteAll sameConfig k s (outUpTo A ps viable (suc j) c) ≡ noteAll sameConfig k s (outUpTo A ps viable j c)
   noted-none k s j a c e h = ap (noteAll sameConfig k s) (outUpTo-none j a c e h)
 
-  -- whether a step is too long: by no arc, by one arc more, by all
+  -- no step by no arc is too long
   pub lateUpTo-zero : (c : Config) → lateUpTo A ps viable zero c ≡ false
   unfolding lateUpTo
   lateUpTo-zero c = refl
 
+  -- whether a step is too long, with one arc more
   pub lateUpTo-suc : (j : ℕ) (a : Arc W) (c : Config) → getElem? (A .arcs) j ≡ some a
       → lateUpTo A ps viable (suc j) c ≡ or (lateUpTo A ps viable j c) (isLate (offer ps viable c a))
   unfolding lateUpTo
   lateUpTo-suc j a c e = ap (any (λ a. isLate (offer ps viable c a))) (AppendFacts.take-place (A .arcs) j e)
       ∙ AppendFacts.any-snoc (λ a. isLate (offer ps viable c a)) (take j (A .arcs)) a
 
+  -- and with all arcs
   pub lateUpTo-all : (c : Config)
       → lateUpTo A ps viable (length (A .arcs)) c ≡ any (λ s. tooLong ps (s .1 .leftovers)) (candidates A ps viable c)
   unfolding lateUpTo
@@ -185,10 +188,11 @@ length-coaccessible G finals = rounds (length finals)
     rounds (suc k) = length-sweep G false (mark G) (iterate k (round G false (mark G)) finals) (iterate k (round G false (mark G)) finals) (G .arcs) ∙ rounds k
 
 module _ {W : Type 0} (A : Automaton W) (ps : List TapePair) (viable : Config → Bool) where
-  -- the edges between configurations, and the marks of those on a successful path
+  -- the edges between configurations
   abbrev pub configEdges : List Config → List (Edge (ℕ × Arc W))
   configEdges cs = edges sameConfig (out A ps viable) cs
 
+  -- the marks of the configurations from which an accepting one is reached
   abbrev pub configMarks : List Config → List Bool
   configMarks cs = coaccessible (edgeGraph (configEdges cs)) (map (accepting A) cs)
 

@@ -35,11 +35,12 @@ module _ {L : Type 0} (marks : List Bool) where
       go true = refl
       go false = refl
 
-  -- with one edge more, behind and in front
+  -- with one edge more behind
   pub keptEdges-snoc : (es : List (Edge L)) (x : Edge L)
       → keptEdges marks (es ++ (x ∷ [])) ≡ keptEdges marks es ++ if (bothMarked marks x) (ranked marks x ∷ []) []
   keptEdges-snoc es x = keptEdges-append es (x ∷ []) ∙ ap {B = List (Edge L)} (λ r. keptEdges marks es ++ r) (kept-one x)
 
+  -- with one edge more in front
   pub keptEdges-cons : (x : Edge L) (es : List (Edge L))
       → keptEdges marks (x ∷ es) ≡ if (bothMarked marks x) (ranked marks x ∷ keptEdges marks es) (keptEdges marks es)
   unfolding keptEdges
@@ -133,7 +134,6 @@ module _ {C : Type 0} (same : C → C → Bool) (decided : Decides same) (cs : L
       first true = rw m
       first false = refl
 
--- The edges between the vertices that are kept are the kept ones of all edges, by their new numbers.
 module _ {C L : Type 0} (same : C → C → Bool) (decided : Decides same) (out : C → List (L × C)) where
   -- from the vertices rest, which stand from place n on
   kept-from : (cs : List C) (marks : List Bool) → Distinct cs → (n : ℕ) (rest : List C) → n + length rest ≡ length marks
@@ -165,6 +165,7 @@ module _ {C L : Type 0} (same : C → C → Bool) (decided : Decides same) (out 
           ∙ ih ∙ ap {B = List (Edge L)} (λ r. r ++ keptEdges marks after) (sym (from-unmarked same decided cs marks d n (out c) m))
           ∙ sym (keptEdges-append marks (from cs (n, c)) after)
 
+  -- The edges between the vertices that are kept are the kept ones of all edges, by their new numbers.
   pub kept-edges : (cs : List C) (marks : List Bool) → Distinct cs → length marks ≡ length cs
       → edges same out (atMarks marks cs) ≡ keptEdges marks (edges same out cs)
   unfolding edges

@@ -35,10 +35,11 @@ rank-suc (b ∷ bs) (suc i) = rw (rank-suc bs i) (go b (getD bs i false))
     go false true = refl
     go false false = refl
 
--- the same for a place that is marked, and one that is not
+-- one place more that is marked
 pub rank-marked : (marks : List Bool) (i : ℕ) → getD marks i false ≡ true → rank marks (suc i) ≡ suc (rank marks i)
 rank-marked marks i e = rank-suc marks i ∙ (rw e)
 
+-- one place more that is not marked
 pub rank-unmarked : (marks : List Bool) (i : ℕ) → getD marks i false ≡ false → rank marks (suc i) ≡ rank marks i
 rank-unmarked marks i e = rank-suc marks i ∙ (rw e)
 
@@ -51,7 +52,7 @@ rank-le marks (suc i) = go (getD marks i false) (rank-suc marks i) (rank-le mark
     go true e h = omega arith
     go false e h = omega arith
 
--- no fewer before a later place
+-- no fewer before a place that is m places later
 rank-grows : (marks : List Bool) (m i j : ℕ) → i + m ≡ j → rank marks i ≤ rank marks j
 rank-grows marks zero i j e = let z : i ≡ j = omega arith in rw z (omega arith)
 rank-grows marks (suc m) i j e = go (getD marks i false) (rank-suc marks i) (rank-grows marks m (suc i) j (omega arith))
@@ -60,6 +61,7 @@ rank-grows marks (suc m) i j e = go (getD marks i false) (rank-suc marks i) (ran
     go true e h = omega arith
     go false e h = omega arith
 
+-- no fewer before a later place
 pub rank-monotone : (marks : List Bool) (i j : ℕ) → i ≤ j → rank marks i ≤ rank marks j
 rank-monotone marks i j h = rank-grows marks (j - i) i j (omega arith)
 
@@ -90,11 +92,11 @@ module _ {C : Type 0} where
   atMarks-nil (b ∷ bs) = refl
 
   -- how many they are
-  pub length-atMarks : (marks : List Bool) (cs : List C) → length marks ≡ length cs → length (atMarks marks cs) ≡ rank marks (length cs)
+  pub length-atMarks : (marks : List Bool) (cs : List C) → length (atMarks marks cs) ≡ rank marks (length cs)
   unfolding rank
-  length-atMarks [] cs h = refl
-  length-atMarks (b ∷ bs) [] h = refl
-  length-atMarks (b ∷ bs) (c ∷ cs) h = go b (length-atMarks bs cs (omega arith))
+  length-atMarks [] cs = refl
+  length-atMarks (b ∷ bs) [] = refl
+  length-atMarks (b ∷ bs) (c ∷ cs) = go b (length-atMarks bs cs)
     where
       go : (b : Bool) → length (atMarks bs cs) ≡ rank bs (length cs)
           → length (if b (c ∷ atMarks bs cs) (atMarks bs cs)) ≡ if b (suc (rank bs (length cs))) (rank bs (length cs))

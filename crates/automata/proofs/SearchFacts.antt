@@ -1,4 +1,5 @@
--- Exploration one step at a time comes to the exploration of Explore, and the edges that it notes are the edges between the vertices found.
+-- Exploration one step at a time comes to the exploration of Explore: what each step leaves, what is found when all vertices have been taken up, and
+-- when there are too many.
 use mathlib.Core.Path.{_≡_, refl, sym, _∙_, ap, subst}
 use mathlib.Core.Logic.{inl, inr}
 use mathlib.Core.Bool.{Bool, true, false}
@@ -9,21 +10,20 @@ use native.Mathlib.Omega.{arith}
 use lib.Dec.{ltb}
 use lib.ListN.{length, length-map, length-append, take, getElem?}
 use lib.Seq.{take-all}
-use Rattle.automata.specs.Lists.{if, or, any, concat, _∈_, here, there, numbered, mapMaybe, Decides}
-use Rattle.automata.specs.Explore.{Edge, member, insert, insertAll, indexOf, edgeTo, successors, explore, reached}
-use Rattle.automata.specs.Explore as Explore
+use Rattle.automata.specs.Lists.{if, or, any, Decides}
+use Rattle.automata.specs.Explore.{Edge, member, insert, insertAll, indexOf, successors, explore, reached}
 use Rattle.automata.specs.Search.{Search, note, noteAll, searchFrom, takeUp, searched}
 use Rattle.automata.proofs.ListFacts
 use Rattle.automata.proofs.TestFacts
 use Rattle.automata.proofs.PairwiseFacts
 use Rattle.automata.proofs.AppendFacts
 use Rattle.automata.proofs.AppendFacts.{Begins}
-use Rattle.automata.proofs.Explored.{member-complete, insertAll-new, explore-done, explore-cases, Progress, begin, take-up, reached-explored}
+use Rattle.automata.proofs.Explored.{explore-done, explore-cases, Progress, begin, take-up, reached-explored}
 
 -- ---- insertion and indexes
 
 module _ {C : Type 0} (same : C → C → Bool) where
-  -- inserting leaves what stands there in front
+  -- inserting one vertex leaves what stands there in front
   pub insert-begins : (cs : List C) (c : C) → Begins cs (insert same cs c)
   insert-begins cs c = go (member same c cs)
     where
@@ -31,6 +31,7 @@ module _ {C : Type 0} (same : C → C → Bool) where
       go true = AppendFacts.begins-self cs
       go false = record { rest = c ∷ []; joined = refl }
 
+  -- so does inserting several
   pub insertAll-begins : (cs r : List C) → Begins cs (insertAll same cs r)
   insertAll-begins cs [] = AppendFacts.begins-self cs
   insertAll-begins cs (c ∷ r) = AppendFacts.begins-on (insert-begins cs c) (insertAll-begins (insert same cs c) r)
@@ -137,11 +138,12 @@ module _ {C L : Type 0} (same : C → C → Bool) (decided : Decides same) (out 
   abbrev found : ℕ → List C
   found k = at k .vertices
 
-  -- one vertex more, and none more
+  -- one vertex more is taken up
   pub searched-some : (k : ℕ) (c : C) → getElem? (found k) k ≡ some c → at (suc k) ≡ noteAll same k (at k) (out c)
   unfolding searched takeUp
   searched-some k c e = rw (e, takeUp)
 
+  -- there is none more to take up
   pub searched-none : (k : ℕ) → getElem? (found k) k ≡ none → at (suc k) ≡ at k
   unfolding searched takeUp
   searched-none k e = rw (e, takeUp)
@@ -170,7 +172,7 @@ module _ {C L : Type 0} (same : C → C → Bool) (decided : Decides same) (out 
       let l : length (found (suc j)) ≡ length (found j) = ap (λ (x : Search C L). length (x .vertices)) s in
       searched-stable m (suc j) k (omega arith) (omega arith) ∙ s
 
-  -- what holds when k vertices have been taken up
+  -- taking up one more keeps what holds of the vertices found
   progress-next : (k : ℕ) → Progress out starts k (found k) → Progress out starts (suc k) (found (suc k))
   progress-next k p = searched-cases k (λ s. Progress out starts (suc k) (s .vertices)) all-taken
       (λ c e. rw (noteAll-vertices same decided k (at k) (out c)) (take-up same decided out starts k (found k) c e p))
@@ -186,6 +188,7 @@ module _ {C L : Type 0} (same : C → C → Bool) (decided : Decides same) (out 
             p .taken i c d (omega arith) q m;
       }
 
+  -- what holds when k vertices have been taken up
   pub searched-progress : (k : ℕ) → Progress out starts k (found k)
   unfolding searched searchFrom
   searched-progress zero = begin same decided out starts
