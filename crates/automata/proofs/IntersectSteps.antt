@@ -13,15 +13,13 @@ use Rattle.automata.specs.TapePair.{TapePair}
 use Rattle.automata.specs.Config.{Config, sameConfig, tooLong, follow}
 use Rattle.automata.specs.Explore.{Edge, edges, edgeGraph}
 use Rattle.automata.specs.Search.{Search, note, noteAll}
-use Rattle.automata.specs.Rounds.{iterate, round}
-use Rattle.automata.specs.Graph.{Graph}
-use Rattle.automata.specs.Marks.{mark, coaccessible}
+use Rattle.automata.specs.Marks.{coaccessible}
 use Rattle.automata.specs.Trim.{atMarks, trimmed, keptEdges}
 use Rattle.automata.specs.Intersect.{arcOf, accepting, stateOf, starts, candidate, candidates, out, reachedConfigs, delayed, assemble}
 use Rattle.automata.specs.Offer.{nothing, late, to, successor, isLate, offerTo, offer, stepBy, outUpTo, lateUpTo}
 use Rattle.automata.proofs.AppendFacts
 use Rattle.automata.proofs.AppendFacts.{Begins}
-use Rattle.automata.proofs.RoundFacts.{length-sweep}
+use Rattle.automata.proofs.MarkFacts.{length-coaccessible}
 use Rattle.automata.proofs.Explored.{reached-explored}
 use Rattle.automata.proofs.Configurations.{configs-decided}
 use Rattle.automata.proofs.KeptEdges.{kept-edges}
@@ -178,14 +176,6 @@ module _ {W : Type 0} (A : Automaton W) (ps : List TapePair) (viable : Config �
   delayed-late (c ∷ cs) = rw (lateUpTo-all c) (ap (or (any long (candidates A ps viable c))) (delayed-late cs))
 
 -- ---- the result
-
--- there are as many marks as vertices
-pub length-coaccessible : {E : Type 0} (G : Graph E) (finals : List Bool) → length (coaccessible G finals) ≡ length finals
-length-coaccessible G finals = rounds (length finals)
-  where
-    rounds : (k : ℕ) → length (iterate k (round G false (mark G)) finals) ≡ length finals
-    rounds zero = refl
-    rounds (suc k) = length-sweep G false (mark G) (iterate k (round G false (mark G)) finals) (iterate k (round G false (mark G)) finals) (G .arcs) ∙ rounds k
 
 module _ {W : Type 0} (A : Automaton W) (ps : List TapePair) (viable : Config → Bool) where
   -- the edges between configurations
