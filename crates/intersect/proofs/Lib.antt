@@ -1,0 +1,2 @@
+-- Laws of the build.
+pub mod RoomLaws
