@@ -1,12 +1,12 @@
--- `intersect::room::room_for` meets its contract. Assumes nothing.
-use Rattle.intersect.proofs.RoomLaws.{short-states, short-arcs, short-read, whole}
+-- `workspace::room::room_for` meets its contract. Assumes nothing.
+use Rattle.workspace.proofs.RoomLaws.{short-states, short-arcs, short-read, whole}
 use borrow.Author.Needs.{needs}
-use Rattle.intersect.proofs.room.room_for.Statement.{statement}
-use Rattle.intersect.proofs.room.room_for.Tie as tie
-use Rattle.intersect.proofs.room.room_for.Reads as reads
-use Rattle.intersect.proofs.room.room_for.Lts as lts
-use Rattle.intersect.proofs.room.lesser.Reads as lesser-reads
-use Rattle.intersect.proofs.room.no_room.Reads as no-room-reads
+use Rattle.workspace.proofs.room.room_for.Statement.{statement}
+use Rattle.workspace.proofs.room.room_for.Tie as tie
+use Rattle.workspace.proofs.room.room_for.Reads as reads
+use Rattle.workspace.proofs.room.room_for.Lts as lts
+use Rattle.workspace.proofs.room.lesser.Reads as lesser-reads
+use Rattle.workspace.proofs.room.no_room.Reads as no-room-reads
 
 no-room-requires : tie.Need-no-room-requires
 no-room-requires c κs = search needs

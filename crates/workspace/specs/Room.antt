@@ -5,8 +5,8 @@ use Prim.Native.Nat.{ℕ, _+_, _*_, _≤_}
 use lib.Dec.{leb}
 use Rattle.automata.specs.Space.{Space, stateCap, arcCap}
 use Rattle.automata.specs.Calls.Work.{buildWork}
-use Rattle.intersect.specs.declared.room.Room.{Room}
-use Rattle.intersect.specs.declared.room.RoomAnswer.{RoomAnswer}
+use Rattle.workspace.specs.declared.room.Room.{Room}
+use Rattle.workspace.specs.declared.room.RoomAnswer.{RoomAnswer}
 
 -- the space lent, in states and arcs
 abbrev pub lentSpace : ℕ → ℕ → Space

@@ -2,7 +2,7 @@
 ghost use mathlib.Core.Path.{_≡_};
 ghost use mathlib.Core.Bool.{false};
 ghost use Prim.Native.Nat.{min};
-ghost use Rattle.intersect.specs.Room.{RoomFor};
+ghost use Rattle.workspace.specs.Room.{RoomFor};
 
 // The most configurations and arcs, and where the records of arcs and the closing delays begin.
 pub struct Room {

@@ -6,9 +6,9 @@ use native.Mathlib.Omega.{arith}
 use lib.Dec.{leb}
 use borrow.Author.Tests.{le-leb, lt-leb}
 use Rattle.automata.specs.Calls.Work.{buildWork}
-use Rattle.intersect.specs.Room.{lentSpace, Divides, RoomFor}
-use Rattle.intersect.specs.declared.room.Room.{Room}
-use Rattle.intersect.specs.declared.room.RoomAnswer.{RoomAnswer}
+use Rattle.workspace.specs.Room.{lentSpace, Divides, RoomFor}
+use Rattle.workspace.specs.declared.room.Room.{Room}
+use Rattle.workspace.specs.declared.room.RoomAnswer.{RoomAnswer}
 
 module _ (states arcs read work : ℕ) (r : RoomAnswer) where
   -- too short

@@ -1,2 +1,0 @@
--- Laws of the build.
-pub mod RoomLaws

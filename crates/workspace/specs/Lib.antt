@@ -1,0 +1,2 @@
+-- What the contracts over the work space of a build cite.
+pub mod Room
