@@ -23,5 +23,6 @@ module _ (a b : Judged) (m : Refusal) (e : a ≡ Refused m) where
     pub both-lesser : x < y → refused (refusalNumber m) ≡ forget (beside (judgedAs a) (judgedAs b))
     both-lesser h = rw (e, f) (ap refused (omega arith))
 
+    -- the second where it is no greater
     pub both-other : y ≤ x → refused (refusalNumber n) ≡ forget (beside (judgedAs a) (judgedAs b))
     both-other h = rw (e, f) (ap refused (omega arith))

@@ -1,4 +1,7 @@
 -- Laws that belong to no one function.
+pub mod PartLaws
+pub mod SpliceLaws
+pub mod StoreLaws
 pub mod Laws
 pub mod EndianLaws
 pub mod AnswerLaws

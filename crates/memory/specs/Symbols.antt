@@ -1,0 +1,10 @@
+-- What the number of a symbol by value stands for.
+use mathlib.Core.Option.{Option, none, some}
+use Prim.Native.Nat.{ℕ}
+use Rattle.memory.specs.declared.symbol.SymbolNumber.{SymbolNumber}
+use Rattle.memory.specs.declared.symbol.SymbolNumber.the-variants.{Symbol, NoSymbol}
+
+-- a symbol's number, or none
+abbrev pub symbolAs : SymbolNumber → Option ℕ
+symbolAs (Symbol n) = some n
+symbolAs NoSymbol = none
