@@ -7,3 +7,6 @@ pub mod EndianLaws
 pub mod AnswerLaws
 pub mod RowLaws
 pub mod RecordLaws
+pub mod SymbolLaws
+pub mod SequenceLaws
+pub mod JudgeLaws

@@ -5,7 +5,7 @@ use mathlib.Core.List.{List, [], _∷_, _++_}
 use native.Mathlib.Omega.{arith}
 use native.Mathlib.Numerals.{add-one}
 use lib.ListN.{length, getD, take, drop, length-take, length-drop}
-use lib.Seq.{length-take-le, take-all, take-at, take-length, drop-append-add, drop-drop, drop-at, drop-append-le, take-append-le, getD-drop, getD-take, drop-cons}
+use lib.Seq.{length-take-le, take-all, take-at, take-length, drop-append-add, drop-drop, drop-at, drop-append-le, take-append-le, getD-drop, getD-take, drop-cons, take-add}
 use Rattle.automata.proofs.RecordFacts.{take-drop-take}
 use Rattle.memory.specs.Region.{part}
 
@@ -66,6 +66,11 @@ module _ {A : Type 0} where
   pub part-middle : (a n : ℕ) (p q r : List A) → length p ≡ a → length q ≡ n → part a n (p ++ (q ++ r)) ≡ q
   unfolding part
   part-middle a n p q r e f = ap (take n) (drop-at p (q ++ r) a e) ∙ take-at q r n f
+
+  -- two regions that adjoin are one
+  pub part-add : (a m n : ℕ) (xs : List A) → part a (m + n) xs ≡ part a m xs ++ part (a + m) n xs
+  unfolding part
+  part-add a m n xs = take-add m n (drop a xs) ∙ ap (λ (l : List A). take m (drop a xs) ++ take n l) (drop-drop m a xs)
 
   -- what is asked where the first n elements of an array of m are lent
   pub prefix-length : (n m : ℕ) (xs : List A) → length xs ≡ m → n ≤ m → n ≡ length (take n xs)

@@ -1,6 +1,7 @@
 -- What the number of a symbol by value stands for.
 use mathlib.Core.Option.{Option, none, some}
 use Prim.Native.Nat.{ℕ}
+use Rattle.automata.specs.Symbols.{symbolNumber}
 use Rattle.memory.specs.declared.symbol.SymbolNumber.{SymbolNumber}
 use Rattle.memory.specs.declared.symbol.SymbolNumber.the-variants.{Symbol, NoSymbol}
 
@@ -8,3 +9,11 @@ use Rattle.memory.specs.declared.symbol.SymbolNumber.the-variants.{Symbo
 abbrev pub symbolAs : SymbolNumber → Option ℕ
 symbolAs (Symbol n) = some n
 symbolAs NoSymbol = none
+
+-- the entry of the table for a byte: its symbol number, or 255
+abbrev pub entryOf : Option ℕ → ℕ
+entryOf none = 255
+entryOf (some n) = n
+
+abbrev pub symbolEntry : ℕ → ℕ
+symbolEntry b = entryOf (symbolNumber b)

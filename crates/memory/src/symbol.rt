@@ -1,7 +1,7 @@
 // Symbols: the bytes A to Z and 0 to 9, numbered 0 to 35 in that order.
 ghost use mathlib.Core.Path.{_≡_};
 ghost use Rattle.automata.specs.Symbols.{isSymbol, symbolNumber};
-ghost use Rattle.memory.specs.Symbols.{symbolAs};
+ghost use Rattle.memory.specs.Symbols.{symbolAs, symbolEntry};
 
 // The symbol number of each byte, 255 where it is no symbol.
 const SYMBOL_NUMBERS: [u8; 256] = [
@@ -29,21 +29,27 @@ pub enum SymbolNumber {
     NoSymbol,
 }
 
+// The entry of the table for a byte.
+fn entry(b: u8) -> u8
+    ensures { λ r. ⌜ r ≡ symbolEntry b ⌝ }
+{
+    SYMBOL_NUMBERS[b as usize]
+}
+
 // The symbol number of a byte.
 pub fn symbol_number(b: u8) -> SymbolNumber
     ensures { λ r. ⌜ symbolAs r ≡ symbolNumber b ⌝ }
 {
-    let number = SYMBOL_NUMBERS[b as usize];
+    let number = entry(b);
     if number == 255 {
-        SymbolNumber::NoSymbol
-    } else {
-        SymbolNumber::Symbol(number)
+        return SymbolNumber::NoSymbol;
     }
+    SymbolNumber::Symbol(number)
 }
 
 // Whether a byte is a symbol.
 pub fn is_symbol(b: u8) -> bool
     ensures { λ r. ⌜ r ≡ isSymbol b ⌝ }
 {
-    SYMBOL_NUMBERS[b as usize] != 255
+    entry(b) != 255
 }

@@ -1,3 +1,6 @@
+-- `memory::record::load_content` meets its contract. Assumes nothing.
+use denote.Ref.{now}
+use Rattle.memory.proofs.RecordLaws.{content-at}
 use borrow.Author.Needs.{needs}
 use Rattle.memory.proofs.record.load_content.Statement.{statement}
 use Rattle.memory.proofs.record.load_content.Tie as tie
@@ -6,21 +9,17 @@ use Rattle.memory.proofs.record.load_content.Lts as lts
 use Rattle.memory.proofs.bytes.get32.Reads as get32-reads
 use Rattle.memory.proofs.record.load_labels.Reads as load-labels-reads
 
--- src/record.rt:147:9
 get32-requires : tie.Need-get32-requires
 get32-requires c κs = search needs
 
--- src/record.rt:148:37
 add-load-labels : tie.Need-add-load-labels
 add-load-labels c = search needs
 
--- src/record.rt:148:9
 load-labels-requires : tie.Need-load-labels-requires
 load-labels-requires c κs = search needs
 
--- src/record.rt:143:1
 returns : tie.Need-returns
-returns c = ?
+returns c = let s = c .before .before .before in content-at (s .args .at) (now (s .args .bytes)) _ _ (c .before .get32 .ensures) (c .load-labels .ensures)
 
 pub load-content-spec : {M : Type 1} → statement M
 load-content-spec =

@@ -1,3 +1,9 @@
+-- `memory::record::store_label` meets its contract. Assumes nothing.
+use denote.Ref.{now}
+use native.Mathlib.Omega.{arith}
+use mathlib.Core.Path.{_≡_, refl, sym, ap, _∙_}
+use lib.ListN.{length, length-set}
+use Rattle.memory.proofs.RecordLaws.{label-stored}
 use borrow.Author.Needs.{needs}
 use Rattle.memory.proofs.record.store_label.Statement.{statement}
 use Rattle.memory.proofs.record.store_label.Tie as tie
@@ -5,29 +11,23 @@ use Rattle.memory.proofs.record.store_label.Reads as reads
 use Rattle.memory.proofs.record.store_label.Lts as lts
 use Rattle.memory.proofs.bytes.copy_into.Reads as copy-into-reads
 
--- src/record.rt:172:5
 slice-write-bytes : tie.Need-slice-write-bytes
 slice-write-bytes c = search needs
 
--- src/record.rt:174:22
 add-copy-into : tie.Need-add-copy-into
 add-copy-into c = search needs
 
--- src/record.rt:174:30
 slice-aggregate-copy-into : tie.Need-slice-aggregate-copy-into
 slice-aggregate-copy-into c = search needs
 
--- src/record.rt:174:5
 copy-into-requires : tie.Need-copy-into-requires
-copy-into-requires c κs = ?
+copy-into-requires c κs = let s = c .before .before .before .before in let l : length (s .args .l .symbols) ≡ 8 = search needs in simp length-set (omega arith)
 
--- src/record.rt:168:1
 same-length : tie.Need-same-length
-same-length c = ?
+same-length c = c .before .before .copy-into .kept .0 ∙ simp length-set
 
--- src/record.rt:168:1
 returns : tie.Need-returns
-returns c = ?
+returns c = let s = c .before .before .before .before .before .before .before in label-stored (s .args .at) (s .args .l) (now (s .args .bytes)) _ (s .pre) (search needs) (c .before .before .copy-into .ensures)
 
 pub store-label-spec : {M : Type 1} → statement M
 store-label-spec =
