@@ -198,9 +198,12 @@ judged-tapes tapes x j k r z l h e f g p =
 
 -- ---- an arc
 
--- a number that passes a test
+-- a number of k bytes that passes a test
+abbrev numberRead : ℕ → (ℕ → Bool) → ℕ → List ℕ → Answer ℕ
+numberRead k test n y = little k .read y >>= λ q. check (test q) n q
+
 judged-number : (k a : ℕ) (xs : List ℕ) (test : ℕ → Bool) (n v : ℕ) (j : Answer (Unit {0})) → a + k ≤ length xs → ((i : ℕ) → getD xs i 0 < 256) → v ≡ le (part a k xs) → j ≡ require (test v) n
-    → j ≡ forget (little k .read (part a k xs) >>= λ q. check (test q) n q)
+    → j ≡ forget (numberRead k test n (part a k xs))
 judged-number k a xs test n v j h bytes e f = f ∙ rw (little-part k a xs h bytes, e) (forget-check (test (le (part a k xs))) n (le (part a k xs)))
 
 -- source, target, weight and labels side by side
@@ -208,12 +211,30 @@ module _ (tapes states : ℕ) (x : List ℕ) (len : length x ≡ 80) (bytes : (i
     (ps : s ≡ le (part 0 2 x)) (pt : t ≡ le (part 2 2 x)) (pw : w ≡ le (part 4 4 x)) (js jt jw jl inner middle r : Answer (Unit {0}))
     (qs : js ≡ require (ltb s states) state) (qt : jt ≡ require (ltb t states) state) (qw : jw ≡ require (leb w 999999999) size)
     (ql : jl ≡ forget (readLabels tapes (take (80 - 8) (drop 8 x)))) where
-  pub judged-arc : inner ≡ forget (beside jw jl) → middle ≡ forget (beside jt inner) → r ≡ forget (beside js middle) → r ≡ forget (readArc tapes states x)
-  unfolding readArc readLabels part
-  judged-arc e f g =
+  -- what the four are side by side, for weight and labels at lists of bytes
+  abbrev fieldsRead : List ℕ → List ℕ → Answer (ℕ × (ℕ × (ℕ × List (List ℕ))))
+  fieldsRead y z =
+      beside (numberRead 2 (λ q. ltb q states) state (take 2 x))
+      (beside (numberRead 2 (λ q. ltb q states) state (take 2 (drop 2 x))) (beside (numberRead 4 (λ q. leb q 999999999) size (take 4 y)) (readLabels tapes z)))
+
+  fields-judged : inner ≡ forget (beside jw jl) → middle ≡ forget (beside jt inner) → r ≡ forget (beside js middle) → r ≡ forget (fieldsRead (drop 4 x) (drop 8 x))
+  unfolding part
+  fields-judged e f g =
       let d : length (drop 8 x) ≤ 72 = simp length-drop (omega arith) in
-      let fs = judged-number 2 0 x (λ q. ltb q states) state s js (omega arith) bytes ps qs in
-      let ft = judged-number 2 2 x (λ q. ltb q states) state t jt (omega arith) bytes pt qt in
-      let fw = judged-number 4 4 x (λ q. leb q 999999999) size w jw (omega arith) bytes pw qw in
-      let fl : jl ≡ forget (readLabels tapes (drop 8 x)) = ql ∙ ap (λ (y : List ℕ). forget (readLabels tapes y)) (take-all 72 (drop 8 x) d) in
-      ?
+      let S = numberRead 2 (λ q. ltb q states) state (take 2 x) in
+      let T = numberRead 2 (λ q. ltb q states) state (take 2 (drop 2 x)) in
+      let W = numberRead 4 (λ q. leb q 999999999) size (take 4 (drop 4 x)) in
+      let L = readLabels tapes (drop 8 x) in
+      let fs : js ≡ forget S = judged-number 2 0 x (λ q. ltb q states) state s js (omega arith) bytes ps qs in
+      let ft : jt ≡ forget T = judged-number 2 2 x (λ q. ltb q states) state t jt (omega arith) bytes pt qt in
+      let fw : jw ≡ forget W = judged-number 4 4 x (λ q. leb q 999999999) size w jw (omega arith) bytes pw qw in
+      let fl : jl ≡ forget L = ql ∙ ap (λ (y : List ℕ). forget (readLabels tapes y)) (take-all 72 (drop 8 x) d) in
+      both-judged js middle r S (beside T (beside W L)) fs (both-judged jt inner middle T (beside W L) ft (both-judged jw jl inner W L fw fl e) f) g
+
+  -- the record of an arc
+  pub judged-arc : inner ≡ forget (beside jw jl) → middle ≡ forget (beside jt inner) → r ≡ forget (beside js middle) → r ≡ forget (readArc tapes states x)
+  unfolding readArc readLabels
+  judged-arc e f g =
+      fields-judged e f g
+      ∙ ap₂ (λ (y z : List ℕ). forget (fieldsRead y z)) (sym (drop-drop 2 2 x)) (sym (ap (drop 4) (drop-drop 2 2 x) ∙ drop-drop 4 4 x))
+      ∙ sym (forget-map (fieldsRead (drop 2 (drop 2 x)) (drop 4 (drop 2 (drop 2 x)))) _)

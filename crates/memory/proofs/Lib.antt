@@ -10,3 +10,4 @@ pub mod RecordLaws
 pub mod SymbolLaws
 pub mod SequenceLaws
 pub mod JudgeLaws
+pub mod TableLaws

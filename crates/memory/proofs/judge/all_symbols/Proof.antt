@@ -1,3 +1,13 @@
+-- `memory::judge::all_symbols` meets its contract. Assumes nothing.
+use mathlib.Core.Path.{_≡_, refl, sym, ap, _∙_}
+use native.Mathlib.Omega.{arith}
+use denote.Ref.{now}
+use Prim.Native.Nat.{_+_, _-_, _*_, _≤_}
+use lib.ListN.{length, drop}
+use borrow.Author.Tests.{not-true, not-false}
+use Rattle.automata.specs.Lists.{all}
+use Rattle.automata.specs.Symbols.{isSymbol}
+use Rattle.memory.proofs.JudgeLaws.{all-stop, all-turn, all-end}
 use borrow.Author.Needs.{needs}
 use Rattle.memory.proofs.judge.all_symbols.Statement.{statement}
 use Rattle.memory.proofs.judge.all_symbols.Tie as tie
@@ -6,42 +16,34 @@ use Rattle.memory.proofs.judge.all_symbols.Lts as lts
 use Rattle.memory.proofs.symbol.is_symbol.Reads as is-symbol-reads
 
 abbrev Inv-loop : tie.InvT-loop
-Inv-loop bytes i₀ i-end i = ?
+Inv-loop bytes i₀ i-end i = (i ≤ length bytes) × (i-end ≡ length bytes) × (all isSymbol (drop i bytes) ≡ all isSymbol bytes)
 
 abbrev μ-loop : tie.MeasureT-loop
-μ-loop bytes i₀ i-end i = ?
+μ-loop bytes i₀ i-end i = i-end - i
 
--- src/judge.rt:61:5
 loop-holds : tie.Need-loop-holds Inv-loop μ-loop
-loop-holds c = search needs
+loop-holds c = (search needs, search needs, refl)
 
--- src/judge.rt:62:23
 shared-slice-read-is-symbol : tie.Need-shared-slice-read-is-symbol Inv-loop μ-loop
 shared-slice-read-is-symbol c = search needs
 
--- src/judge.rt:62:13
 is-symbol-requires : tie.Need-is-symbol-requires Inv-loop μ-loop
 is-symbol-requires c κs = search needs
 
--- src/judge.rt:63:13
 returns : tie.Need-returns Inv-loop μ-loop
-returns c = search needs
+returns c = let l = c .before .before .before .before .loop in all-stop isSymbol _ (l .i) (search needs) (sym (c .before .is-symbol .ensures) ∙ not-true _ (c .if1 .taken)) ∙ l .inv .2
 
--- src/judge.rt:61:9
 add-i : tie.Need-add-i Inv-loop μ-loop
 add-i c = search needs
 
--- src/judge.rt:61:5
 loop-less : tie.Need-loop-less Inv-loop μ-loop
 loop-less c = search needs
 
--- src/judge.rt:61:5
 loop-again : tie.Need-loop-again Inv-loop μ-loop
-loop-again c = search needs
+loop-again c = let l = c .before .before .before .before .loop in (search needs, search needs, all-turn isSymbol _ (l .i) (search needs) (sym (c .before .is-symbol .ensures) ∙ not-false _ (c .if1 .left)) ∙ l .inv .2)
 
--- src/judge.rt:58:1
 returns-2 : tie.Need-returns-2 Inv-loop μ-loop
-returns-2 c = search needs
+returns-2 c = let l = c .before .loop in all-end isSymbol _ (l .i) (omega arith) ∙ l .inv .2
 
 pub all-symbols-spec : {M : Type 1} → statement M
 all-symbols-spec =

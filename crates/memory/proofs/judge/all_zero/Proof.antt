@@ -1,3 +1,13 @@
+-- `memory::judge::all_zero` meets its contract. Assumes nothing.
+use mathlib.Core.Path.{_≡_, refl, sym, ap, _∙_}
+use native.Mathlib.Omega.{arith}
+use denote.Ref.{now}
+use Prim.Native.Nat.{_+_, _-_, _*_, _≤_}
+use lib.ListN.{length, drop}
+use borrow.Author.Tests.{eq-eqb, ne-eqb}
+use Rattle.automata.specs.Lists.{all}
+use Rattle.automata.specs.Memory.{isZero}
+use Rattle.memory.proofs.JudgeLaws.{all-stop, all-turn, all-end}
 use borrow.Author.Needs.{needs}
 use Rattle.memory.proofs.judge.all_zero.Statement.{statement}
 use Rattle.memory.proofs.judge.all_zero.Tie as tie
@@ -5,38 +15,31 @@ use Rattle.memory.proofs.judge.all_zero.Reads as reads
 use Rattle.memory.proofs.judge.all_zero.Lts as lts
 
 abbrev Inv-loop : tie.InvT-loop
-Inv-loop bytes i₀ i-end i = ?
+Inv-loop bytes i₀ i-end i = (i ≤ length bytes) × (i-end ≡ length bytes) × (all isZero (drop i bytes) ≡ all isZero bytes)
 
 abbrev μ-loop : tie.MeasureT-loop
-μ-loop bytes i₀ i-end i = ?
+μ-loop bytes i₀ i-end i = i-end - i
 
--- src/judge.rt:73:5
 loop-holds : tie.Need-loop-holds Inv-loop μ-loop
-loop-holds c = search needs
+loop-holds c = (search needs, search needs, refl)
 
--- src/judge.rt:74:12
 shared-slice-read-if1 : tie.Need-shared-slice-read-if1 Inv-loop μ-loop
 shared-slice-read-if1 c = search needs
 
--- src/judge.rt:75:13
 returns : tie.Need-returns Inv-loop μ-loop
-returns c = search needs
+returns c = let l = c .before .before .before .loop in all-stop isZero _ (l .i) (search needs) (ne-eqb _ 0 (c .if1 .taken)) ∙ l .inv .2
 
--- src/judge.rt:73:9
 add-i : tie.Need-add-i Inv-loop μ-loop
 add-i c = search needs
 
--- src/judge.rt:73:5
 loop-less : tie.Need-loop-less Inv-loop μ-loop
 loop-less c = search needs
 
--- src/judge.rt:73:5
 loop-again : tie.Need-loop-again Inv-loop μ-loop
-loop-again c = search needs
+loop-again c = let l = c .before .before .before .loop in (search needs, search needs, all-turn isZero _ (l .i) (search needs) (eq-eqb _ 0 (c .if1 .left)) ∙ l .inv .2)
 
--- src/judge.rt:70:1
 returns-2 : tie.Need-returns-2 Inv-loop μ-loop
-returns-2 c = search needs
+returns-2 c = let l = c .before .loop in all-end isZero _ (l .i) (omega arith) ∙ l .inv .2
 
 pub all-zero-spec : {M : Type 1} → statement M
 all-zero-spec =

@@ -1,3 +1,7 @@
+-- `memory::judge::judge_label` meets its contract. Assumes nothing.
+use denote.Ref.{now}
+use native.Mathlib.Omega.{arith}
+use Rattle.memory.proofs.JudgeLaws.{label-symbols, label-padding, label-length}
 use borrow.Author.Needs.{needs}
 use Rattle.memory.proofs.judge.judge_label.Statement.{statement}
 use Rattle.memory.proofs.judge.judge_label.Tie as tie
@@ -8,65 +12,50 @@ use Rattle.memory.proofs.judge.all_zero.Reads as all-zero-reads
 use Rattle.memory.proofs.judge.demand.Reads as demand-reads
 use Rattle.memory.proofs.judge.within.Reads as within-reads
 
--- src/judge.rt:96:15
 shared-slice-read-len : tie.Need-shared-slice-read-len
 shared-slice-read-len c = search needs
 
--- src/judge.rt:97:19
 within-requires : tie.Need-within-requires
 within-requires c κs = search needs
 
--- src/judge.rt:97:15
 add-end : tie.Need-add-end
 add-end c = search needs
 
--- src/judge.rt:98:21
 sub-all-symbols : tie.Need-sub-all-symbols
 sub-all-symbols c = search needs
 
--- src/judge.rt:98:21
 part-all-symbols-start : tie.Need-part-all-symbols-start
 part-all-symbols-start c = search needs
 
--- src/judge.rt:98:21
 part-all-symbols-end : tie.Need-part-all-symbols-end
 part-all-symbols-end c = search needs
 
--- src/judge.rt:98:9
 all-symbols-requires : tie.Need-all-symbols-requires
 all-symbols-requires c κs = search needs
 
--- src/judge.rt:99:9
 returns : tie.Need-returns
-returns c = ?
+returns c = let s = c .before .before .before .before .before .before in label-symbols (now (s .args .label)) (s .pre) _ (c .before .before .before .within .ensures) _ (c .before .all-symbols .ensures) (c .if1 .taken)
 
--- src/judge.rt:101:18
 sub-all-zero : tie.Need-sub-all-zero
 sub-all-zero c = search needs
 
--- src/judge.rt:101:18
 part-all-zero-start : tie.Need-part-all-zero-start
 part-all-zero-start c = search needs
 
--- src/judge.rt:101:18
 part-all-zero-end : tie.Need-part-all-zero-end
 part-all-zero-end c = search needs
 
--- src/judge.rt:101:9
 all-zero-requires : tie.Need-all-zero-requires
 all-zero-requires c κs = search needs
 
--- src/judge.rt:102:9
 returns-2 : tie.Need-returns-2
-returns-2 c = ?
+returns-2 c = let s = c .before .before .before .before .before .before .before .before .before in label-padding (now (s .args .label)) (s .pre) _ (c .before .before .before .before .before .before .within .ensures) _ (c .before .before .before .before .all-symbols .ensures) _ (c .before .all-zero .ensures) (c .before .before .before .if1 .left) (c .if2 .taken)
 
--- src/judge.rt:104:5
 demand-requires : tie.Need-demand-requires
 demand-requires c κs = search needs
 
--- src/judge.rt:92:1
 returns-3 : tie.Need-returns-3
-returns-3 c = ?
+returns-3 c = let s = c .before .before .before .before .before .before .before .before .before .before in label-length (now (s .args .label)) (s .pre) _ (c .before .before .before .before .before .before .before .within .ensures) _ (c .before .before .before .before .before .all-symbols .ensures) _ (c .before .before .all-zero .ensures) (c .before .before .before .before .if1 .left) (c .before .if2 .left) _ (c .demand .ensures)
 
 pub judge-label-spec : {M : Type 1} → statement M
 judge-label-spec =

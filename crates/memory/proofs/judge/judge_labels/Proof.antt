@@ -1,3 +1,13 @@
+-- `memory::judge::judge_labels` meets its contract. Assumes nothing.
+use mathlib.Core.Path.{_≡_, refl, sym, ap, _∙_}
+use native.Mathlib.Omega.{arith}
+use denote.Ref.{now}
+use Prim.Native.Nat.{_+_, _-_, _*_, _≤_}
+use lib.ListN.{length, drop}
+use Rattle.automata.specs.Answer.{beside, forget}
+use Rattle.memory.specs.Answers.{judgedAs}
+use Rattle.memory.specs.Judging.{labelsRead}
+use Rattle.memory.proofs.JudgeLaws.{labels-start, labels-turn, labels-end}
 use borrow.Author.Needs.{needs}
 use Rattle.memory.proofs.judge.judge_labels.Statement.{statement}
 use Rattle.memory.proofs.judge.judge_labels.Tie as tie
@@ -7,58 +17,46 @@ use Rattle.memory.proofs.answer.both.Reads as both-reads
 use Rattle.memory.proofs.judge.judge_label.Reads as judge-label-reads
 
 abbrev Inv-loop : tie.InvT-loop
-Inv-loop labels tapes judged₀ left₀ at₀ judged left at = ?
+Inv-loop labels tapes judged₀ left₀ at₀ judged left at = (at + left * 9 ≡ length labels) × (forget (beside (judgedAs judged) (labelsRead left (drop at labels))) ≡ forget (labelsRead tapes labels))
 
 abbrev μ-loop : tie.MeasureT-loop
-μ-loop labels tapes judged₀ left₀ at₀ judged left at = ?
+μ-loop labels tapes judged₀ left₀ at₀ judged left at = left
 
--- src/judge.rt:115:5
 loop-holds : tie.Need-loop-holds Inv-loop μ-loop
-loop-holds c = search needs
+loop-holds c = (search needs, labels-start _ _)
 
--- src/judge.rt:116:55
 add-judge-label : tie.Need-add-judge-label Inv-loop μ-loop
 add-judge-label c = search needs
 
--- src/judge.rt:116:43
 sub-judge-label : tie.Need-sub-judge-label Inv-loop μ-loop
 sub-judge-label c = search needs
 
--- src/judge.rt:116:43
 part-judge-label-start : tie.Need-part-judge-label-start Inv-loop μ-loop
 part-judge-label-start c = search needs
 
--- src/judge.rt:116:43
 part-judge-label-end : tie.Need-part-judge-label-end Inv-loop μ-loop
 part-judge-label-end c = search needs
 
--- src/judge.rt:116:31
 judge-label-requires : tie.Need-judge-label-requires Inv-loop μ-loop
 judge-label-requires c κs = search needs
 
--- src/judge.rt:116:9
 both-requires : tie.Need-both-requires Inv-loop μ-loop
 both-requires c κs = search needs
 
--- src/judge.rt:117:9
 sub-left : tie.Need-sub-left Inv-loop μ-loop
 sub-left c = search needs
 
--- src/judge.rt:118:9
 add-at : tie.Need-add-at Inv-loop μ-loop
 add-at c = search needs
 
--- src/judge.rt:115:5
 loop-less : tie.Need-loop-less Inv-loop μ-loop
 loop-less c = search needs
 
--- src/judge.rt:115:5
 loop-again : tie.Need-loop-again Inv-loop μ-loop
-loop-again c = search needs
+loop-again c = let l = c .before .before .before .before .loop in (omega arith, labels-turn _ (l .at) (l .left) (l .judged) (c .before .judge-label .result) (c .both .result) (c .before .before .before .loop-test .taken) (c .before .judge-label .ensures) (c .both .ensures) ∙ l .inv .1)
 
--- src/judge.rt:108:1
 returns : tie.Need-returns Inv-loop μ-loop
-returns c = search needs
+returns c = let l = c .before .loop in labels-end _ (l .at) (l .left) (l .judged) (omega arith) ∙ l .inv .1
 
 pub judge-labels-spec : {M : Type 1} → statement M
 judge-labels-spec =

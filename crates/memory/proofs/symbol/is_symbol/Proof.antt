@@ -1,3 +1,5 @@
+-- `memory::symbol::is_symbol` meets its contract. Assumes nothing.
+use Rattle.memory.proofs.SymbolLaws.{symbol-test}
 use borrow.Author.Needs.{needs}
 use Rattle.memory.proofs.symbol.is_symbol.Statement.{statement}
 use Rattle.memory.proofs.symbol.is_symbol.Tie as tie
@@ -5,13 +7,11 @@ use Rattle.memory.proofs.symbol.is_symbol.Reads as reads
 use Rattle.memory.proofs.symbol.is_symbol.Lts as lts
 use Rattle.memory.proofs.symbol.entry.Reads as entry-reads
 
--- src/symbol.rt:54:5
 entry-requires : tie.Need-entry-requires
 entry-requires c κs = search needs
 
--- src/symbol.rt:51:1
 returns : tie.Need-returns
-returns c = ?
+returns c = symbol-test (c .before .args .b) _ (c .entry .ensures)
 
 pub is-symbol-spec : {M : Type 1} → statement M
 is-symbol-spec = tie.close (tie.spec entry-requires returns)
