@@ -11,3 +11,4 @@ pub mod SymbolLaws
 pub mod SequenceLaws
 pub mod JudgeLaws
 pub mod TableLaws
+pub mod LoadedLaws

@@ -1,3 +1,6 @@
+-- `memory::judge::judge_tapes` meets its contract. Assumes nothing.
+use denote.Ref.{now}
+use Rattle.memory.proofs.JudgeLaws.{judged-tapes}
 use borrow.Author.Needs.{needs}
 use Rattle.memory.proofs.judge.judge_tapes.Statement.{statement}
 use Rattle.memory.proofs.judge.judge_tapes.Tie as tie
@@ -8,53 +11,41 @@ use Rattle.memory.proofs.judge.all_zero.Reads as all-zero-reads
 use Rattle.memory.proofs.judge.demand.Reads as demand-reads
 use Rattle.memory.proofs.judge.judge_labels.Reads as judge-labels-reads
 
--- src/judge.rt:128:15
 mul-end : tie.Need-mul-end
 mul-end c = search needs
 
--- src/judge.rt:129:29
 sub-judge-labels : tie.Need-sub-judge-labels
 sub-judge-labels c = search needs
 
--- src/judge.rt:129:29
 part-judge-labels-start : tie.Need-part-judge-labels-start
 part-judge-labels-start c = search needs
 
--- src/judge.rt:129:29
 part-judge-labels-end : tie.Need-part-judge-labels-end
 part-judge-labels-end c = search needs
 
--- src/judge.rt:129:9
 judge-labels-requires : tie.Need-judge-labels-requires
 judge-labels-requires c κs = search needs
 
--- src/judge.rt:130:27
 sub-all-zero : tie.Need-sub-all-zero
 sub-all-zero c = search needs
 
--- src/judge.rt:130:27
 part-all-zero-start : tie.Need-part-all-zero-start
 part-all-zero-start c = search needs
 
--- src/judge.rt:130:27
 part-all-zero-end : tie.Need-part-all-zero-end
 part-all-zero-end c = search needs
 
--- src/judge.rt:130:9
 all-zero-requires : tie.Need-all-zero-requires
 all-zero-requires c κs = search needs
 
--- src/judge.rt:131:16
 demand-requires : tie.Need-demand-requires
 demand-requires c κs = search needs
 
--- src/judge.rt:131:5
 both-requires : tie.Need-both-requires
 both-requires c κs = search needs
 
--- src/judge.rt:124:1
 returns : tie.Need-returns
-returns c = ?
+returns c = let s = c .before .before .before .before .before .before .before in judged-tapes (s .args .tapes) (now (s .args .labels)) _ _ _ _ (s .pre .0) (s .pre .1) (c .before .before .before .before .judge-labels .ensures) (c .before .before .all-zero .ensures) (c .before .demand .ensures) (c .both .ensures)
 
 pub judge-tapes-spec : {M : Type 1} → statement M
 judge-tapes-spec =
