@@ -12,3 +12,5 @@ pub mod SequenceLaws
 pub mod JudgeLaws
 pub mod TableLaws
 pub mod LoadedLaws
+pub mod EncodedLaws
+pub mod SoundLaws
