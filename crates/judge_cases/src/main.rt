@@ -1,38 +1,13 @@
 // Judges tables in memory, one of each kind of fault, and prints a line for each: the number of the case and of the answer, 0 where
 // the table is accepted. What is expected, worked out from document 01, stands beside each case.
-use memory::answer::refusal_number;
+mod sample;
+
 use memory::answer::Counts;
 use memory::answer::Judged;
+use memory::answer::refusal_number;
 use memory::judge::judge;
-
-// Two states: initial weight 5 and no final one; no initial one and final weight 999,999,999. Behind them stand bytes that are no part of the table.
-const STATES: [u8; 30] = [
-    1, 5, 0, 0, 0, 0, 0, 0, 0, 0,
-    0, 0, 0, 0, 0, 1, 255, 201, 154, 59,
-    255, 255, 255, 255, 255, 255, 255, 255, 255, 255,
-];
-
-// Two arcs on two tapes: 0 to 1 with weight 7 and the labels AZ and none; 1 to 1 with weight 0 and the labels ABCDEF09 and 9. Behind
-// them stand bytes that are no part of the table.
-const ARCS: [u8; 170] = [
-    0, 0, 1, 0, 7, 0, 0, 0, 2, 65,
-    90, 0, 0, 0, 0, 0, 0, 0, 0, 0,
-    0, 0, 0, 0, 0, 0, 0, 0, 0, 0,
-    0, 0, 0, 0, 0, 0, 0, 0, 0, 0,
-    0, 0, 0, 0, 0, 0, 0, 0, 0, 0,
-    0, 0, 0, 0, 0, 0, 0, 0, 0, 0,
-    0, 0, 0, 0, 0, 0, 0, 0, 0, 0,
-    0, 0, 0, 0, 0, 0, 0, 0, 0, 0,
-    1, 0, 1, 0, 0, 0, 0, 0, 8, 65,
-    66, 67, 68, 69, 70, 48, 57, 1, 57, 0,
-    0, 0, 0, 0, 0, 0, 0, 0, 0, 0,
-    0, 0, 0, 0, 0, 0, 0, 0, 0, 0,
-    0, 0, 0, 0, 0, 0, 0, 0, 0, 0,
-    0, 0, 0, 0, 0, 0, 0, 0, 0, 0,
-    0, 0, 0, 0, 0, 0, 0, 0, 0, 0,
-    0, 0, 0, 0, 0, 0, 0, 0, 0, 0,
-    255, 255, 255, 255, 255, 255, 255, 255, 255, 255,
-];
+use sample::changed_arcs;
+use sample::changed_states;
 
 // The number of a judgement: 0 where there is no refusal.
 fn number_of(judged: Judged) -> u8 {
@@ -57,30 +32,6 @@ fn report(case: u64, counts: Counts, states: &[u8], n: usize, arcs: &[u8], m: us
     io::write_all(1, &[b'\n']);
 }
 
-// The states with two bytes changed; a place past them changes nothing.
-fn changed_states(a: usize, x: u8, b: usize, y: u8) -> [u8; 30] {
-    let mut states = STATES;
-    if a < 30 {
-        states[a] = x;
-    }
-    if b < 30 {
-        states[b] = y;
-    }
-    states
-}
-
-// The same of the arcs.
-fn changed_arcs(a: usize, x: u8, b: usize, y: u8) -> [u8; 170] {
-    let mut arcs = ARCS;
-    if a < 170 {
-        arcs[a] = x;
-    }
-    if b < 170 {
-        arcs[b] = y;
-    }
-    arcs
-}
-
 // The counts of the table.
 fn counts() -> Counts {
     Counts {
@@ -92,20 +43,14 @@ fn counts() -> Counts {
 
 // The table with other counts, of so many bytes of states and of arcs.
 fn count_case(case: u64, tapes: usize, states: usize, arcs: usize, n: usize, m: usize) {
-    let counted = Counts { tapes, states, arcs };
-    report(case, counted, &STATES, n, &ARCS, m);
-}
-
-// The table with two bytes of its states changed.
-fn state_case(case: u64, a: usize, x: u8, b: usize, y: u8) {
-    let states = changed_states(a, x, b, y);
-    report(case, counts(), &states, 30, &ARCS, 170);
-}
-
-// The table with two bytes of its arcs changed.
-fn arc_case(case: u64, a: usize, x: u8, b: usize, y: u8) {
-    let arcs = changed_arcs(a, x, b, y);
-    report(case, counts(), &STATES, 30, &arcs, 170);
+    let counted = Counts {
+        tapes,
+        states,
+        arcs,
+    };
+    let state_bytes = changed_states(30, 0, 30, 0);
+    let arc_bytes = changed_arcs(170, 0, 170, 0);
+    report(case, counted, &state_bytes, n, &arc_bytes, m);
 }
 
 // So many bytes of each, with a byte of the states and one of the arcs changed.
@@ -113,6 +58,20 @@ fn mixed_case(case: u64, n: usize, m: usize, a: usize, x: u8, b: usize, y: u8) {
     let states = changed_states(a, x, a, x);
     let arcs = changed_arcs(b, y, b, y);
     report(case, counts(), &states, n, &arcs, m);
+}
+
+// The table with two bytes of its states changed.
+fn state_case(case: u64, a: usize, x: u8, b: usize, y: u8) {
+    let states = changed_states(a, x, b, y);
+    let arcs = changed_arcs(170, 0, 170, 0);
+    report(case, counts(), &states, 30, &arcs, 170);
+}
+
+// The table with two bytes of its arcs changed.
+fn arc_case(case: u64, a: usize, x: u8, b: usize, y: u8) {
+    let states = changed_states(30, 0, 30, 0);
+    let arcs = changed_arcs(a, x, b, y);
+    report(case, counts(), &states, 30, &arcs, 170);
 }
 
 // The counts of a table, and bytes lent beyond its records.
@@ -136,7 +95,14 @@ fn count_cases() {
     // 3: arcs: the same
     count_case(9, 2, 2, 18446744073709551615, 30, 170);
     // 3: all three
-    count_case(10, 18446744073709551615, 18446744073709551615, 18446744073709551615, 30, 170);
+    count_case(
+        10,
+        18446744073709551615,
+        18446744073709551615,
+        18446744073709551615,
+        30,
+        170,
+    );
     // 3: no tape and no bytes: counts are judged before any record
     count_case(11, 0, 2, 2, 0, 0);
     // 0: eight tapes: the other six have empty labels

@@ -1,12 +1,12 @@
 -- Laws of the judgement of a record: what the format of each part says of the bytes that the code looks at.
 use mathlib.Core.Path.{_≡_, refl, sym, ap, ap₂, _∙_}
 use mathlib.Core.Bool.{Bool, true, false, not}
-use mathlib.Core.List.{List, [], _∷_, _++_}
+use mathlib.Core.List.{List, [], _∷_}
 use Prim.Native.Nat.{ℕ, zero, suc, _+_, _-_, _*_, _≤_, _<_, min}
 use native.Mathlib.Omega.{arith}
 use native.Mathlib.Numerals.{add-one}
 use lib.Dec.{leb, ltb, eqb}
-use lib.ListN.{length, take, drop, getD, replicate, drop-of-length-le, length-drop, length-take}
+use lib.ListN.{length, take, drop, getD, drop-of-length-le, length-drop, length-take}
 use lib.Seq.{take-all, take-take, drop-cons, drop-drop}
 use borrow.Author.Tests.{leb-true, leb-false, lt-ltb, not-true, not-false}
 use Rattle.automata.specs.Lists.{and, all, sameList}
@@ -15,7 +15,7 @@ use Rattle.automata.specs.Answer.{_>>=_, Answer, ok, refused, check, require, b
 use Rattle.automata.specs.Refusal.{form, size, state}
 use Rattle.automata.specs.Format.{place, readCopies}
 use Rattle.automata.specs.LittleEndian.{little}
-use Rattle.automata.specs.Memory.{flagged, isZero, zeros, toLabel}
+use Rattle.automata.specs.Memory.{flagged, isZero, zeros}
 use Rattle.automata.proofs.AnswerFacts.{forget-map, forget-unit}
 use Rattle.automata.proofs.RecordFacts.{take-drop-take}
 use Rattle.memory.specs.Region.{part}
@@ -23,7 +23,7 @@ use Rattle.memory.specs.Endian.{le}
 use Rattle.memory.specs.Answers.{judgedAs}
 use Rattle.memory.specs.Judging.{readWeight, readState, readLabel, labelsRead, readLabels, readArc}
 use Rattle.memory.specs.declared.answer.Judged.{Judged}
-use Rattle.memory.proofs.Laws.{part-suc, length-part, getD-part, part-add}
+use Rattle.memory.proofs.Laws.{part-suc, length-part, getD-part}
 use Rattle.memory.proofs.AnswerLaws.{forget-check, beside-next, beside-first, beside-last, both-judged}
 
 -- ---- tests of all bytes, in a loop

@@ -2,10 +2,10 @@
 use mathlib.Core.Path.{_≡_, refl, sym, ap, ap₂, _∙_}
 use mathlib.Core.Option.{Option, none, some}
 use mathlib.Core.List.{List, [], _∷_, _++_, map, append-assoc}
-use Prim.Native.Nat.{ℕ, zero, suc, _+_, _-_, _*_, _^_, _≤_, _<_}
+use Prim.Native.Nat.{ℕ, zero, suc, _+_, _-_, _*_, _≤_}
 use native.Mathlib.Omega.{arith}
 use native.Mathlib.Nat.{add-zero, zero-add, suc-add, add-comm, add-assoc, suc-mul}
-use lib.ListN.{length, getD, take, drop, replicate, length-append, length-replicate, length-map, take-append-drop, replicate-append-replicate}
+use lib.ListN.{length, take, drop, replicate, length-append, length-replicate, length-map, take-append-drop, replicate-append-replicate}
 use lib.Seq.{take-at, drop-at, take-all, drop-drop, getD-drop}
 use Rattle.automata.specs.Automaton as automata
 use Rattle.automata.specs.Lists.{All, Each}
@@ -17,7 +17,7 @@ use Rattle.automata.proofs.RecordFacts.{All-append}
 use Rattle.automata.proofs.FormatLaws.{length-many}
 use Rattle.automata.proofs.MemoryLaws.{weightRecord-lawful, labelRecord-lawful}
 use Rattle.memory.specs.Region.{part}
-use Rattle.memory.specs.Endian.{le, toLe}
+use Rattle.memory.specs.Endian.{le}
 use Rattle.memory.specs.Records.{optionOf, stateAs, labelAs, labelsAs, arcAs, weightAt, stateAt, labelAt, labelsAt, contentAt, arcAt, emptyLabel, Padded, Canonical}
 use Rattle.memory.specs.declared.record.Label.{Label}
 use Rattle.memory.proofs.Laws.{part-part, getD-part, part-front, part-end}

@@ -1,16 +1,15 @@
 -- The states and arcs of a table that was judged: their bytes, and what is loaded from them.
-use mathlib.Core.Path.{_≡_, refl, sym, ap, ap₂, subst, _∙_}
+use mathlib.Core.Path.{_≡_, sym, ap, ap₂, subst, _∙_}
 use mathlib.Core.Option.{some}
 use mathlib.Core.List.{List}
 use Prim.Native.Nat.{ℕ, _+_, _*_, _≤_, _<_}
 use native.Mathlib.Omega.{arith}
 use lib.ListN.{length, getD, getElem?, take, drop}
 use lib.Seq.{take-all}
-use Rattle.automata.specs.Automaton.{State, Arc, Automaton}
-use Rattle.automata.specs.Table.{WellFormed, WellFormedState, WellFormedArc}
-use Rattle.automata.specs.Memory.{Memory, Holds, Sound, tableOf, stateRecord, arcRecord}
+use Rattle.automata.specs.Automaton.{State, Arc}
+use Rattle.automata.specs.Table.{WellFormedState, WellFormedArc}
+use Rattle.automata.specs.Memory.{Memory, Sound, tableOf, stateRecord, arcRecord}
 use Rattle.automata.proofs.ListFacts.{place-exists, place-default}
-use Rattle.automata.proofs.WellFormedFacts.{all-place}
 use Rattle.automata.proofs.MemoryLaws.{stateRecord-lawful, arcRecord-lawful, arcRecord-width, state-field, arc-field}
 use Rattle.automata.proofs.RecordFacts.{All-at}
 use Rattle.automata.proofs.SoundFacts.{sound-well-formed, sound-holds}

@@ -9,8 +9,7 @@ use lib.ListN.{length, take, drop}
 use borrow.Author.Tests.{not-true, not-false, le-leb, lt-leb, leb-true}
 use Rattle.automata.specs.Lists.{and}
 use Rattle.automata.specs.Table.{countsFit}
-use Rattle.automata.specs.Answer.{_>>=_, Answer, ok, refused, require, forget}
-use Rattle.automata.specs.Refusal.{size}
+use Rattle.automata.specs.Answer.{_>>=_, Answer, ok, refused, forget}
 use Rattle.automata.specs.Automaton.{State, Arc, Automaton}
 use Rattle.automata.specs.Sequence.{readMany, readAll}
 use Rattle.automata.specs.Memory.{stateRecord, arcRecord, Memory, Sound, decodeTable}

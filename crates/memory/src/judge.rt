@@ -1,21 +1,19 @@
 // The judgement of a table in memory: its counts, then its records in order, each by its least refusal.
 ghost use mathlib.Core.Path.{_≡_};
 ghost use Prim.Native.Nat.{_+_, _*_, _≤_, min};
-ghost use lib.Dec.{leb, ltb};
 ghost use lib.ListN.{length, drop};
 ghost use Rattle.automata.specs.Lists.{all};
 ghost use Rattle.automata.specs.Symbols.{isSymbol};
-ghost use Rattle.automata.specs.Table.{countsFit, weightFits};
+ghost use Rattle.automata.specs.Table.{countsFit};
 ghost use Rattle.automata.specs.Answer.{forget, require};
-ghost use Rattle.automata.specs.Refusal.{size, state, form};
 ghost use Rattle.automata.specs.Memory.{isZero, decodeTable};
 ghost use Rattle.memory.specs.Region.{part};
 ghost use Rattle.memory.specs.Answers.{refusalNumber, judgedAs, lent};
 ghost use Rattle.memory.specs.Judging.{readWeight, readState, readLabel, labelsRead, readLabels, readArc, firstState, statesJudged, firstArc, arcsJudged};
-use crate::answer::both;
 use crate::answer::Counts;
 use crate::answer::Judged;
 use crate::answer::Refusal;
+use crate::answer::both;
 use crate::bytes::get16;
 use crate::bytes::get32;
 use crate::symbol::is_symbol;

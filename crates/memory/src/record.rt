@@ -1,10 +1,10 @@
 // Records of states and arcs by value, loaded from lent bytes and stored to them.
 ghost use mathlib.Core.Path.{_≡_};
 ghost use mathlib.Core.List.{_∷_, []};
-ghost use Prim.Native.Nat.{_+_, _*_, _≤_};
+ghost use Prim.Native.Nat.{_+_, _≤_};
 ghost use lib.ListN.{length};
 ghost use Rattle.automata.specs.Records.{writeAll};
-ghost use Rattle.memory.specs.Region.{part, splice};
+ghost use Rattle.memory.specs.Region.{splice};
 ghost use Rattle.memory.specs.Endian.{toLe};
 ghost use Rattle.memory.specs.Records.{weightBytes, stateBytes, labelBytes, contentBytes, arcBytes, weightAt, stateAt, labelAt, labelsAt, contentAt, arcAt};
 use crate::bytes::copy_into;

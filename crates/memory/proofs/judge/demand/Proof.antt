@@ -1,5 +1,4 @@
 -- `memory::judge::demand` meets its contract. Assumes nothing.
-use borrow.Author.Needs.{needs}
 use Rattle.memory.proofs.judge.demand.Statement.{statement}
 use Rattle.memory.proofs.judge.demand.Tie as tie
 use Rattle.memory.proofs.judge.demand.Reads as reads

@@ -1,5 +1,5 @@
 -- `memory::judge::judge` meets its contract. Assumes nothing.
-use mathlib.Core.Path.{_≡_, refl, sym, ap, _∙_}
+use mathlib.Core.Path.{ap}
 use denote.Ref.{now}
 use Rattle.memory.specs.Answers.{judgedAs, lent}
 use Rattle.memory.proofs.TableLaws.{tapes-fit, table-counts, table-states, table-arcs}
@@ -16,7 +16,7 @@ counts-fit-requires : tie.Need-counts-fit-requires
 counts-fit-requires c κs = search needs
 
 returns : tie.Need-returns
-returns c = 
+returns c =
     let s = c .before .before .before .before in
     table-counts (lent (s .args .counts) (now (s .args .states)) (now (s .args .arcs))) _ (c .before .counts-fit .ensures) (c .if1 .taken)
 
@@ -30,17 +30,17 @@ enum-told-2 : tie.Need-enum-told-2
 enum-told-2 c = search needs
 
 returns-2 : tie.Need-returns-2
-returns-2 c = 
+returns-2 c =
     let s = c .before .before .before .before .before .before .before in
     table-states (lent (s .args .counts) (now (s .args .states)) (now (s .args .arcs))) _ (c .before .before .before .before .counts-fit .ensures) (c .before .before .before .if1 .left) _ (c .before .before .judge-states .ensures) _ (ap judgedAs (c .enum-told2 .given .1))
 
 judge-arcs-requires : tie.Need-judge-arcs-requires
-judge-arcs-requires c κs = 
+judge-arcs-requires c κs =
     let s = c .before .before .before .before .before .before .before in
     tapes-fit (s .args .counts .tapes) (s .args .counts .states) (s .args .counts .arcs) _ (c .before .before .before .before .counts-fit .ensures) (c .before .before .before .if1 .left)
 
 returns-3 : tie.Need-returns-3
-returns-3 c = 
+returns-3 c =
     let s = c .before .before .before .before .before .before .before .before in
     table-arcs (lent (s .args .counts) (now (s .args .states)) (now (s .args .arcs))) _ (c .before .before .before .before .before .counts-fit .ensures) (c .before .before .before .before .if1 .left) _ (c .before .before .before .judge-states .ensures) (ap judgedAs (c .before .enum-told .given .1)) _ (c .judge-arcs .ensures)
 

@@ -1,6 +1,5 @@
 -- `memory::judge::judge_label` meets its contract. Assumes nothing.
 use denote.Ref.{now}
-use native.Mathlib.Omega.{arith}
 use Rattle.memory.proofs.JudgeLaws.{label-symbols, label-padding, label-length}
 use borrow.Author.Needs.{needs}
 use Rattle.memory.proofs.judge.judge_label.Statement.{statement}

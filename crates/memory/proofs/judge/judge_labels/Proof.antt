@@ -1,8 +1,7 @@
 -- `memory::judge::judge_labels` meets its contract. Assumes nothing.
-use mathlib.Core.Path.{_≡_, refl, sym, ap, _∙_}
+use mathlib.Core.Path.{_≡_, _∙_}
 use native.Mathlib.Omega.{arith}
-use denote.Ref.{now}
-use Prim.Native.Nat.{_+_, _-_, _*_, _≤_}
+use Prim.Native.Nat.{_+_, _-_, _*_}
 use lib.ListN.{length, drop}
 use Rattle.automata.specs.Answer.{beside, forget}
 use Rattle.memory.specs.Answers.{judgedAs}

@@ -54,7 +54,7 @@ same-length : tie.Need-same-length
 same-length c = search needs
 
 returns : tie.Need-returns
-returns c = 
+returns c =
     let s = c .before .before .before .before .before .before .before .before .before .before .before .before .before .before .before .before .before .before .before .before .before in
     let n : length (s .args .t3 .labels) ≡ 8 = sym (length-map (s .args .t3 .labels) _) ∙ s .good .1 .1 .0 .1 .1 .1 .0 .1 .0 .1 in
     content-stored (s .args .at) (s .args .t3) _ (now (s .args .bytes)) _ _ _ (s .pre) n (c .before .before .before .before .before .before .before .before .before .before .before .before .before .before .before .before .before .before .put32 .ensures) (c .before .before .before .before .before .before .before .before .before .before .store-four .ensures) (c .before .before .store-four2 .ensures)

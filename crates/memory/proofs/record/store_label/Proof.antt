@@ -1,7 +1,7 @@
 -- `memory::record::store_label` meets its contract. Assumes nothing.
 use denote.Ref.{now}
 use native.Mathlib.Omega.{arith}
-use mathlib.Core.Path.{_≡_, refl, sym, ap, _∙_}
+use mathlib.Core.Path.{_≡_, _∙_}
 use lib.ListN.{length, length-set}
 use Rattle.memory.proofs.RecordLaws.{label-stored}
 use borrow.Author.Needs.{needs}
