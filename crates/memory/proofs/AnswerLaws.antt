@@ -41,21 +41,6 @@ pub forget-ok : {A : Type 0} (a : Answer A) → forget a ≡ ok tt → (v : A) �
 forget-ok (ok a) e = (a, refl)
 forget-ok (refused n) e = absurd (refused≢ok e)
 
-module _ {A C : Type 0} where
-  -- of the first of two answers side by side the refusal alone counts
-  pub forget-left : (a : Answer A) (c : Answer C) → forget (beside (forget a) c) ≡ forget (beside a c)
-  forget-left (ok a) (ok c) = refl
-  forget-left (ok a) (refused n) = refl
-  forget-left (refused m) (ok c) = refl
-  forget-left (refused m) (refused n) = refl
-
-  -- and of the second
-  pub forget-right : (a : Answer A) (c : Answer C) → forget (beside a (forget c)) ≡ forget (beside a c)
-  forget-right (ok a) (ok c) = refl
-  forget-right (ok a) (refused n) = refl
-  forget-right (refused m) (ok c) = refl
-  forget-right (refused m) (refused n) = refl
-
 -- a part, judged next to those before it and those behind it
 pub beside-next : {A C D : Type 0} (a : Answer (Unit {0})) (b : Answer A) (c : Answer C) (f : A × C → D)
     → forget (beside (forget (beside a (forget b))) c) ≡ forget (beside a (beside b c >>= λ p. ok (f p)))

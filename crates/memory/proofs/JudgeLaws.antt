@@ -59,6 +59,7 @@ little-part k a xs h bytes =
 
 -- ---- a weight that may be absent
 module _ (a : ℕ) (xs : List ℕ) (h : a + 5 ≤ length xs) (bytes : (i : ℕ) → getD xs i 0 < 256) where
+  -- what its bytes are judged by: the flag and the number behind it
   weight-is : readWeight (part a 5 xs) ≡ flagged (getD xs a 0) (le (part (a + 1) 4 xs))
   unfolding readWeight
   weight-is = rw (part-suc a 4 xs 0 (omega arith), little-part 4 (a + 1) xs (omega arith) bytes)
@@ -124,10 +125,12 @@ cut-min n u y l m = go (leb n 8) refl
 abbrev labelJudged : ℕ → Bool → Bool → List ℕ → Answer (List ℕ)
 labelJudged n symbols padding l = require (and symbols padding) form >>= λ t. check (leb n 8) size l
 
+-- the bytes behind the length, cut where the label ends
 label-cons : (n u : ℕ) (y : List ℕ) → length y ≡ 8 → u ≡ min n 8 → readLabel (n ∷ y) ≡ labelJudged n (all isSymbol (take u y)) (all isZero (drop u y)) (take n y)
 unfolding readLabel
 label-cons n u y l m = let c = cut-min n u y l m in rw (places-read 8 y l, c .0, c .1)
 
+-- the same, cut as the code lends them
 label-is : (x : List ℕ) (u : ℕ) → length x ≡ 9 → u ≡ min (getD x 0 0) 8
     → readLabel x ≡ labelJudged (getD x 0 0) (all isSymbol (take (1 + u - 1) (drop 1 x))) (all isZero (take (9 - (1 + u)) (drop (1 + u) x))) (take (getD x 0 0) (drop 1 x))
 label-is [] u l m = absurd (omega arith)
@@ -202,6 +205,7 @@ judged-tapes tapes x j k r z l h e f g p =
 abbrev numberRead : ℕ → (ℕ → Bool) → ℕ → List ℕ → Answer ℕ
 numberRead k test n y = little k .read y >>= λ q. check (test q) n q
 
+-- it is judged by the test alone
 judged-number : (k a : ℕ) (xs : List ℕ) (test : ℕ → Bool) (n v : ℕ) (j : Answer (Unit {0})) → a + k ≤ length xs → ((i : ℕ) → getD xs i 0 < 256) → v ≡ le (part a k xs) → j ≡ require (test v) n
     → j ≡ forget (numberRead k test n (part a k xs))
 judged-number k a xs test n v j h bytes e f = f ∙ rw (little-part k a xs h bytes, e) (forget-check (test (le (part a k xs))) n (le (part a k xs)))
@@ -217,6 +221,7 @@ module _ (tapes states : ℕ) (x : List ℕ) (len : length x ≡ 80) (bytes : (i
       beside (numberRead 2 (λ q. ltb q states) state (take 2 x))
       (beside (numberRead 2 (λ q. ltb q states) state (take 2 (drop 2 x))) (beside (numberRead 4 (λ q. leb q 999999999) size (take 4 y)) (readLabels tapes z)))
 
+  -- the four judgements one after the other
   fields-judged : inner ≡ forget (beside jw jl) → middle ≡ forget (beside jt inner) → r ≡ forget (beside js middle) → r ≡ forget (fieldsRead (drop 4 x) (drop 8 x))
   unfolding part
   fields-judged e f g =

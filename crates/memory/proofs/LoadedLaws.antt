@@ -40,6 +40,7 @@ unfolding weightAt part
 weight-written none h = refl
 weight-written (some w) h = ap some (le-toLe 4 w (omega arith))
 
+-- the same at a place
 weight-decoded : (at : ℕ) (xs : List ℕ) (o : Option ℕ) → Each table.Weight o → part at 5 xs ≡ weightRecord .write o → optionOf (weightAt at xs) ≡ o
 weight-decoded at xs o h e = ap optionOf (weight-part at xs ∙ ap (weightAt 0) e) ∙ weight-written o h
 
@@ -86,6 +87,7 @@ label-drop : (a k : ℕ) (ys : List ℕ) → labelAt (a + k) ys ≡ labelAt k (d
 unfolding labelAt part
 label-drop a k ys = rw (getD-drop a ys k 0, drop-drop (k + 1) a ys, add-assoc a k 1)
 
+-- and so for n of them
 labels-drop : (n a k : ℕ) (ys : List ℕ) → labelsAt n (a + k) ys ≡ labelsAt n k (drop a ys)
 unfolding labelsAt
 labels-drop zero a k ys = refl
@@ -121,7 +123,7 @@ labels-back : (ls : List (List ℕ)) → map labelAs (map labelOf ls) ≡ ls
 labels-back [] = refl
 labels-back (l ∷ ls) = ap₂ (λ (b : List ℕ) (bs : List (List ℕ)). b ∷ bs) (take-at l (zeros (8 - length l)) (length l) refl) (labels-back ls)
 
--- each label of the model is padded, and so is the empty one
+-- each label of the model is padded
 padded-of : (ls : List (List ℕ)) → All table.Label ls → All Padded (map labelOf ls)
 padded-of [] h = tt
 padded-of (l ∷ ls) h = (
@@ -129,6 +131,7 @@ padded-of (l ∷ ls) h = (
   padded-of ls (h .1),
 )
 
+-- and so is the empty one
 padded-empty : (k : ℕ) → All Padded (replicate k emptyLabel)
 padded-empty zero = tt
 padded-empty (suc k) = (record { short = omega arith; whole = refl; padding = refl }, padded-empty k)

@@ -90,6 +90,7 @@ abbrev elementsFrom : {A : Type 0} → ℕ → ℕ → A → List A → List A
 elementsFrom zero i d xs = []
 elementsFrom (suc n) i d xs = getD xs i d ∷ elementsFrom n (i + 1) d xs
 
+-- a list of known length is its elements
 elements : {A : Type 0} (n i : ℕ) (d : A) (xs : List A) → length xs ≡ i + n → drop i xs ≡ elementsFrom n i d xs
 elements zero i d xs e = let h : length xs ≤ i = omega arith in drop-of-length-le xs h
 elements (suc n) i d xs e =

@@ -25,8 +25,8 @@ use Rattle.memory.proofs.SequenceLaws.{many-stop, many-none, at-short, 
 -- ---- the counts
 module _ (tapes states arcs : ℕ) where
   -- no tape
-  pub few-tapes : tapes < 1 → false ≡ countsFit tapes states arcs
-  few-tapes h = rw (lt-leb 1 tapes h)
+  pub no-tapes : tapes < 1 → false ≡ countsFit tapes states arcs
+  no-tapes h = rw (lt-leb 1 tapes h)
 
   module _ (a : 1 ≤ tapes) where
     -- too many tapes
@@ -124,6 +124,7 @@ module _ (m : Memory) (b : Bool) (e : b ≡ countsFit (m .tapes) (m .states) (m 
       go (refused n) a = refl
 
   module _ (f : not b ≡ false) (j : Answer (Unit {0})) (g : j ≡ statesJudged (m .states) (m .stateBytes)) where
+    -- the judgement of the states is that of reading them all
     all-states : j ≡ forget (readAll stateRecord (m .states) (m .stateBytes))
     unfolding statesJudged
     all-states = g ∙ sym (forget-map (readMany stateRecord (m .states) (m .stateBytes)) (λ p. p .0))

@@ -8,17 +8,19 @@ use Rattle.automata.specs.Format.{readCopies}
 use Rattle.automata.specs.Sequence.{readFirst, readMany}
 use Rattle.automata.specs.Memory.{weightRecord, labelRecord, stateRecord, labelRecords, arcRecord}
 
--- a weight in five bytes, and a state in ten
+-- a weight in five bytes
 unfoldable pub readWeight : List ℕ → Answer (Option ℕ)
 readWeight x = weightRecord .read x
 
+-- a state in ten bytes
 unfoldable pub readState : List ℕ → Answer (State ℕ)
 readState x = stateRecord .read x
 
--- a label in nine bytes, and so many of them side by side
+-- a label in nine bytes
 unfoldable pub readLabel : List ℕ → Answer (List ℕ)
 readLabel x = labelRecord .read x
 
+-- so many labels side by side
 unfoldable pub labelsRead : ℕ → List ℕ → Answer (List (List ℕ))
 labelsRead n x = readCopies labelRecord n x
 
@@ -30,16 +32,18 @@ readLabels tapes x = labelRecords tapes .read x
 unfoldable pub readArc : ℕ → ℕ → List ℕ → Answer (Arc ℕ)
 readArc tapes states x = arcRecord tapes states .read x
 
--- the first record of a list, and its first n records, as states
+-- the first record of a list, as a state
 unfoldable pub firstState : List ℕ → Answer (Unit {0})
 firstState x = forget (readFirst stateRecord x)
 
+-- its first n records, as states
 unfoldable pub statesJudged : ℕ → List ℕ → Answer (Unit {0})
 statesJudged n x = forget (readMany stateRecord n x)
 
--- and as arcs of a table with so many tapes and states
+-- the first record of a list, as an arc of a table with so many tapes and states
 unfoldable pub firstArc : ℕ → ℕ → List ℕ → Answer (Unit {0})
 firstArc tapes states x = forget (readFirst (arcRecord tapes states) x)
 
+-- its first n records, as arcs
 unfoldable pub arcsJudged : ℕ → ℕ → ℕ → List ℕ → Answer (Unit {0})
 arcsJudged tapes states n x = forget (readMany (arcRecord tapes states) n x)

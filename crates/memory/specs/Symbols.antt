@@ -10,10 +10,11 @@ abbrev pub symbolAs : SymbolNumber → Option ℕ
 symbolAs (Symbol n) = some n
 symbolAs NoSymbol = none
 
--- the entry of the table for a byte: its symbol number, or 255
+-- the entry of the table for a symbol number, 255 for none
 abbrev pub entryOf : Option ℕ → ℕ
 entryOf none = 255
 entryOf (some n) = n
 
+-- the entry for a byte
 abbrev pub symbolEntry : ℕ → ℕ
 symbolEntry b = entryOf (symbolNumber b)

@@ -1,12 +1,12 @@
 -- `memory::judge::counts_fit` meets its contract. Assumes nothing.
-use Rattle.memory.proofs.TableLaws.{few-tapes, many-tapes, many-states, arcs-decide}
+use Rattle.memory.proofs.TableLaws.{no-tapes, many-tapes, many-states, arcs-decide}
 use Rattle.memory.proofs.judge.counts_fit.Statement.{statement}
 use Rattle.memory.proofs.judge.counts_fit.Tie as tie
 use Rattle.memory.proofs.judge.counts_fit.Reads as reads
 use Rattle.memory.proofs.judge.counts_fit.Lts as lts
 
 returns : tie.Need-returns
-returns c = few-tapes (c .before .before .args .counts .tapes) (c .before .before .args .counts .states) (c .before .before .args .counts .arcs) (c .if1 .taken)
+returns c = no-tapes (c .before .before .args .counts .tapes) (c .before .before .args .counts .states) (c .before .before .args .counts .arcs) (c .if1 .taken)
 
 returns-2 : tie.Need-returns-2
 returns-2 c = many-tapes (c .before .before .before .before .args .counts .tapes) (c .before .before .before .before .args .counts .states) (c .before .before .before .before .args .counts .arcs) (c .before .before .if1 .left) (c .if2 .taken)
