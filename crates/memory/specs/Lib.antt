@@ -4,3 +4,5 @@ pub mod Endian
 pub mod Answers
 pub mod Pairs
 pub mod Records
+pub mod Symbols
+pub mod Judging

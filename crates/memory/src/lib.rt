@@ -3,4 +3,6 @@
 pub mod answer;
 pub mod bytes;
 pub mod pair;
+pub mod judge;
 pub mod record;
+pub mod symbol;
