@@ -3,3 +3,4 @@ pub mod Region
 pub mod Endian
 pub mod Answers
 pub mod Records
+pub mod Pairs

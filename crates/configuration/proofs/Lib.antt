@@ -1,0 +1,4 @@
+-- Laws that belong to no one function.
+pub mod StripLaws
+pub mod RecordLaws
+pub mod TestLaws
