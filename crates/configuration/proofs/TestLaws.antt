@@ -1,7 +1,7 @@
 -- Laws of the start, and of the lengths of a configuration's leftovers.
 use Prim.Native.Nat.{ℕ, zero, suc, _+_, _-_, _≤_, _<_}
 use mathlib.Core.Path.{_≡_, refl, sym, ap, ap₂, _∙_}
-use mathlib.Core.Bool.{Bool, true, false, not}
+use mathlib.Core.Bool.{Bool, true, false, not, false≢true, Bool·beq}
 use mathlib.Core.Option.{Option, none, some}
 use mathlib.Core.List.{List, [], _∷_, _++_, map}
 use native.Mathlib.Omega.{arith}
@@ -143,18 +143,26 @@ none-left used c r g h t =
 -- ---- the lengths of the leftovers
 
 -- the length on one tape, by whether that tape is ahead
-pub length-ahead : (b : Bool) (l : Leftover) → Good l → l .second ≡ b → l .len ≡ length (onTape b (leftoverAs l))
-length-ahead true l g e = rw e (sym (kept-length l g))
-length-ahead false l g e = rw e (sym (kept-length l g))
-
-pub length-behind : (b : Bool) (l : Leftover) → (l .second ≡ b → ⊥) → 0 ≡ length (onTape b (leftoverAs l))
-length-behind b l f = go b (l .second) f
+pub length-ahead : (b : Bool) (l : Leftover) → Good l → Bool·beq (l .second) b ≡ true → l .len ≡ length (onTape b (leftoverAs l))
+length-ahead b l g e = go b (l .second) e
   where
-    go : (b t : Bool) → (t ≡ b → ⊥) → 0 ≡ length (onTape b (sided t (take (l .len) (l .symbols))))
-    go true true f = absurd (f refl)
-    go true false f = refl
-    go false true f = refl
-    go false false f = absurd (f refl)
+    go : (b t : Bool) → Bool·beq t b ≡ true → l .len ≡ length (onTape b (sided t (take (l .len) (l .symbols))))
+    go true true e = sym (kept-length l g)
+    go true false e = absurd (false≢true e)
+    go false true e = absurd (false≢true e)
+    go false false e = sym (kept-length l g)
+
+pub length-behind : (b : Bool) (l : Leftover) → Bool·beq (l .second) b ≡ false → 0 ≡ length (onTape b (leftoverAs l))
+length-behind b l e = go b (l .second) e
+  where
+    go : (b t : Bool) → Bool·beq t b ≡ false → 0 ≡ length (onTape b (sided t (take (l .len) (l .symbols))))
+    go true true e = absurd (false≢true (sym e))
+    go true false e = refl
+    go false true e = refl
+    go false false e = absurd (false≢true (sym e))
+
+pub good-at : (i : ℕ) (c : Config) → (length (c .leftovers) ≡ 4) × All Good (c .leftovers) → i < 4 → Good (getD (c .leftovers) i outside)
+good-at i c g h = All-at Good (c .leftovers) outside i (g .1) (omega (arith, g .0))
 
 -- the lengths of four
 pub four-lengths : (b : Bool) (c : Config) (n0 n1 n2 n3 : ℕ) → length (c .leftovers) ≡ 4

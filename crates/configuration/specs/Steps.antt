@@ -7,15 +7,18 @@ use lib.ListN.{length, getD, take}
 use Rattle.automata.specs.Lists.{guard}
 use Rattle.automata.specs.Automaton.{Arc, labelOn}
 use Rattle.automata.specs.TapePair.{limited}
+use Rattle.automata.specs.Leftover as leftover
 use Rattle.automata.specs.Config as automata
 use Rattle.memory.specs.Region.{part}
 use Rattle.memory.specs.Endian.{le}
 use Rattle.memory.specs.Pairs.{Named, noPair, pairsAs}
 use Rattle.memory.specs.declared.record.Label.{Label}
+use Rattle.memory.specs.declared.pair.Pair.{Pair}
 use Rattle.memory.specs.declared.pair.PairList.{PairList}
+use Rattle.configuration.specs.declared.leftover.Leftover.{Leftover}
 use Rattle.configuration.specs.declared.config.Config.{Config}
-use Rattle.configuration.specs.declared.config.Followed.{Followed}
-use Rattle.configuration.specs.Leftovers.{outside}
+use Rattle.configuration.specs.declared.step.Followed.{Followed}
+use Rattle.configuration.specs.Leftovers.{outside, Advances, leftoverAs, labelOf}
 use Rattle.configuration.specs.Configs.{configAs, GoodConfig}
 
 -- where the label on a tape, counted from 0, stands in the record of an arc
@@ -25,6 +28,10 @@ labelPlace at i = at + 8 + 9 * i
 -- the label on a tape, counted from 1, in the record of an arc
 unfoldable pub labelAt : ℕ → ℕ → List ℕ → Label
 labelAt at tape xs = record { len = getD xs (labelPlace at (tape - 1)) 0; symbols = part (labelPlace at (tape - 1) + 1) 8 xs }
+
+-- what is left of one pair after the arc whose record stands at a place
+abbrev pub pairAfter : ℕ → List ℕ → Pair → Leftover → Option leftover.Leftover
+pairAfter at arcs p l = leftover.advance (leftoverAs l) (labelOf (labelAt at (p .first) arcs)) (labelOf (labelAt at (p .second) arcs))
 
 -- the bytes at a place are the record of the arc a of a table with so many tapes
 pub record Reads (arcs : List ℕ) (at tapes : ℕ) (a : Arc ℕ) : Type 0 where

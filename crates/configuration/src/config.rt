@@ -23,12 +23,6 @@ pub struct Config {
     pub leftovers: [Leftover; 4],
 }
 
-// The configuration after an arc, if the tapes of every pair are still compatible.
-pub struct Followed {
-    pub compatible: bool,
-    pub config: Config,
-}
-
 // The configuration whose record stands at `at`.
 pub fn load_config(work: &[u8], at: usize) -> Config
     requires { ⌜ at + 298 ≤ length (now work) ⌝ }

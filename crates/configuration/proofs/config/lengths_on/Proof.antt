@@ -1,3 +1,6 @@
+-- `configuration::config::lengths_on` meets its contract. Assumes nothing.
+use native.Mathlib.Omega.{arith}
+use Rattle.configuration.proofs.TestLaws.{good-at, four-lengths}
 use borrow.Author.Needs.{needs}
 use Rattle.configuration.proofs.config.lengths_on.Statement.{statement}
 use Rattle.configuration.proofs.config.lengths_on.Tie as tie
@@ -5,41 +8,33 @@ use Rattle.configuration.proofs.config.lengths_on.Reads as reads
 use Rattle.configuration.proofs.config.lengths_on.Lts as lts
 use Rattle.configuration.proofs.leftover.length_on.Reads as length-on-reads
 
--- src/config.rt:102:13
 element-copy-out-p : tie.Need-element-copy-out-p
 element-copy-out-p c = search needs
 
--- src/config.rt:103:13
 element-copy-out-q : tie.Need-element-copy-out-q
 element-copy-out-q c = search needs
 
--- src/config.rt:104:13
 element-copy-out-r : tie.Need-element-copy-out-r
 element-copy-out-r c = search needs
 
--- src/config.rt:105:13
 element-copy-out-s : tie.Need-element-copy-out-s
 element-copy-out-s c = search needs
 
--- src/config.rt:106:9
 length-on-requires : tie.Need-length-on-requires
-length-on-requires c κs = ?
+length-on-requires c κs = good-at 0 (c .before .before .before .before .args .t2) (c .before .before .before .before .pre) (omega arith)
 
--- src/config.rt:107:9
 length-on-requires-2 : tie.Need-length-on-requires-2
-length-on-requires-2 c κs = ?
+length-on-requires-2 c κs = good-at 1 (c .before .before .before .before .before .args .t2) (c .before .before .before .before .before .pre) (omega arith)
 
--- src/config.rt:108:9
 length-on-requires-3 : tie.Need-length-on-requires-3
-length-on-requires-3 c κs = ?
+length-on-requires-3 c κs = good-at 2 (c .before .before .before .before .before .before .args .t2) (c .before .before .before .before .before .before .pre) (omega arith)
 
--- src/config.rt:109:9
 length-on-requires-4 : tie.Need-length-on-requires-4
-length-on-requires-4 c κs = ?
+length-on-requires-4 c κs = good-at 3 (c .before .before .before .before .before .before .before .args .t2) (c .before .before .before .before .before .before .before .pre) (omega arith)
 
--- src/config.rt:98:1
 returns : tie.Need-returns
-returns c = ?
+returns c = let s = c .before .before .before .before .before .before .before .before in
+    four-lengths (s .args .second) (s .args .t2) _ _ _ _ (s .pre .0) (c .before .before .before .length-on .ensures) (c .before .before .length-on2 .ensures) (c .before .length-on3 .ensures) (c .length-on4 .ensures)
 
 pub lengths-on-spec : {M : Type 1} → statement M
 lengths-on-spec =
