@@ -2,3 +2,4 @@
 pub mod StripLaws
 pub mod RecordLaws
 pub mod TestLaws
+pub mod StepLaws

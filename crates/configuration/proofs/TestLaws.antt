@@ -34,7 +34,7 @@ blanks-as [] n h = refl
 blanks-as (p ∷ ps) zero h = absurd (omega arith)
 blanks-as (p ∷ ps) (suc n) h = ap₂ (λ (m : automata.Leftover) (ms : List automata.Leftover). m ∷ ms) blank-as (blanks-as ps n (omega arith))
 
-drop-blanks : (n k : ℕ) → drop k (replicate n blank) ≡ replicate (n - k) blank
+pub drop-blanks : (n k : ℕ) → drop k (replicate n blank) ≡ replicate (n - k) blank
 drop-blanks n zero = rw sub-zero
 drop-blanks zero (suc k) = rw zero-sub
 drop-blanks (suc n) (suc k) = rw (suc-sub-suc n k) (drop-blanks n k)

@@ -45,6 +45,7 @@ pub record Reads (arcs : List ℕ) (at tapes : ℕ) (a : Arc ℕ) : Type 0 where
 pub record Followable (c : Config) (arcs : List ℕ) (at : ℕ) (ps : PairList) : Type 0 where
   pub whole : at + 80 ≤ length arcs
   pub named : Named 8 ps
+  pub good : GoodConfig (ps .used) c
   pub first-fits : (h : ℕ) → h < ps .used → getD arcs (labelPlace at (getD (ps .pairs) h noPair .first - 1)) 0 ≤ 8
   pub second-fits : (h : ℕ) → h < ps .used → getD arcs (labelPlace at (getD (ps .pairs) h noPair .second - 1)) 0 ≤ 8
   pub short : (h : ℕ) → h < ps .used → getD (c .leftovers) h outside .len ≤ 64

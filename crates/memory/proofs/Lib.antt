@@ -4,3 +4,4 @@ pub mod EndianLaws
 pub mod AnswerLaws
 pub mod RowLaws
 pub mod RecordLaws
+pub mod PairLaws
