@@ -3,3 +3,5 @@ pub mod StripLaws
 pub mod RecordLaws
 pub mod TestLaws
 pub mod StepLaws
+pub mod RoundLaws
+pub mod SoundLaws

@@ -56,7 +56,7 @@ anyLonger limit (l ∷ ls) = let r = anyLonger limit ls in or (ltb limit (l .len
 pub kept-length : (l : Leftover) → Good l → length (take (l .len) (l .symbols)) ≡ l .len
 kept-length l g = length-take-le (l .len) (l .symbols) (omega (arith, g .all-symbols, g .len-fits))
 
-All-take : {A : Type 0} (P : A → Type 0) (n : ℕ) (xs : List A) → All P xs → All P (take n xs)
+pub All-take : {A : Type 0} (P : A → Type 0) (n : ℕ) (xs : List A) → All P xs → All P (take n xs)
 All-take P zero xs p = tt
 All-take P (suc n) [] p = tt
 All-take P (suc n) (x ∷ xs) p = (p .0, All-take P n xs (p .1))
