@@ -14,3 +14,4 @@ pub mod TableLaws
 pub mod LoadedLaws
 pub mod EncodedLaws
 pub mod SoundLaws
+pub mod PairLaws

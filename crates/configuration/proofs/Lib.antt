@@ -1,0 +1,7 @@
+-- Laws that belong to no one function.
+pub mod StripLaws
+pub mod RecordLaws
+pub mod TestLaws
+pub mod StepLaws
+pub mod RoundLaws
+pub mod SoundLaws

@@ -1,0 +1,55 @@
+-- A configuration by value: what it stands for, when it is in its one form, and its record in work space.
+use mathlib.Core.Path.{_≡_}
+use mathlib.Core.Bool.{Bool}
+use mathlib.Core.List.{List, [], _∷_, _++_, map}
+use Prim.Native.Nat.{ℕ, _+_, _-_, _≤_, _<_}
+use lib.ListN.{length, getD, take, drop, replicate}
+use Rattle.automata.specs.Lists.{All}
+use Rattle.automata.specs.TapePair.{Pair, TapePair, limited}
+use Rattle.automata.specs.Config as automata
+use Rattle.memory.specs.Region.{part}
+use Rattle.memory.specs.Endian.{le, toLe}
+use Rattle.configuration.specs.declared.leftover.Leftover.{Leftover}
+use Rattle.configuration.specs.declared.config.Config.{Config}
+use Rattle.configuration.specs.Leftovers.{onTape, leftoverAs, blank, outside, Good, leftoverBytes, leftoverAt}
+
+-- the configuration of so many pairs
+abbrev pub configAs : ℕ → Config → automata.Config
+configAs used c = record { state = c .state .0; leftovers = map leftoverAs (take used (c .leftovers)) }
+
+-- the one form of a configuration of so many pairs: each leftover in its one form, and blank past the pairs
+pub record GoodConfig (used : ℕ) (c : Config) : Type 0 where
+  pub state-fits : c .state .0 < 65536
+  pub four : length (c .leftovers) ≡ 4
+  pub each : All Good (c .leftovers)
+  pub blanks : drop used (c .leftovers) ≡ replicate (4 - used) blank
+
+-- how many bytes a configuration takes up: its state 2, each of four leftovers 74
+abbrev pub recordSize : ℕ
+recordSize = 298
+
+unfoldable pub configBytes : Config → List ℕ
+configBytes c =
+    toLe 2 (c .state .0)
+    ++ (leftoverBytes (getD (c .leftovers) 0 outside)
+    ++ (leftoverBytes (getD (c .leftovers) 1 outside) ++ (leftoverBytes (getD (c .leftovers) 2 outside) ++ leftoverBytes (getD (c .leftovers) 3 outside))))
+
+-- the configuration whose record stands at a place
+unfoldable pub configAt : ℕ → List ℕ → Config
+configAt at xs = record {
+  state = record { 0 = le (part at 2 xs) };
+  leftovers = leftoverAt (at + 2) xs ∷ leftoverAt (at + 76) xs ∷ leftoverAt (at + 150) xs ∷ leftoverAt (at + 224) xs ∷ [];
+}
+
+-- the configuration in which a path starts at state q, for however many pairs
+pub record Starts (q : ℕ) (r : Config) : Type 0 where
+  pub meaning : (ps : List TapePair) → length ps ≤ 4 → configAs (length ps) r ≡ automata.startAt ps q
+  pub good : (used : ℕ) → GoodConfig used r
+
+-- r tells whether a leftover of the first so many pairs is longer than the limit, whichever pairs they are
+abbrev pub TellsLong : ℕ → ℕ → Config → Bool → Type 0
+TellsLong used limit c r = (ps : List Pair) → length ps ≡ used → r ≡ automata.tooLong (limited limit ps) (configAs used c .leftovers)
+
+-- the lengths of all four leftovers on the second tapes, or on the first
+abbrev pub lengthsOn : Bool → Config → List ℕ
+lengthsOn second c = map (λ l. length (onTape second l)) (configAs 4 c .leftovers)
