@@ -15,7 +15,7 @@ use Rattle.memory.specs.Region.{part, splice}
 use Rattle.memory.specs.Endian.{le, toLe}
 use Rattle.memory.proofs.Laws.{getD-splice-before, getD-splice-after, length-splice, part-splice-before, part-splice-after}
 use Rattle.memory.proofs.EndianLaws.{le-two, le-splice, length-toLe}
-use Rattle.relaxation.specs.Column.{column, Frame, settled}
+use Rattle.relaxation.specs.Column.{Room, column, Frame, settled}
 
 pub length-column : (at n : ℕ) (w : List ℕ) → length (column at n w) ≡ n
 unfolding column
@@ -54,7 +54,7 @@ frame-keeps at m n w v f a l h k =
     le-two a w (omega arith) ∙ (rw (p, q) (sym (le-two a v l)))
 
 -- a store to the column leaves the rest as it is
-pub frame-store : (at n q x : ℕ) (w : List ℕ) → q < n → at + 64 * n ≤ length w + 62 → Frame at 2 n (splice (at + 64 * q) (toLe 2 x) w) w
+pub frame-store : (at n q x : ℕ) (w : List ℕ) → q < n → Room at 2 n w → Frame at 2 n (splice (at + 64 * q) (toLe 2 x) w) w
 frame-store at n q x w h l =
     let e : length (toLe 2 x) ≡ 2 = length-toLe 2 x in
     record {
@@ -74,7 +74,7 @@ frame-store at n q x w h l =
             getD-splice-after (at + 64 * q) (toLe 2 x) w i 0 (omega (arith, length-toLe 2 x)) (omega (arith, length-toLe 2 x))
 
 -- and is what stands there then
-pub column-store : (at n q x : ℕ) (w : List ℕ) → q < n → at + 64 * n ≤ length w + 62 → x < 65536
+pub column-store : (at n q x : ℕ) (w : List ℕ) → q < n → Room at 2 n w → x < 65536
     → column at n (splice (at + 64 * q) (toLe 2 x) w) ≡ set (column at n w) q x
 column-store at n q x w h l f =
     ext-getD 0 (column at n (splice (at + 64 * q) (toLe 2 x) w)) (set (column at n w) q x)

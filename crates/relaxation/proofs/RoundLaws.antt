@@ -7,16 +7,26 @@ use mathlib.Core.List.{List, [], _∷_}
 use native.Mathlib.Omega.{arith}
 use lib.ListN.{length, getD}
 use Rattle.automata.specs.Lists.{sameList}
-use Rattle.automata.specs.Rounds.{iterate}
+use Rattle.automata.proofs.RoundFacts.{iterate-inner, iterate-still}
 use Rattle.automata.proofs.TestFacts.{sameList→eq}
 use Rattle.relaxation.specs.declared.Edge.{Edge}
-use Rattle.relaxation.specs.Column.{column, Frame, settled}
-use Rattle.relaxation.specs.Edges.{Joined, swept, roundOf, Rounded, Both, roundsOf, starts, started, leastOf}
+use Rattle.relaxation.specs.Column.{Room, column, Frame, settled}
+use Rattle.relaxation.specs.Edges.{edges, Joined, Readable, ReadableArcs, swept, roundOf, Rounded, Both, roundsOf, starts, started, leastOf}
 use Rattle.relaxation.proofs.ColumnLaws.{frame-trans}
 use Rattle.relaxation.proofs.SweepLaws.{Bytes, frame-column, frame-wider, swept-frame, swept-column, settled-frame, settled-column, started-frame, started-column}
 
+-- which states the edges join does not depend on the tapes
+joined-any : (n i j at k : ℕ) (arcs : List ℕ) → Joined n (edges 0 0 at k arcs) → Joined n (edges i j at k arcs)
+unfolding Joined edges
+joined-any n i j at zero arcs g = tt
+joined-any n i j at (suc k) arcs g = (g .0, g .1, joined-any n i j (at + 80) k arcs (g .2))
+
+-- what a table that can be read gives the rounds on two tapes
+pub readable-arcs : (bytes : List ℕ) (n : ℕ) (arcs : List ℕ) (count i j : ℕ) → Readable bytes n arcs count → i < 8 → j < 8 → ReadableArcs n arcs count i j
+readable-arcs bytes n arcs count i j r f s = record { lent = r .arcs-lent; first-tape = f; second-tape = s; joined = joined-any n i j 0 count arcs (r .joined) }
+
 -- a round, from what each call left
-pub rounded : (d : Bool) (es : List Edge) (at n : ℕ) (same : Bool) (v u w : List ℕ) → Joined n es → at + 64 * n ≤ length v + 60 → Bytes v → Bytes u → column (at + 2) n v ≡ column at n v
+pub rounded : (d : Bool) (es : List Edge) (at n : ℕ) (same : Bool) (v u w : List ℕ) → Joined n es → Room at 4 n v → Bytes v → Bytes u → column (at + 2) n v ≡ column at n v
     → u ≡ swept d at es v → same ≡ sameList (column at n u) (column (at + 2) n u) → w ≡ settled at n u → Rounded d es at n same w v
 rounded d es at n same v u w j l bv bu eq e f g =
     let fr : Frame (at + 2) 2 n u v = rw e (swept-frame d at n es v j l) in
@@ -31,15 +41,6 @@ rounded d es at n same v u w j l bv bu eq e f g =
       frame = frame-trans at 4 n w u v (frame-wider at 2 at 4 n w u gr (omega arith) (omega arith) (omega arith)) (frame-wider (at + 2) 2 at 4 n u v fr (omega arith) (omega arith) (omega arith));
       same-is = f ∙ ap₂ sameList co cn;
     }
-
--- f applied first, and then n times
-pub iterate-inner : {X : Type 0} (n : ℕ) (f : X → X) (x : X) → iterate (suc n) f x ≡ iterate n f (f x)
-iterate-inner zero f x = refl
-iterate-inner (suc n) f x = ap f (iterate-inner n f x)
-
-pub iterate-still : {X : Type 0} (n : ℕ) (f : X → X) (x : X) → f x ≡ x → iterate n f x ≡ x
-iterate-still zero f x e = refl
-iterate-still (suc n) f x e = ap f (iterate-still n f x e) ∙ e
 
 module _ (d : Bool) (es : List Edge) (at n : ℕ) (v u w : List ℕ) (target : List ℕ) where
   -- a turn of the rounds, of which there were left
@@ -68,7 +69,7 @@ rounds-end d es at n v u target left s b e f =
     record { old = z; new = b ∙ z; frame = f }
 
 -- the start, and both kinds of rounds after it
-pub started-both : (at n : ℕ) (bytes v u : List ℕ) → at + 64 * n ≤ length v + 60 → u ≡ started at 0 n bytes v → Both at n (starts 0 n bytes) u v
+pub started-both : (at n : ℕ) (bytes v u : List ℕ) → Room at 4 n v → u ≡ started at 0 n bytes v → Both at n (starts 0 n bytes) u v
 started-both at n bytes v u l e =
     let c = started-column at 0 n bytes v l in
     record { old = ap (column at n) e ∙ c .0; new = ap (column (at + 2) n) e ∙ c .1; frame = rw e (started-frame at 0 n bytes v l) }

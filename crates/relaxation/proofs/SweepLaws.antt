@@ -16,7 +16,7 @@ use Rattle.automata.specs.Rounds.{visit, sweep}
 use Rattle.automata.specs.Closing.{origin, missing, endless}
 use Rattle.automata.proofs.TestFacts.{ltb-false}
 use Rattle.relaxation.specs.declared.Edge.{Edge}
-use Rattle.relaxation.specs.Column.{column, Frame, settled}
+use Rattle.relaxation.specs.Column.{Room, column, Frame, settled}
 use Rattle.relaxation.specs.Edges.{edgeGraph, Joined, throughEdge, improve, improveEdge, visited, swept, startOf, starts, started}
 use Rattle.relaxation.proofs.ColumnLaws.{column-at, column-ext, column-store, frame-store, frame-refl, frame-trans, frame-keeps}
 
@@ -59,7 +59,7 @@ improve-fits true x t h = go (ltb t x)
 -- ---- frames and columns
 
 -- a column that lies outside is kept
-pub frame-column : (c b m n : ℕ) (w v : List ℕ) → Frame b m n w v → c + 64 * n ≤ length v + 62 → ((b + m ≤ c) × (c + 2 ≤ b + 64)) ⊎ ((c + 2 ≤ b) × (b + m ≤ c + 64))
+pub frame-column : (c b m n : ℕ) (w v : List ℕ) → Frame b m n w v → Room c 2 n v → ((b + m ≤ c) × (c + 2 ≤ b + 64)) ⊎ ((c + 2 ≤ b) × (b + m ≤ c + 64))
     → column c n w ≡ column c n v
 frame-column c b m n w v f l (inl h) =
     column-ext c n c w v (λ q k. frame-keeps b m n w v f (c + 64 * q) (omega arith) (inr (inr (omega arith))) (inr (inr (omega arith))))
@@ -93,15 +93,15 @@ frame-wider a m b k n w v f h l u = record { same-length = f .same-length; same 
 -- ---- one edge, and several
 
 module _ (d : Bool) (at n : ℕ) where
-  visited-bytes : (e : Edge) (w : List ℕ) → e .source < n → at + 64 * n ≤ length w + 60 → Bytes w → Bytes (visited d at e w)
+  visited-bytes : (e : Edge) (w : List ℕ) → e .source < n → Room at 4 n w → Bytes w → Bytes (visited d at e w)
   unfolding visited
   visited-bytes e w h l b = bytes-store (at + 2 + 64 * e .source) _ w b (omega arith)
 
-  visited-frame : (e : Edge) (w : List ℕ) → e .source < n → at + 64 * n ≤ length w + 60 → Frame (at + 2) 2 n (visited d at e w) w
+  visited-frame : (e : Edge) (w : List ℕ) → e .source < n → Room at 4 n w → Frame (at + 2) 2 n (visited d at e w) w
   unfolding visited
   visited-frame e w h l = frame-store (at + 2) n (e .source) _ w h (omega arith)
 
-  visited-column : (gs : List Edge) (e : Edge) (w : List ℕ) → e .source < n → e .target < n → at + 64 * n ≤ length w + 60 → Bytes w
+  visited-column : (gs : List Edge) (e : Edge) (w : List ℕ) → e .source < n → e .target < n → Room at 4 n w → Bytes w
       → column (at + 2) n (visited d at e w) ≡ visit (edgeGraph gs) missing (improveEdge d) (column at n w) (column (at + 2) n w) e
   unfolding visited
   visited-column gs e w h k l b =
@@ -110,7 +110,7 @@ module _ (d : Bool) (at n : ℕ) where
       column-store (at + 2) n (e .source) _ w h (omega arith) (improve-fits d x _ f)
       ∙ (rw (column-at (at + 2) n w (e .source) missing h, column-at at n w (e .target) missing k) refl)
 
-  pub swept-frame : (es : List Edge) (w : List ℕ) → Joined n es → at + 64 * n ≤ length w + 60 → Frame (at + 2) 2 n (swept d at es w) w
+  pub swept-frame : (es : List Edge) (w : List ℕ) → Joined n es → Room at 4 n w → Frame (at + 2) 2 n (swept d at es w) w
   unfolding swept Joined
   swept-frame [] w j l = frame-refl (at + 2) 2 n w
   swept-frame (e ∷ es) w j l =
@@ -118,7 +118,7 @@ module _ (d : Bool) (at n : ℕ) where
       let g : length (visited d at e w) ≡ length w = f .same-length in
       frame-trans (at + 2) 2 n _ (visited d at e w) w (swept-frame es (visited d at e w) (j .2) (omega arith)) f
 
-  pub swept-column : (gs es : List Edge) (w : List ℕ) → Joined n es → at + 64 * n ≤ length w + 60 → Bytes w
+  pub swept-column : (gs es : List Edge) (w : List ℕ) → Joined n es → Room at 4 n w → Bytes w
       → column (at + 2) n (swept d at es w) ≡ sweep (edgeGraph gs) missing (improveEdge d) (column at n w) (column (at + 2) n w) es
   unfolding swept Joined
   swept-column gs [] w j l b = refl
@@ -144,10 +144,10 @@ frame-suc at m n w v f = record { same-length = f .same-length; same = go }
         near false e = let j : at + 64 ≤ i = ltb-false e in f .same i (inr (inr (omega arith)))
 
 -- a store to the first entry
-frame-first : (at n x : ℕ) (w : List ℕ) → at + 64 * suc n ≤ length w + 62 → Frame at 2 (suc n) (splice at (toLe 2 x) w) w
+frame-first : (at n x : ℕ) (w : List ℕ) → Room at 2 (suc n) w → Frame at 2 (suc n) (splice at (toLe 2 x) w) w
 frame-first at n x w l = let e : at + 64 * 0 ≡ at = omega arith in rw e at (frame-store at (suc n) 0 x w (omega arith) l)
 
-pub settled-frame : (at n : ℕ) (w : List ℕ) → at + 64 * n ≤ length w + 60 → Frame at 2 n (settled at n w) w
+pub settled-frame : (at n : ℕ) (w : List ℕ) → Room at 4 n w → Frame at 2 n (settled at n w) w
 unfolding settled
 settled-frame at zero w l = frame-refl at 2 0 w
 settled-frame at (suc n) w l =
@@ -157,7 +157,7 @@ settled-frame at (suc n) w l =
     let e : length w2 ≡ length w = f .same-length in
     frame-trans at 2 (suc n) _ w2 w (frame-suc at 2 n _ w2 (settled-frame (at + 64) n w2 (omega arith))) f
 
-pub settled-column : (at n : ℕ) (w : List ℕ) → at + 64 * n ≤ length w + 60 → Bytes w → column at n (settled at n w) ≡ column (at + 2) n w
+pub settled-column : (at n : ℕ) (w : List ℕ) → Room at 4 n w → Bytes w → column at n (settled at n w) ≡ column (at + 2) n w
 unfolding settled column
 settled-column at zero w l b = refl
 settled-column at (suc n) w l b =
@@ -178,7 +178,7 @@ settled-column at (suc n) w l b =
 -- ---- the delays that the states start with
 
 -- two stores to the first entries, old and new
-first-two : (at n x : ℕ) (w : List ℕ) → at + 64 * suc n ≤ length w + 60 → Frame at 4 (suc n) (splice (at + 2) (toLe 2 x) (splice at (toLe 2 x) w)) w
+first-two : (at n x : ℕ) (w : List ℕ) → Room at 4 (suc n) w → Frame at 4 (suc n) (splice (at + 2) (toLe 2 x) (splice at (toLe 2 x) w)) w
 first-two at n x w l =
     let f = frame-first at n x w (omega arith) in
     let e : length (splice at (toLe 2 x) w) ≡ length w = f .same-length in
@@ -186,7 +186,7 @@ first-two at n x w l =
     frame-trans at 4 (suc n) _ (splice at (toLe 2 x) w) w
     (frame-wider (at + 2) 2 at 4 (suc n) _ _ g (omega arith) (omega arith) (omega arith)) (frame-wider at 2 at 4 (suc n) _ _ f (omega arith) (omega arith) (omega arith))
 
-pub started-frame : (at from n : ℕ) (bytes w : List ℕ) → at + 64 * n ≤ length w + 60 → Frame at 4 n (started at from n bytes w) w
+pub started-frame : (at from n : ℕ) (bytes w : List ℕ) → Room at 4 n w → Frame at 4 n (started at from n bytes w) w
 unfolding started
 started-frame at from zero bytes w l = frame-refl at 4 0 w
 started-frame at from (suc n) bytes w l =
@@ -204,7 +204,7 @@ start-fits b = go (eqb b 0)
     go false = omega arith
 
 -- both columns hold them
-pub started-column : (at from n : ℕ) (bytes w : List ℕ) → at + 64 * n ≤ length w + 60
+pub started-column : (at from n : ℕ) (bytes w : List ℕ) → Room at 4 n w
     → (column at n (started at from n bytes w) ≡ starts from n bytes) × (column (at + 2) n (started at from n bytes w) ≡ starts from n bytes)
 unfolding started starts column
 started-column at from zero bytes w l = (refl, refl)

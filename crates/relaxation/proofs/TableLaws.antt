@@ -12,13 +12,14 @@ use Rattle.memory.specs.Region.{part}
 use Rattle.memory.specs.Endian.{le}
 use Rattle.automata.specs.Lists.{if, isSome}
 use Rattle.automata.specs.Graph.{Graph}
-use Rattle.automata.specs.Rounds.{iterate, visit, sweep, round}
+use Rattle.automata.specs.Rounds.{visit, sweep, round}
 use Rattle.automata.specs.Automaton.{Automaton, Arc, State, labelOn, graph, size}
 use Rattle.automata.specs.Closing.{origin, missing, startDelays, relax, diverge, relaxed, leastDelays}
 use Rattle.automata.specs.Lists.{All}
 use Rattle.automata.specs.Table.{WellFormed, WellFormedArc}
 use Rattle.automata.specs.Memory.{Memory, Holds, flag}
 use Rattle.automata.proofs.RecordFacts.{All-at}
+use Rattle.automata.proofs.RoundFacts.{iterate-same}
 use Rattle.automata.proofs.MemoryLaws.{arc-field, label-field, state-field}
 use Rattle.relaxation.specs.declared.Edge.{Edge}
 use Rattle.relaxation.specs.Edges.{edgeAt, edges, edgeGraph, Joined, improveEdge, roundOf, roundsOf, startOf, starts, leastOf}
@@ -141,10 +142,6 @@ module _ (G : Graph (Arc ℕ)) (gs : List Edge) (i j : ℕ) where
       ≡ sweep (record { source = λ a. a .source; target = λ a. a .target; arcs = G .arcs }) missing (diverge i j) old new rs
   diverge-sweep old new [] = refl
   diverge-sweep old new (a ∷ rs) = diverge-sweep old _ rs
-
-iterate-same : {X : Type 0} (f g : X → X) → ((x : X) → f x ≡ g x) → (n : ℕ) (x : X) → iterate n f x ≡ iterate n g x
-iterate-same f g e zero x = refl
-iterate-same f g e (suc n) x = e (iterate n f x) ∙ ap g (iterate-same f g e n x)
 
 -- the rounds are those of the definition
 pub relaxed-are : (t : Automaton ℕ) (i j n : ℕ) → roundsOf false (map (edgeOf i j) (t .arcs)) n (startDelays t) ≡ relaxed t i j n

@@ -12,6 +12,10 @@ unfoldable pub column : ℕ → ℕ → List ℕ → List ℕ
 column at zero w = []
 column at (suc n) w = le (part at 2 w) ∷ column (at + 64) n w
 
+-- the first m bytes from place at, and from each 64 bytes further on, n times, lie in w
+abbrev pub Room : ℕ → ℕ → ℕ → List ℕ → Type 0
+Room at m n w = at + 64 * n + m ≤ length w + 64
+
 -- place i lies outside the first m bytes from place at, and from each 64 bytes further on, n times
 abbrev pub Outside : ℕ → ℕ → ℕ → ℕ → Type 0
 Outside at m n i = (i < at) ⊎ ((at + 64 * n ≤ i) ⊎ (m ≤ (i - at) % 64))

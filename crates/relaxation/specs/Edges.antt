@@ -1,9 +1,9 @@
 -- The arcs as relaxation reads them: source, target, and the lengths of the labels on two tapes.
-use Prim.Native.Nat.{ℕ, zero, suc, _+_, _-_, _*_, _<_, min}
+use Prim.Native.Nat.{ℕ, zero, suc, _+_, _-_, _*_, _<_, _≤_, min}
 use mathlib.Core.Bool.{Bool, true, false}
 use mathlib.Core.List.{List, [], _∷_}
 use lib.Dec.{eqb, ltb}
-use lib.ListN.{getD}
+use lib.ListN.{length, getD}
 use Rattle.memory.specs.Region.{part, splice}
 use Rattle.memory.specs.Endian.{le, toLe}
 use mathlib.Core.Path.{_≡_}
@@ -35,6 +35,19 @@ edgeGraph es = record { source = λ e. e .source; target = λ e. e .target; arcs
 unfoldable pub Joined : ℕ → List Edge → Type 0
 Joined n [] = Unit {0}
 Joined n (e ∷ es) = (e .source < n) × (e .target < n) × Joined n es
+
+-- what a round on two tapes asks of the arc records: they are wholly lent, the tapes are of eight, and the arcs join n states
+pub record ReadableArcs (n : ℕ) (arcs : List ℕ) (count first second : ℕ) : Type 0 where
+  pub lent : 80 * count ≤ length arcs
+  pub first-tape : first < 8
+  pub second-tape : second < 8
+  pub joined : Joined n (edges first second 0 count arcs)
+
+-- what relaxation asks of a table: the records of n states and of the arcs are wholly lent, and the arcs join these states
+pub record Readable (bytes : List ℕ) (n : ℕ) (arcs : List ℕ) (count : ℕ) : Type 0 where
+  pub states-lent : 10 * n ≤ length bytes
+  pub arcs-lent : 80 * count ≤ length arcs
+  pub joined : Joined n (edges 0 0 0 count arcs)
 
 -- the least delay through an edge, v being the one from its target on
 abbrev pub throughEdge : ℕ → ℕ → ℕ → ℕ

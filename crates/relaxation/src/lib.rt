@@ -5,8 +5,8 @@ ghost use mathlib.Core.Path.{_≡_};
 ghost use Prim.Native.Nat.{ℕ, _+_, _*_, _≤_, _<_};
 ghost use lib.ListN.{length};
 ghost use Rattle.automata.specs.Lists.{sameList};
-ghost use Rattle.relaxation.specs.Column.{column, Frame, settled};
-ghost use Rattle.relaxation.specs.Edges.{edgeAt, edges, Joined, throughEdge, improve, visited, swept, startOf, started, Rounded, Both, roundsOf, leastOf};
+ghost use Rattle.relaxation.specs.Column.{column, Room, settled};
+ghost use Rattle.relaxation.specs.Edges.{edgeAt, edges, Readable, ReadableArcs, throughEdge, improve, visited, swept, startOf, started, Rounded, Both, roundsOf, leastOf};
 
 // An arc as relaxation reads it: its states, and the lengths of its labels on two tapes.
 pub struct Edge {
@@ -87,7 +87,7 @@ fn sweep_arcs(
     states: usize,
     diverging: bool,
 )
-    requires { ⌜ (80 * count ≤ length (now arcs)) × (first < 8) × (second < 8) × (at + 64 * states ≤ length (now work) + 60) × Joined states (edges first second 0 count (now arcs)) ⌝ }
+    requires { ⌜ ReadableArcs states (now arcs) count first second × Room at 4 states (now work) ⌝ }
     ensures { λ _. ⌜ now (work .exit) ≡ swept diverging at (edges first second 0 count (now (arcs .entry))) (now (work .entry)) ⌝ }
 {
     let mut left = count;
@@ -102,7 +102,7 @@ fn sweep_arcs(
 
 // Whether the old and the new delays are equal.
 fn stable(work: &[u8], at: usize, states: usize) -> bool
-    requires { ⌜ at + 64 * states ≤ length (now work) + 60 ⌝ }
+    requires { ⌜ Room at 4 states (now work) ⌝ }
     ensures { λ r. ⌜ r ≡ sameList (column at states (now (work .entry))) (column (at + 2) states (now (work .entry))) ⌝ }
 {
     let mut left = states;
@@ -119,7 +119,7 @@ fn stable(work: &[u8], at: usize, states: usize) -> bool
 
 // The new delays copied over the old ones.
 fn settle(work: &mut [u8], at: usize, states: usize)
-    requires { ⌜ at + 64 * states ≤ length (now work) + 60 ⌝ }
+    requires { ⌜ Room at 4 states (now work) ⌝ }
     ensures { λ _. ⌜ now (work .exit) ≡ settled at states (now (work .entry)) ⌝ }
 {
     let mut left = states;
@@ -141,7 +141,7 @@ fn start_delay(flag: u8) -> u16
 
 // The delays of the empty run, old and new.
 pub fn start_delays(bytes: &[u8], states: usize, work: &mut [u8], at: usize)
-    requires { ⌜ (10 * states ≤ length (now bytes)) × (at + 64 * states ≤ length (now work) + 60) ⌝ }
+    requires { ⌜ (10 * states ≤ length (now bytes)) × Room at 4 states (now work) ⌝ }
     ensures { λ _. ⌜ now (work .exit) ≡ started at 0 states (now (bytes .entry)) (now (work .entry)) ⌝ }
 {
     let mut left = states;
@@ -168,7 +168,7 @@ fn round_arcs(
     states: usize,
     diverging: bool,
 ) -> bool
-    requires { ⌜ (80 * count ≤ length (now arcs)) × (first < 8) × (second < 8) × (at + 64 * states ≤ length (now work) + 60) × Joined states (edges first second 0 count (now arcs)) × (column (at + 2) states (now work) ≡ column at states (now work)) ⌝ }
+    requires { ⌜ ReadableArcs states (now arcs) count first second × Room at 4 states (now work) × (column (at + 2) states (now work) ≡ column at states (now work)) ⌝ }
     ensures { λ r. ⌜ Rounded diverging (edges first second 0 count (now (arcs .entry))) at states r (now (work .exit)) (now (work .entry)) ⌝ }
 {
     sweep_arcs(arcs, count, first, second, work, at, states, diverging);
@@ -188,7 +188,7 @@ pub fn run_rounds(
     states: usize,
     diverging: bool,
 )
-    requires { ⌜ (80 * count ≤ length (now arcs)) × (first < 8) × (second < 8) × (at + 64 * states ≤ length (now work) + 60) × Joined states (edges first second 0 count (now arcs)) × (column (at + 2) states (now work) ≡ column at states (now work)) ⌝ }
+    requires { ⌜ ReadableArcs states (now arcs) count first second × Room at 4 states (now work) × (column (at + 2) states (now work) ≡ column at states (now work)) ⌝ }
     ensures { λ _. ⌜ Both at states (roundsOf diverging (edges first second 0 count (now (arcs .entry))) states (column at states (now (work .entry)))) (now (work .exit)) (now (work .entry)) ⌝ }
 {
     let mut left = states;
@@ -211,7 +211,7 @@ pub fn least_delays(
     work: &mut [u8],
     at: usize,
 )
-    requires { ⌜ (10 * states ≤ length (now bytes)) × (80 * count ≤ length (now arcs)) × (first < 8) × (second < 8) × (at + 64 * states ≤ length (now work) + 60) × Joined states (edges first second 0 count (now arcs)) ⌝ }
+    requires { ⌜ Readable (now bytes) states (now arcs) count × (first < 8) × (second < 8) × Room at 4 states (now work) ⌝ }
     ensures { λ _. ⌜ Both at states (leastOf (edges first second 0 count (now (arcs .entry))) states (now (bytes .entry))) (now (work .exit)) (now (work .entry)) ⌝ }
 {
     start_delays(bytes, states, work, at);

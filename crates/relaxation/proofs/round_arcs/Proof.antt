@@ -23,7 +23,7 @@ same-length : tie.Need-same-length
 same-length c = search needs
 
 returns : tie.Need-returns
-returns c = let s = c .before .before .before .before .before .before .before .before .before .before .before .before .pre in rounded _ _ _ _ _ _ _ _ (s .4) (s .3) (λ i. omega (arith, c .before .before .before .before .before .before .before .before .before .before .slice-known .given i)) (λ i. omega (arith, c .before .before .before .before .before .before .slice-known2 .given i)) (s .5) (c .before .before .before .before .before .before .before .before .sweep-arcs .ensures) (c .before .before .before .before .stable .ensures) (c .before .before .settle .ensures)
+returns c = let s = c .before .before .before .before .before .before .before .before .before .before .before .before .pre in rounded _ _ _ _ _ _ _ _ (s .0 .joined) (s .1) (λ i. omega (arith, c .before .before .before .before .before .before .before .before .before .before .slice-known .given i)) (λ i. omega (arith, c .before .before .before .before .before .before .slice-known2 .given i)) (s .2) (c .before .before .before .before .before .before .before .before .sweep-arcs .ensures) (c .before .before .before .before .stable .ensures) (c .before .before .settle .ensures)
 
 pub round-arcs-spec : {M : Type 1} → statement M
 round-arcs-spec =

@@ -25,10 +25,10 @@ abbrev μ-loop : tie.MeasureT-loop
 μ-loop arcs count first second work₀ at states diverging left₀ work left = left
 
 loop-holds : tie.Need-loop-holds Inv-loop μ-loop
-loop-holds c = (refl, c .before .before .pre .5, refl, frame-refl _ _ _ _)
+loop-holds c = (refl, c .before .before .pre .2, refl, frame-refl _ _ _ _)
 
 round-arcs-requires : tie.Need-round-arcs-requires Inv-loop μ-loop
-round-arcs-requires c κs = let s = c .before .before .before .before .before .pre in let l = c .before .before .loop in (s .0, s .1, s .2, omega (arith, s .3, l .inv .0), s .4, l .inv .1)
+round-arcs-requires c κs = let s = c .before .before .before .before .before .pre in let l = c .before .before .loop in (s .0, omega (arith, s .1, l .inv .0), l .inv .1)
 
 same-length : tie.Need-same-length Inv-loop μ-loop
 same-length c = search needs

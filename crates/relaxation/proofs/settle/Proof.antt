@@ -1,6 +1,6 @@
 -- `relaxation::settle` meets its contract. Assumes nothing.
 use Rattle.relaxation.proofs.RunLaws.{settled-turn, settled-end}
-use Rattle.relaxation.specs.Column.{settled}
+use Rattle.relaxation.specs.Column.{Room, settled}
 use lib.ListN.{length}
 use native.Mathlib.Omega.{arith}
 use Prim.Native.Nat.{_+_, _-_, _*_, _≤_}
@@ -15,7 +15,7 @@ use Rattle.memory.proofs.bytes.put16.Reads as put16-reads
 
 abbrev Inv-loop : tie.InvT-loop
 Inv-loop work₀ at states left₀ from₀ work left from =
-    (from + 64 * left ≤ length work + 60) × (length work ≡ length work₀) × (settled from left work ≡ settled at states work₀)
+    (Room from 4 left work) × (length work ≡ length work₀) × (settled from left work ≡ settled at states work₀)
 
 abbrev μ-loop : tie.MeasureT-loop
 μ-loop work₀ at states left₀ from₀ work left from = left

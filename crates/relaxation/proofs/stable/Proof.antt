@@ -1,6 +1,6 @@
 -- `relaxation::stable` meets its contract. Assumes nothing.
 use Rattle.relaxation.proofs.RunLaws.{same-turn, same-not, same-end}
-use Rattle.relaxation.specs.Column.{column}
+use Rattle.relaxation.specs.Column.{Room, column}
 use Rattle.automata.specs.Lists.{sameList}
 use lib.ListN.{length}
 use native.Mathlib.Omega.{arith}
@@ -15,7 +15,7 @@ use Rattle.memory.proofs.bytes.get16.Reads as get16-reads
 
 abbrev Inv-loop : tie.InvT-loop
 Inv-loop work at states left₀ from₀ left from =
-    (from + 64 * left ≤ length work + 60)
+    (Room from 4 left work)
     × (sameList (column from left work) (column (from + 2) left work) ≡ sameList (column at states work) (column (at + 2) states work))
 
 abbrev μ-loop : tie.MeasureT-loop

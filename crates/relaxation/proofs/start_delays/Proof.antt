@@ -1,5 +1,6 @@
 -- `relaxation::start_delays` meets its contract. Assumes nothing.
 use Rattle.relaxation.proofs.RunLaws.{started-turn, started-end}
+use Rattle.relaxation.specs.Column.{Room}
 use Rattle.relaxation.specs.Edges.{started}
 use lib.ListN.{length}
 use native.Mathlib.Omega.{arith}
@@ -15,7 +16,7 @@ use Rattle.memory.proofs.bytes.put16.Reads as put16-reads
 
 abbrev Inv-loop : tie.InvT-loop
 Inv-loop bytes states work₀ at left₀ from₀ to₀ work left from to =
-    (from + 10 * left ≤ length bytes) × (to + 64 * left ≤ length work + 60) × (length work ≡ length work₀)
+    (from + 10 * left ≤ length bytes) × (Room to 4 left work) × (length work ≡ length work₀)
     × (started to from left bytes work ≡ started at 0 states bytes work₀)
 
 abbrev μ-loop : tie.MeasureT-loop

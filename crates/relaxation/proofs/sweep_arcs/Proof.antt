@@ -22,7 +22,7 @@ abbrev μ-loop : tie.MeasureT-loop
 μ-loop arcs count first second work₀ at states diverging left₀ from₀ work left from = left
 
 loop-holds : tie.Need-loop-holds Inv-loop μ-loop
-loop-holds c = (search needs, search needs, c .before .before .pre .4, refl)
+loop-holds c = (search needs, search needs, c .before .before .pre .0 .joined, refl)
 
 edge-at-requires : tie.Need-edge-at-requires Inv-loop μ-loop
 edge-at-requires c κs = search needs
@@ -31,7 +31,7 @@ visit-edge-requires : tie.Need-visit-edge-requires Inv-loop μ-loop
 visit-edge-requires c κs =
     let l = c .before .before .before .loop in
     let j = joined-turn _ _ _ _ (l .left) (l .left - 1) _ _ (omega (arith, c .before .before .loop-test .taken)) (c .before .edge-at .ensures) (l .inv .2) in
-    let p = c .before .before .before .before .before .before .pre .3 in
+    let p = c .before .before .before .before .before .before .pre .1 in
     omega (arith, j .0, j .1, p, l .inv .1)
 
 add-from : tie.Need-add-from Inv-loop μ-loop
