@@ -13,22 +13,16 @@ use Rattle.memory.specs.Endian.{le}
 use Rattle.automata.specs.Lists.{and, or}
 use Rattle.automata.specs.Closing.{withDelay≤}
 use Rattle.automata.proofs.TestFacts.{eqb-false}
-use Rattle.relaxation.specs.declared.Edge.{Edge}
-use Rattle.delays.specs.declared.Pair.{Pair}
-use Rattle.relaxation.specs.Column.{column, Frame}
-use Rattle.relaxation.specs.Edges.{edges, Joined, Both, roundsOf, starts, leastOf}
-use Rattle.delays.specs.Region.{noPair, PairClosed, ClosesPair, reachingOf, closableAt, closableFrom, viableAt}
+use Rattle.delays.specs.declared.pair.Pair.{Pair}
+use Rattle.relaxation.specs.Column.{column, Room, Frame}
+use Rattle.relaxation.specs.Edges.{edges, Both, roundsOf, starts, leastOf}
+use Rattle.delays.specs.Pairs.{noPair}
+use Rattle.delays.specs.ClosingRegion.{PairClosed, ClosesPair, reachingOf, closableAt, closableFrom, viableAt}
 use Rattle.relaxation.proofs.ColumnLaws.{frame-trans}
 use Rattle.relaxation.proofs.SweepLaws.{frame-column, frame-wider}
 
--- which states the edges join does not depend on the tapes
-pub joined-any : (n i j at k : ℕ) (arcs : List ℕ) → Joined n (edges 0 0 at k arcs) → Joined n (edges i j at k arcs)
-unfolding Joined edges
-joined-any n i j at zero arcs g = tt
-joined-any n i j at (suc k) arcs g = (g .0, g .1, joined-any n i j (at + 80) k arcs (g .2))
-
 -- one pair
-pub closes-pair : (bytes : List ℕ) (n : ℕ) (arcs : List ℕ) (count : ℕ) (p : Pair) (at : ℕ) (v u w : List ℕ) → at + 64 * n ≤ length u + 56
+pub closes-pair : (bytes : List ℕ) (n : ℕ) (arcs : List ℕ) (count : ℕ) (p : Pair) (at : ℕ) (v u w : List ℕ) → Room at 8 n u
     → Both at n (leastOf (edges (p .first - 1) (p .second - 1) 0 count arcs) n bytes) u v
     → Both (at + 4) n (leastOf (edges (p .second - 1) (p .first - 1) 0 count arcs) n bytes) w u → ClosesPair bytes n arcs count p at w v
 closes-pair bytes n arcs count p at v u w l a b = record {
@@ -44,7 +38,7 @@ closes-pair bytes n arcs count p at v u w l a b = record {
 }
 
 -- one pair more
-pub pairs-turn : (bytes : List ℕ) (n : ℕ) (arcs : List ℕ) (count : ℕ) (ps : List Pair) (p : Pair) (base h : ℕ) (v u w : List ℕ) → h < 4 → base + 64 * n ≤ length u + 32
+pub pairs-turn : (bytes : List ℕ) (n : ℕ) (arcs : List ℕ) (count : ℕ) (ps : List Pair) (p : Pair) (base h : ℕ) (v u w : List ℕ) → h < 4 → Room base 32 n u
     → ((k : ℕ) → k < h → PairClosed bytes n arcs count (getD ps k noPair) (base + 8 * k) u) → Frame base (8 * h) n u v
     → p ≡ getD ps h noPair → ClosesPair bytes n arcs count p (base + 8 * h) w u
     → ((k : ℕ) → k < h + 1 → PairClosed bytes n arcs count (getD ps k noPair) (base + 8 * k) w) × Frame base (8 * (h + 1)) n w v

@@ -1,33 +1,36 @@
 // The closing delays of all pairs in a region of the work space, and the test for viable configurations that reads them.
+pub mod pair;
+
+use crate::pair::Pair;
+use crate::pair::PairList;
+use memory::answer::Counts;
+use memory::bytes::get16;
+use memory::record::InputState;
 use relaxation::least_delays;
 use relaxation::run_rounds;
 use relaxation::start_delays;
-use memory::bytes::get16;
 ghost use mathlib.Core.Path.{_≡_};
-ghost use Prim.Native.Nat.{ℕ, _+_, _*_, _≤_, _<_};
+ghost use Prim.Native.Nat.{_+_, _*_, _≤_, _<_};
 ghost use lib.ListN.{length, getD};
-ghost use Rattle.automata.specs.Automaton.{Automaton};
 ghost use Rattle.automata.specs.Closing.{withDelay≤};
-ghost use Rattle.relaxation.specs.Edges.{edges, Joined, Both};
-ghost use Rattle.delays.specs.Region.{Named, noPair, ClosesPair, ClosesPairs, reachingOf, closableAt, viableAt, Stands, NameTapes, WritesClosing, Tests};
-
-// A pair of tapes, counted from 1.
-pub struct Pair {
-    pub first: u8,
-    pub second: u8,
-}
+ghost use Rattle.automata.specs.Memory.{Sound};
+ghost use Rattle.memory.specs.Answers.{lent};
+ghost use Rattle.relaxation.specs.Column.{Room};
+ghost use Rattle.relaxation.specs.Edges.{Readable, Both};
+ghost use Rattle.delays.specs.Pairs.{Named, Within, noPair};
+ghost use Rattle.delays.specs.ClosingRegion.{ClosesPair, ClosesPairs, reachingOf, closableAt, viableAt, WritesClosing, Tests};
 
 // The closing delays of a pair: the least, and the least of the pair turned round.
 fn close_pair(
     bytes: &[u8],
-    states: u16,
+    states: usize,
     arcs: &[u8],
-    count: u16,
+    count: usize,
     p: Pair,
     work: &mut [u8],
     at: usize,
 )
-    requires { ⌜ (10 * states ≤ length (now bytes)) × (80 * count ≤ length (now arcs)) × Named p × (at + 64 * states ≤ length (now work) + 56) × Joined states (edges 0 0 0 count (now arcs)) ⌝ }
+    requires { ⌜ Readable (now bytes) states (now arcs) count × Within 8 p × Room at 8 states (now work) ⌝ }
     ensures { λ _. ⌜ ClosesPair (now (bytes .entry)) states (now (arcs .entry)) count p at (now (work .exit)) (now (work .entry)) ⌝ }
 {
     let first = p.first as usize - 1;
@@ -39,15 +42,15 @@ fn close_pair(
 // The closing delays of the first `used` pairs.
 fn close_pairs(
     bytes: &[u8],
-    states: u16,
+    states: usize,
     arcs: &[u8],
-    count: u16,
+    count: usize,
     pairs: [Pair; 4],
     used: usize,
     work: &mut [u8],
     base: usize,
 )
-    requires { ⌜ (10 * states ≤ length (now bytes)) × (80 * count ≤ length (now arcs)) × (used ≤ 4) × ((h : _) → h < used → Named (getD pairs h noPair)) × (base + 64 * states ≤ length (now work) + 32) × Joined states (edges 0 0 0 count (now arcs)) ⌝ }
+    requires { ⌜ Readable (now bytes) states (now arcs) count × (used ≤ 4) × ((h : _) → h < used → Within 8 (getD pairs h noPair)) × Room base 32 states (now work) ⌝ }
     ensures { λ _. ⌜ ClosesPairs (now (bytes .entry)) states (now (arcs .entry)) count pairs used base (now (work .exit)) (now (work .entry)) ⌝ }
 {
     let mut h: usize = 0;
@@ -59,8 +62,8 @@ fn close_pairs(
 }
 
 // Which states reach a final one: relaxation on one tape taken twice, where every delay is none or missing.
-fn mark_reaching(bytes: &[u8], states: u16, arcs: &[u8], count: u16, work: &mut [u8], at: usize)
-    requires { ⌜ (10 * states ≤ length (now bytes)) × (80 * count ≤ length (now arcs)) × (at + 64 * states ≤ length (now work) + 60) × Joined states (edges 0 0 0 count (now arcs)) ⌝ }
+fn mark_reaching(bytes: &[u8], states: usize, arcs: &[u8], count: usize, work: &mut [u8], at: usize)
+    requires { ⌜ Readable (now bytes) states (now arcs) count × Room at 4 states (now work) ⌝ }
     ensures { λ _. ⌜ Both at states (reachingOf (now (bytes .entry)) states (now (arcs .entry)) count) (now (work .exit)) (now (work .entry)) ⌝ }
 {
     start_delays(bytes, states, work, at);
@@ -108,35 +111,34 @@ pub fn viable_at(work: &[u8], at: usize, used: usize, firsts: [u8; 4], seconds: 
     true
 }
 
-// The closing tables of the table in `bytes` and `arcs`, for the first `used` pairs, in the region of 64 bytes a state from `base`.
+// The closing tables of the lent table for the pairs, in the region of 64 bytes a state from `base`.
 pub fn closing_tables(
-    bytes: &[u8],
-    states: u16,
+    counts: Counts,
+    states: &[u8],
     arcs: &[u8],
-    count: u16,
-    pairs: [Pair; 4],
-    used: usize,
+    pairs: PairList,
     work: &mut [u8],
     base: usize,
 )
-    requires { ⌜ (used ≤ 4) × (base + 64 * states ≤ length (now work)) × ((t : Automaton ℕ) × Stands t (now bytes) states (now arcs) count × NameTapes (t .tapes) used pairs) ⌝ }
-    ensures { λ _. ⌜ WritesClosing (now (bytes .entry)) states (now (arcs .entry)) count pairs used base (now (work .exit)) (now (work .entry)) ⌝ }
+    requires { ⌜ Sound (lent counts (now states) (now arcs)) × (base + 64 * counts .states ≤ length (now work)) × Named (counts .tapes) pairs ⌝ }
+    ensures { λ _. ⌜ WritesClosing (lent counts (now (states .entry)) (now (arcs .entry))) pairs base (now (work .exit)) (now (work .entry)) ⌝ }
 {
-    mark_reaching(bytes, states, arcs, count, work, base + 32);
-    close_pairs(bytes, states, arcs, count, pairs, used, work, base);
+    mark_reaching(states, counts.states, arcs, counts.arcs, work, base + 32);
+    let list = pairs.pairs;
+    close_pairs(states, counts.states, arcs, counts.arcs, list, pairs.used, work, base);
 }
 
-// Whether a configuration with the state `q` and leftovers of these lengths is viable, by the closing tables in the region from `base`.
+// Whether a configuration with this state and leftovers of these lengths is viable, by the closing tables in the region from `base`.
 pub fn viable(
     work: &[u8],
     base: usize,
-    q: u16,
+    state: InputState,
     used: usize,
     firsts: [u8; 4],
     seconds: [u8; 4],
 ) -> bool
-    requires { ⌜ (used ≤ 4) × (base + 64 * q + 64 ≤ length (now work)) ⌝ }
-    ensures { λ r. ⌜ Tests base q used firsts seconds (now (work .entry)) r ⌝ }
+    requires { ⌜ (used ≤ 4) × (base + 64 * state .0 + 64 ≤ length (now work)) ⌝ }
+    ensures { λ r. ⌜ Tests base (state .0) used firsts seconds (now (work .entry)) r ⌝ }
 {
-    viable_at(work, base + 64 * q as usize, used, firsts, seconds)
+    viable_at(work, base + 64 * state.0 as usize, used, firsts, seconds)
 }

@@ -6,7 +6,7 @@ use mathlib.Core.Option.{Option, none, some}
 use mathlib.Core.List.{List, [], _∷_, map}
 use native.Mathlib.Omega.{arith}
 use lib.Dec.{eqb}
-use lib.ListN.{length, getD, take, drop}
+use lib.ListN.{length, length-map, getD, take, drop}
 use lib.Seq.{ext-getD, getD-take, getD-drop}
 use Rattle.memory.specs.Region.{part}
 use Rattle.memory.specs.Endian.{le}
@@ -28,14 +28,11 @@ use Rattle.relaxation.specs.Edges.{edgeAt, edges, edgeGraph, Joined, imp
 abbrev pub edgeOf : ℕ → ℕ → Arc ℕ → Edge
 edgeOf i j a = record { source = a .source; target = a .target; up = length (labelOn i a); down = length (labelOn j a) }
 
+-- one element of a mapped list
 map-at : {X Y : Type 0} (f : X → Y) (xs : List X) (k : ℕ) (x : X) (y : Y) → k < length xs → getD (map f xs) k y ≡ f (getD xs k x)
 map-at f [] k x y h = absurd (omega arith)
 map-at f (z ∷ xs) zero x y h = refl
 map-at f (z ∷ xs) (suc k) x y h = map-at f xs k x y (omega arith)
-
-map-length : {X Y : Type 0} (f : X → Y) (xs : List X) → length (map f xs) ≡ length xs
-map-length f [] = refl
-map-length f (z ∷ xs) = ap suc (map-length f xs)
 
 length-edges : (i j at n : ℕ) (arcs : List ℕ) → length (edges i j at n arcs) ≡ n
 unfolding edges
@@ -104,7 +101,7 @@ module _ (m : Memory) (t : Automaton ℕ) (w : WellFormed t) (h : Holds m t) whe
   edges-are i j a b =
       let d = edgeOf i j noArc in
       let n = length-edges i j 0 (m .arcs) (m .arcBytes) in
-      ext-getD d (edges i j 0 (m .arcs) (m .arcBytes)) (map (edgeOf i j) (t .arcs)) (n ∙ h .arcs ∙ sym (map-length (edgeOf i j) (t .arcs)))
+      ext-getD d (edges i j 0 (m .arcs) (m .arcBytes)) (map (edgeOf i j) (t .arcs)) (n ∙ h .arcs ∙ sym (length-map (t .arcs) (edgeOf i j)))
       (λ k l.
       let c : k < m .arcs = omega (arith, n) in
       edges-at i j 0 (m .arcs) (m .arcBytes) k d c ∙ (λ z. record { source = source-is k c z; target = target-is k c z; up = label-is k c i a z; down = label-is k c j b z })
@@ -115,7 +112,7 @@ module _ (m : Memory) (t : Automaton ℕ) (w : WellFormed t) (h : Holds m t) whe
   starts-are =
       let f : State ℕ → ℕ = λ s. if (isSome (s .final)) origin missing in
       let n = length-starts 0 (m .states) (m .stateBytes) in
-      ext-getD 0 (starts 0 (m .states) (m .stateBytes)) (startDelays t) (n ∙ h .states ∙ sym (map-length f (t .states)))
+      ext-getD 0 (starts 0 (m .states) (m .stateBytes)) (startDelays t) (n ∙ h .states ∙ sym (length-map (t .states) f))
       (λ k l.
       let c : k < m .states = omega (arith, n) in
       let p = k * 10 + 5 in

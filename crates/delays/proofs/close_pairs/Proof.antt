@@ -2,7 +2,8 @@
 use Rattle.relaxation.proofs.SweepLaws.{frame-wider}
 use Rattle.delays.proofs.PairLaws.{pairs-turn}
 use Rattle.relaxation.proofs.ColumnLaws.{frame-refl}
-use Rattle.delays.specs.Region.{PairClosed, noPair}
+use Rattle.delays.specs.ClosingRegion.{PairClosed}
+use Rattle.delays.specs.Pairs.{noPair}
 use Rattle.relaxation.specs.Column.{Frame}
 use lib.ListN.{getD}
 use Prim.Native.Nat.{ℕ, _<_}
@@ -38,10 +39,10 @@ mul-close-pair : tie.Need-mul-close-pair Inv-loop μ-loop
 mul-close-pair c = search needs
 
 add-close-pair : tie.Need-add-close-pair Inv-loop μ-loop
-add-close-pair c = let s = c .before .before .before .before .before .before .before .pre in omega (arith, s .4, s .2, c .before .before .loop-test .taken)
+add-close-pair c = let s = c .before .before .before .before .before .before .before .pre in omega (arith, s .3, s .1, c .before .before .loop-test .taken)
 
 close-pair-requires : tie.Need-close-pair-requires Inv-loop μ-loop
-close-pair-requires c κs = let s = c .before .before .before .before .before .before .before .pre in let l = c .before .before .before .loop in (s .0, s .1, s .3 _ (c .before .before .loop-test .taken), omega (arith, s .4, s .2, l .inv .1, c .before .before .loop-test .taken), s .5)
+close-pair-requires c κs = let s = c .before .before .before .before .before .before .before .pre in let l = c .before .before .before .loop in (s .0, s .2 _ (c .before .before .loop-test .taken), omega (arith, s .3, s .1, l .inv .1, c .before .before .loop-test .taken))
 
 add-h : tie.Need-add-h Inv-loop μ-loop
 add-h c = search needs
@@ -55,7 +56,7 @@ loop-again c =
     let l = c .before .before .before .before .before .before .loop in
     let t = c .before .before .before .before .before .loop-test .taken in
     let a = c .before .before .close-pair .ensures in
-    let z = pairs-turn _ _ _ _ (c .before .before .before .before .before .before .before .before .before .before .args .t5) _ _ (l .h) _ _ _ (omega (arith, t, s .2)) (omega (arith, s .4, l .inv .1)) (l .inv .2) (l .inv .3) refl a in (
+    let z = pairs-turn _ _ _ _ (c .before .before .before .before .before .before .before .before .before .before .args .t5) _ _ (l .h) _ _ _ (omega (arith, t, s .1)) (omega (arith, s .3, l .inv .1)) (l .inv .2) (l .inv .3) refl a in (
       omega (arith, t),
       a .frame .same-length ∙ l .inv .1,
       z .0,
@@ -68,7 +69,7 @@ same-length c = search needs
 returns : tie.Need-returns Inv-loop μ-loop
 returns c =
     let l = c .before .loop in
-    record { closed = λ k m. l .inv .2 k (omega (arith, m, c .loop-test .left)); frame = frame-wider _ _ _ _ _ _ _ (l .inv .3) (omega arith) (omega (arith, l .inv .0)) (omega (arith, c .before .before .before .before .before .pre .2)) }
+    record { closed = λ k m. l .inv .2 k (omega (arith, m, c .loop-test .left)); frame = frame-wider _ _ _ _ _ _ _ (l .inv .3) (omega arith) (omega (arith, l .inv .0)) (omega (arith, c .before .before .before .before .before .pre .1)) }
 
 pub close-pairs-spec : {M : Type 1} → statement M
 close-pairs-spec =

@@ -1,5 +1,10 @@
 -- `delays::closing_tables` meets its contract. Assumes nothing.
-use Rattle.delays.proofs.ClosingLaws.{enough-states, enough-arcs, stands-joined, named, writes-closing}
+use Rattle.delays.proofs.ClosingLaws.{sound-readable, sound-within, writes-closing}
+use Rattle.memory.specs.Answers.{lent}
+use Prim.Native.Nat.{ℕ}
+use mathlib.Core.Path.{_≡_, sym, _∙_}
+use lib.ListN.{length, length-map}
+use denote.Ref.{now}
 use native.Mathlib.Omega.{arith}
 use borrow.Author.Needs.{needs}
 use Rattle.delays.proofs.closing_tables.Statement.{statement}
@@ -13,16 +18,33 @@ add-mark-reaching : tie.Need-add-mark-reaching
 add-mark-reaching c = search needs
 
 mark-reaching-requires : tie.Need-mark-reaching-requires
-mark-reaching-requires c κs = let s = c .before .before .before .before .pre in let z = s .2 .1 in (enough-states _ _ _ _ _ z, enough-arcs _ _ _ _ _ z, omega (arith, s .1), stands-joined _ _ _ _ _ z)
+mark-reaching-requires c κs =
+    let s = c .before .before .before .before in
+    (sound-readable (lent (s .args .counts) (now (s .args .states)) (now (s .args .arcs))) (s .pre .0), omega (arith, s .pre .1))
 
+-- `.good .1 .1 .1 .0` is what is known of the fourth parameter: its array of pairs has four elements.
 close-pairs-requires : tie.Need-close-pairs-requires
-close-pairs-requires c κs = let s = c .before .before .before .before .before .before .before .before .pre in let z = s .2 .1 in (enough-states _ _ _ _ _ z, enough-arcs _ _ _ _ _ z, s .0, named (s .2 .0) (z .well-formed) _ (c .before .before .before .before .before .before .before .before .args .pairs) (s .2 .2), omega (arith, s .1, c .before .before .before .mark-reaching .ensures .frame .same-length), stands-joined _ _ _ _ _ z)
+close-pairs-requires c κs =
+    let s = c .before .before .before .before .before .before .before .before .before in
+    let m = lent (s .args .counts) (now (s .args .states)) (now (s .args .arcs)) in
+    let l : length (s .args .pairs .pairs) ≡ 4 = sym (length-map (s .args .pairs .pairs) _) ∙ s .good .1 .1 .1 .0 .1 .1 .0 .1 .0 .1 in
+    let k = c .before .before .before .before .mark-reaching .ensures .frame .same-length in (
+      sound-readable m (s .pre .0),
+      s .pre .2 .four,
+      sound-within m (s .pre .0) (s .args .pairs) l (s .pre .2),
+      omega (arith, s .pre .1, k),
+    )
 
 same-length : tie.Need-same-length
 same-length c = search needs
 
 returns : tie.Need-returns
-returns c = writes-closing _ _ _ _ _ _ _ _ _ _ (c .before .before .before .before .before .before .before .before .before .before .before .pre .0) (c .before .before .before .before .before .before .before .before .before .before .before .pre .1) (c .before .before .before .before .before .before .mark-reaching .ensures) (c .before .before .close-pairs .ensures)
+returns c =
+    let s = c .before .before .before .before .before .before .before .before .before .before .before .before in
+    let m = lent (s .args .counts) (now (s .args .states)) (now (s .args .arcs)) in
+    let l : length (s .args .pairs .pairs) ≡ 4 = sym (length-map (s .args .pairs .pairs) _) ∙ s .good .1 .1 .1 .0 .1 .1 .0 .1 .0 .1 in
+    writes-closing m (s .pre .0) (s .args .pairs) _ _ _ _ l (s .pre .2) (s .pre .1)
+    (c .before .before .before .before .before .before .before .mark-reaching .ensures) (c .before .before .close-pairs .ensures)
 
 pub closing-tables-spec : {M : Type 1} → statement M
 closing-tables-spec =

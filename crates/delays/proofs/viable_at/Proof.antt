@@ -1,6 +1,6 @@
 -- `delays::viable_at` meets its contract. Assumes nothing.
 use Rattle.delays.proofs.PairLaws.{closable-start, viable-not, viable-then, closable-stop, closable-turn, closable-end}
-use Rattle.delays.specs.Region.{closableFrom}
+use Rattle.delays.specs.ClosingRegion.{closableFrom}
 use Prim.Native.Nat.{ℕ}
 use lib.ListN.{length}
 use native.Mathlib.Omega.{arith}

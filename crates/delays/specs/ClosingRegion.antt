@@ -1,35 +1,26 @@
 -- The region of the closing delays: of each state's 64 bytes, 8 for each of four pairs, and 4 for whether a final state can be reached.
+-- Of a pair's 8 bytes the first two hold the least delay, the fifth and sixth the least of the pair turned round; the two behind each are
+-- the second buffer of the rounds.
 use Prim.Native.Nat.{ℕ, zero, suc, _+_, _-_, _*_, _<_, _≤_}
 use mathlib.Core.Path.{_≡_}
 use mathlib.Core.Bool.{Bool, true, false}
 use mathlib.Core.Option.{some}
 use mathlib.Core.List.{List, [], _∷_, map}
 use lib.Dec.{eqb}
-use lib.ListN.{length, getD, getElem?, take}
+use lib.ListN.{length, getD, getElem?}
 use Rattle.memory.specs.Region.{part}
 use Rattle.memory.specs.Endian.{le}
 use Rattle.automata.specs.Lists.{if, and}
 use Rattle.automata.specs.Closing.{origin, missing, Closing, ClosingTables, closingTables, withDelay≤, viable}
-use Rattle.automata.specs.Automaton.{Automaton}
 use Rattle.automata.specs.Leftover.{Leftover}
 use Rattle.automata.specs.Config.{Config}
-use Rattle.automata.specs.TapePair.{TapePair}
-use Rattle.automata.specs.Table.{WellFormed}
-use Rattle.automata.specs.Memory.{Memory, Holds}
-use Rattle.delays.specs.declared.Pair.{Pair}
+use Rattle.automata.specs.TapePair.{limited}
+use Rattle.automata.specs.Memory.{Memory, tableOf}
 use Rattle.relaxation.specs.Column.{column, Frame, Outside}
-use Rattle.relaxation.specs.Edges.{edges, Joined, roundsOf, starts, leastOf}
-
--- the two tapes of a pair are there
-pub record Named (p : Pair) : Type 0 where
-  pub first-from : 1 ≤ p .first
-  pub first-to : p .first ≤ 8
-  pub second-from : 1 ≤ p .second
-  pub second-to : p .second ≤ 8
-
--- what an element of an array of pairs is where the array ends
-abbrev pub noPair : Pair
-noPair = record { first = 0; second = 0 }
+use Rattle.relaxation.specs.Edges.{edges, roundsOf, starts, leastOf}
+use Rattle.delays.specs.declared.pair.Pair.{Pair}
+use Rattle.delays.specs.declared.pair.PairList.{PairList}
+use Rattle.delays.specs.Pairs.{pairsAs, noPair}
 
 -- the closing delays of a pair stand in the columns at place at and four bytes behind, and again two bytes behind each
 pub record PairClosed (bytes : List ℕ) (n : ℕ) (arcs : List ℕ) (count : ℕ) (p : Pair) (at : ℕ) (w : List ℕ) : Type 0 where
@@ -71,31 +62,15 @@ closableFrom at h (suc left) firsts seconds w =
 abbrev pub viableAt : ℕ → ℕ → List ℕ → List ℕ → List ℕ → Bool
 viableAt at used firsts seconds w = if (eqb (le (part (at + 32) 2 w)) missing) false (closableFrom at 0 used firsts seconds w)
 
--- the table t stands in these bytes
-pub record Stands (t : Automaton ℕ) (bytes : List ℕ) (n : ℕ) (arcs : List ℕ) (count : ℕ) : Type 0 where
-  pub well-formed : WellFormed t
-  pub holds : Holds (record { tapes = t .tapes; states = n; arcs = count; stateBytes = bytes; arcBytes = arcs }) t
-
--- the first k pairs name tapes of a table with so many
-abbrev pub NameTapes : ℕ → ℕ → List Pair → Type 0
-NameTapes tapes k ps = (h : ℕ) → h < k → (1 ≤ getD ps h noPair .first) × (getD ps h noPair .first ≤ tapes) × (1 ≤ getD ps h noPair .second) × (getD ps h noPair .second ≤ tapes)
-
--- the first k pairs, all with the limit D
-abbrev pub tapePair : ℕ → Pair → TapePair
-tapePair D p = record { first = p .first; second = p .second; limit = D }
-
-abbrev pub tapePairs : ℕ → ℕ → List Pair → List TapePair
-tapePairs D k ps = map (tapePair D) (take k ps)
-
--- The closing tables of whatever table stands in the bytes were written to the region, each column again two bytes behind it, and no
--- other place was changed.
-pub record WritesClosing (bytes : List ℕ) (n : ℕ) (arcs : List ℕ) (count : ℕ) (ps : List Pair) (k base : ℕ) (w v : List ℕ) : Type 0 where
-  pub tables : (t : Automaton ℕ) → Stands t bytes n arcs count → NameTapes (t .tapes) k ps → (D : ℕ) → HoldsClosing (closingTables t (tapePairs D k ps)) base n w
-  pub reaching-again : column (base + 32 + 2) n w ≡ column (base + 32) n w
-  pub least-again : (h : ℕ) → h < k → column (base + 8 * h + 2) n w ≡ column (base + 8 * h) n w
-  pub opposite-again : (h : ℕ) → h < k → column (base + 8 * h + 4 + 2) n w ≡ column (base + 8 * h + 4) n w
+-- The closing tables of the table in memory m were written to the region from place base, each column again two bytes behind it, and no
+-- other place was changed from v to w.
+pub record WritesClosing (m : Memory) (ps : PairList) (base : ℕ) (w v : List ℕ) : Type 0 where
+  pub tables : (D : ℕ) → HoldsClosing (closingTables (tableOf m) (limited D (pairsAs ps))) base (m .states) w
+  pub reaching-again : column (base + 32 + 2) (m .states) w ≡ column (base + 32) (m .states) w
+  pub least-again : (h : ℕ) → h < ps .used → column (base + 8 * h + 2) (m .states) w ≡ column (base + 8 * h) (m .states) w
+  pub opposite-again : (h : ℕ) → h < ps .used → column (base + 8 * h + 4 + 2) (m .states) w ≡ column (base + 8 * h + 4) (m .states) w
   pub same-length : length w ≡ length v
-  pub same : (i : ℕ) → Outside base (8 * k) n i → Outside (base + 32) 4 n i → getD w i 0 ≡ getD v i 0
+  pub same : (i : ℕ) → Outside base (8 * ps .used) (m .states) i → Outside (base + 32) 4 (m .states) i → getD w i 0 ≡ getD v i 0
 
 -- the leftovers ls are k, and have these lengths
 pub record Lengths (k : ℕ) (firsts seconds : List ℕ) (ls : List Leftover) : Type 0 where
