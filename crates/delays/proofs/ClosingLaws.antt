@@ -61,9 +61,11 @@ closing-of A D ps h c e =
     let (q, at₁, e₁) = place-map⁻¹ (closing A) (limited D (pairsAs ps)) h e in
     let (m, at₂, e₂) = place-map⁻¹ {A = automata.Pair} (λ p. record { first = p .first; second = p .second; limit = D }) (pairsAs ps) h at₁ in
     let (p, at₃, e₃) = place-map⁻¹ pairAs (take (ps .used) (ps .pairs)) h at₂ in
-    let r = place-take⁻¹ (ps .used) (ps .pairs) h noPair at₃ in
-    (r .0, ap (λ (z : Pair). closing A (record { first = z .first; second = z .second; limit = D })) (r .1)
-    ∙ ap (λ (z : automata.Pair). closing A (record { first = z .first; second = z .second; limit = D })) e₃ ∙ ap (closing A) e₂ ∙ e₁)
+    let r = place-take⁻¹ (ps .used) (ps .pairs) h noPair at₃ in (
+      r .0,
+      ap (λ (z : Pair). closing A (record { first = z .first; second = z .second; limit = D })) (r .1)
+          ∙ ap (λ (z : automata.Pair). closing A (record { first = z .first; second = z .second; limit = D })) e₃ ∙ ap (closing A) e₂ ∙ e₁,
+    )
 
 -- ---- the table in memory
 

@@ -125,7 +125,16 @@ pub fn closing_tables(
 {
     mark_reaching(states, counts.states, arcs, counts.arcs, work, base + 32);
     let list = pairs.pairs;
-    close_pairs(states, counts.states, arcs, counts.arcs, list, pairs.used, work, base);
+    close_pairs(
+        states,
+        counts.states,
+        arcs,
+        counts.arcs,
+        list,
+        pairs.used,
+        work,
+        base,
+    );
 }
 
 // Whether a configuration with this state and leftovers of these lengths is viable, by the closing tables in the region from `base`.
