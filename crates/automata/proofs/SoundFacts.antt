@@ -1,12 +1,14 @@
 -- What is known of a table in memory once it is judged.
-use mathlib.Core.Path.{_≡_}
-use Prim.Native.Nat.{ℕ}
-use lib.ListN.{length}
+use mathlib.Core.Path.{_≡_, ap, _∙_}
+use Prim.Native.Nat.{ℕ, _*_, _≤_, min}
+use native.Mathlib.Omega.{arith}
+use lib.ListN.{length, take, length-take}
 use Rattle.automata.specs.Answer.{ok}
 use Rattle.automata.specs.Automaton.{Automaton}
 use Rattle.automata.specs.Table.{WellFormed}
 use Rattle.automata.specs.Memory.{Memory, Holds, Sound, decodeTable, tableOf}
-use Rattle.automata.proofs.MemoryLaws.{decode-only}
+use Rattle.automata.proofs.FormatLaws.{length-many}
+use Rattle.automata.proofs.MemoryLaws.{decode-only, stateRecord-lawful, arcRecord-lawful, arcRecord-width}
 
 -- the automaton that memory holds is the one that it decodes to
 pub tableOf-is : (m : Memory) (A : Automaton ℕ) → decodeTable m ≡ ok A → tableOf m ≡ A
@@ -30,3 +32,25 @@ module _ (m : Memory) (s : Sound m) where
 
   pub sound-holds : Holds m (tableOf m)
   sound-holds = decode-only m (tableOf m) sound-decoded .1
+
+  -- every record is wholly lent
+  pub sound-states-lent : 10 * m .states ≤ length (m .stateBytes)
+  sound-states-lent =
+      let t = tableOf m in
+      let h = sound-holds in
+      let e = ap length (h .stateBytes) ∙ length-many stateRecord-lawful (t .states) (sound-well-formed .states) in
+      let f : length (take (m .states * 10) (m .stateBytes)) ≡ min (m .states * 10) (length (m .stateBytes)) = length-take (m .states * 10) (m .stateBytes) in
+      let g = h .states in
+      omega (arith, e, f, g)
+
+  pub sound-arcs-lent : 80 * m .arcs ≤ length (m .arcBytes)
+  sound-arcs-lent =
+      let t = tableOf m in
+      let h = sound-holds in
+      let c = sound-well-formed .counts in
+      let e : length (take (m .arcs * 80) (m .arcBytes)) ≡ length (t .arcs) * 80
+      = ap length (h .arcBytes) ∙ length-many (arcRecord-lawful (t .tapes) (length (t .states)) (c .statesFit)) (t .arcs) (sound-well-formed .arcs)
+      ∙ ap (λ (k : ℕ). length (t .arcs) * k) (arcRecord-width (t .tapes) (length (t .states)) (c .tapesFit)) in
+      let f : length (take (m .arcs * 80) (m .arcBytes)) ≡ min (m .arcs * 80) (length (m .arcBytes)) = length-take (m .arcs * 80) (m .arcBytes) in
+      let g = h .arcs in
+      omega (arith, e, f, g)

@@ -1,0 +1,2 @@
+-- Facts about the tables.
+pub mod TableFacts

@@ -1,0 +1,153 @@
+// The closing delays of all pairs in a region of the work space, and the test for viable configurations that reads them.
+pub mod pair;
+
+use crate::pair::Pair;
+use crate::pair::PairList;
+use memory::answer::Counts;
+use memory::bytes::get16;
+use memory::record::InputState;
+use relaxation::least_delays;
+use relaxation::run_rounds;
+use relaxation::start_delays;
+ghost use mathlib.Core.Path.{_≡_};
+ghost use Prim.Native.Nat.{_+_, _*_, _≤_, _<_};
+ghost use lib.ListN.{length, getD};
+ghost use Rattle.automata.specs.Closing.{withDelay≤};
+ghost use Rattle.automata.specs.Memory.{Sound};
+ghost use Rattle.memory.specs.Answers.{lent};
+ghost use Rattle.relaxation.specs.Column.{Room};
+ghost use Rattle.relaxation.specs.Edges.{Readable, Both};
+ghost use Rattle.delays.specs.Pairs.{Named, Within, noPair};
+ghost use Rattle.delays.specs.ClosingRegion.{ClosesPair, ClosesPairs, reachingOf, closableAt, viableAt, WritesClosing, Tests};
+
+// The closing delays of a pair: the least, and the least of the pair turned round.
+fn close_pair(
+    bytes: &[u8],
+    states: usize,
+    arcs: &[u8],
+    count: usize,
+    p: Pair,
+    work: &mut [u8],
+    at: usize,
+)
+    requires { ⌜ Readable (now bytes) states (now arcs) count × Within 8 p × Room at 8 states (now work) ⌝ }
+    ensures { λ _. ⌜ ClosesPair (now (bytes .entry)) states (now (arcs .entry)) count p at (now (work .exit)) (now (work .entry)) ⌝ }
+{
+    let first = p.first as usize - 1;
+    let second = p.second as usize - 1;
+    least_delays(bytes, states, arcs, count, first, second, work, at);
+    least_delays(bytes, states, arcs, count, second, first, work, at + 4);
+}
+
+// The closing delays of the first `used` pairs.
+fn close_pairs(
+    bytes: &[u8],
+    states: usize,
+    arcs: &[u8],
+    count: usize,
+    pairs: [Pair; 4],
+    used: usize,
+    work: &mut [u8],
+    base: usize,
+)
+    requires { ⌜ Readable (now bytes) states (now arcs) count × (used ≤ 4) × ((h : _) → h < used → Within 8 (getD pairs h noPair)) × Room base 32 states (now work) ⌝ }
+    ensures { λ _. ⌜ ClosesPairs (now (bytes .entry)) states (now (arcs .entry)) count pairs used base (now (work .exit)) (now (work .entry)) ⌝ }
+{
+    let mut h: usize = 0;
+    while h < used {
+        let p = pairs[h];
+        close_pair(bytes, states, arcs, count, p, work, base + 8 * h);
+        h += 1;
+    }
+}
+
+// Which states reach a final one: relaxation on one tape taken twice, where every delay is none or missing.
+fn mark_reaching(bytes: &[u8], states: usize, arcs: &[u8], count: usize, work: &mut [u8], at: usize)
+    requires { ⌜ Readable (now bytes) states (now arcs) count × Room at 4 states (now work) ⌝ }
+    ensures { λ _. ⌜ Both at states (reachingOf (now (bytes .entry)) states (now (arcs .entry)) count) (now (work .exit)) (now (work .entry)) ⌝ }
+{
+    start_delays(bytes, states, work, at);
+    run_rounds(arcs, count, 0, 0, work, at, states, false);
+}
+
+// Whether `x` with the delay held as `v` is at most `y`.
+fn within_delay(x: u8, v: u16, y: u8) -> bool
+    ensures { λ r. ⌜ r ≡ withDelay≤ x v y ⌝ }
+{
+    if v == 0 {
+        return true;
+    }
+    x as u32 + v as u32 <= y as u32 + 16384
+}
+
+// Whether the closing delays at `at` admit a leftover, of length `x` on the first tape and `y` on the second.
+fn closable(work: &[u8], at: usize, x: u8, y: u8) -> bool
+    requires { ⌜ at + 6 ≤ length (now work) ⌝ }
+    ensures { λ r. ⌜ r ≡ closableAt at x y (now (work .entry)) ⌝ }
+{
+    let least = get16(work, at);
+    if !within_delay(x, least, y) {
+        return false;
+    }
+    let opposite = get16(work, at + 4);
+    within_delay(y, opposite, x)
+}
+
+// Whether a configuration is viable, by the place of its state's 64 bytes and the lengths of its leftovers.
+pub fn viable_at(work: &[u8], at: usize, used: usize, firsts: [u8; 4], seconds: [u8; 4]) -> bool
+    requires { ⌜ (at + 34 ≤ length (now work)) × (used ≤ 4) ⌝ }
+    ensures { λ r. ⌜ r ≡ viableAt at used firsts seconds (now (work .entry)) ⌝ }
+{
+    if get16(work, at + 32) == 65535 {
+        return false;
+    }
+    let mut h: usize = 0;
+    while h < used {
+        if !closable(work, at + 8 * h, firsts[h], seconds[h]) {
+            return false;
+        }
+        h += 1;
+    }
+    true
+}
+
+// The closing tables of the lent table for the pairs, in the region of 64 bytes a state from `base`.
+pub fn closing_tables(
+    counts: Counts,
+    states: &[u8],
+    arcs: &[u8],
+    pairs: PairList,
+    work: &mut [u8],
+    base: usize,
+)
+    requires { ⌜ Sound (lent counts (now states) (now arcs)) × (base + 64 * counts .states ≤ length (now work)) × Named (counts .tapes) pairs ⌝ }
+    ensures { λ _. ⌜ WritesClosing (lent counts (now (states .entry)) (now (arcs .entry))) pairs base (now (work .exit)) (now (work .entry)) ⌝ }
+{
+    mark_reaching(states, counts.states, arcs, counts.arcs, work, base + 32);
+    let list = pairs.pairs;
+    close_pairs(
+        states,
+        counts.states,
+        arcs,
+        counts.arcs,
+        list,
+        pairs.used,
+        work,
+        base,
+    );
+}
+
+// Whether a configuration with this state and leftovers of these lengths is viable, by the closing tables in the region from `base`.
+pub fn viable(
+    work: &[u8],
+    base: usize,
+    state: InputState,
+    used: usize,
+    firsts: [u8; 4],
+    seconds: [u8; 4],
+) -> bool
+    requires { ⌜ (used ≤ 4) × (base + 64 * state .0 + 64 ≤ length (now work)) ⌝ }
+    ensures { λ r. ⌜ Tests base (state .0) used firsts seconds (now (work .entry)) r ⌝ }
+{
+    viable_at(work, base + 64 * state.0 as usize, used, firsts, seconds)
+}

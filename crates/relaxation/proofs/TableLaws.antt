@@ -1,0 +1,154 @@
+-- The edges and the starting delays that the code reads are those of the table in memory, so its rounds are those of the definition.
+use Prim.Native.Nat.{ℕ, zero, suc, _+_, _-_, _*_, _%_, _/_, _<_, _≤_, min}
+use mathlib.Core.Path.{_≡_, refl, sym, ap, ap₂, _∙_}
+use mathlib.Core.Bool.{Bool, true, false}
+use mathlib.Core.Option.{Option, none, some}
+use mathlib.Core.List.{List, [], _∷_, map}
+use native.Mathlib.Omega.{arith}
+use lib.Dec.{eqb}
+use lib.ListN.{length, length-map, getD, take, drop}
+use lib.Seq.{ext-getD, getD-take, getD-drop}
+use Rattle.memory.specs.Region.{part}
+use Rattle.memory.specs.Endian.{le}
+use Rattle.automata.specs.Lists.{if, isSome}
+use Rattle.automata.specs.Graph.{Graph}
+use Rattle.automata.specs.Rounds.{visit, sweep, round}
+use Rattle.automata.specs.Automaton.{Automaton, Arc, State, labelOn, graph, size}
+use Rattle.automata.specs.Closing.{origin, missing, startDelays, relax, diverge, relaxed, leastDelays}
+use Rattle.automata.specs.Lists.{All}
+use Rattle.automata.specs.Table.{WellFormed, WellFormedArc}
+use Rattle.automata.specs.Memory.{Memory, Holds, flag}
+use Rattle.automata.proofs.RecordFacts.{All-at}
+use Rattle.automata.proofs.RoundFacts.{iterate-same}
+use Rattle.automata.proofs.MemoryLaws.{arc-field, label-field, state-field}
+use Rattle.relaxation.specs.declared.Edge.{Edge}
+use Rattle.relaxation.specs.Edges.{edgeAt, edges, edgeGraph, Joined, improveEdge, roundOf, roundsOf, startOf, starts, leastOf}
+
+-- an arc as relaxation on the tapes i and j takes it
+abbrev pub edgeOf : ℕ → ℕ → Arc ℕ → Edge
+edgeOf i j a = record { source = a .source; target = a .target; up = length (labelOn i a); down = length (labelOn j a) }
+
+-- one element of a mapped list
+map-at : {X Y : Type 0} (f : X → Y) (xs : List X) (k : ℕ) (x : X) (y : Y) → k < length xs → getD (map f xs) k y ≡ f (getD xs k x)
+map-at f [] k x y h = absurd (omega arith)
+map-at f (z ∷ xs) zero x y h = refl
+map-at f (z ∷ xs) (suc k) x y h = map-at f xs k x y (omega arith)
+
+length-edges : (i j at n : ℕ) (arcs : List ℕ) → length (edges i j at n arcs) ≡ n
+unfolding edges
+length-edges i j at zero arcs = refl
+length-edges i j at (suc n) arcs = ap suc (length-edges i j (at + 80) n arcs)
+
+edges-at : (i j at n : ℕ) (arcs : List ℕ) (k : ℕ) (d : Edge) → k < n → getD (edges i j at n arcs) k d ≡ edgeAt i j (at + 80 * k) arcs
+unfolding edges
+edges-at i j at zero arcs k d h = absurd (omega arith)
+edges-at i j at (suc n) arcs zero d h = ap (λ (p : ℕ). edgeAt i j p arcs) (omega arith)
+edges-at i j at (suc n) arcs (suc k) d h = edges-at i j (at + 80) n arcs k d (omega arith) ∙ ap (λ (p : ℕ). edgeAt i j p arcs) (omega arith)
+
+length-starts : (from n : ℕ) (bytes : List ℕ) → length (starts from n bytes) ≡ n
+unfolding starts
+length-starts from zero bytes = refl
+length-starts from (suc n) bytes = ap suc (length-starts (from + 10) n bytes)
+
+starts-at : (from n : ℕ) (bytes : List ℕ) (k d : ℕ) → k < n → getD (starts from n bytes) k d ≡ startOf (getD bytes (from + 10 * k + 5) 0)
+unfolding starts
+starts-at from zero bytes k d h = absurd (omega arith)
+starts-at from (suc n) bytes zero d h = ap (λ (p : ℕ). startOf (getD bytes p 0)) (omega arith)
+starts-at from (suc n) bytes (suc k) d h = starts-at (from + 10) n bytes k d (omega arith) ∙ ap (λ (p : ℕ). startOf (getD bytes p 0)) (omega arith)
+
+start-flag : (o : Option ℕ) → startOf (flag o .0) ≡ if (isSome o) origin missing
+start-flag none = refl
+start-flag (some w) = refl
+
+two-bytes : (n : ℕ) → n < 65536 → n % 256 + 256 * (n / 256 % 256 + 256 * 0) ≡ n
+two-bytes n h = omega arith
+
+module _ (m : Memory) (t : Automaton ℕ) (w : WellFormed t) (h : Holds m t) where
+  abbrev pub noArc : Arc ℕ
+  noArc = record { source = 0; target = 0; weight = 0; labels = [] }
+
+  abbrev pub noState : State ℕ
+  noState = record { initial = none; final = none }
+
+  -- the fields of the k-th arc
+  module _ (k : ℕ) (l : k < m .arcs) where
+    arc-is : WellFormedArc (t .tapes) (length (t .states)) (getD (t .arcs) k noArc)
+    arc-is = All-at (WellFormedArc (t .tapes) (length (t .states))) (t .arcs) noArc k (w .arcs) (rw (h .arcs) at l)
+
+    pub source-is : le (part (0 + 80 * k) 2 (m .arcBytes)) ≡ getD (t .arcs) k noArc .source
+    unfolding part
+    source-is =
+        let e : 0 + 80 * k ≡ k * 80 + 0 = omega arith in
+        ap (λ (p : ℕ). le (take 2 (drop p (m .arcBytes)))) e ∙ ap le (arc-field m t w h k noArc l 0 2 (omega arith))
+        ∙ two-bytes (getD (t .arcs) k noArc .source) (omega (arith, arc-is .source, w .counts .statesFit))
+
+    pub target-is : le (part (0 + 80 * k + 2) 2 (m .arcBytes)) ≡ getD (t .arcs) k noArc .target
+    unfolding part
+    target-is =
+        let e : 0 + 80 * k + 2 ≡ k * 80 + 2 = omega arith in
+        ap (λ (p : ℕ). le (take 2 (drop p (m .arcBytes)))) e ∙ ap le (arc-field m t w h k noArc l 2 2 (omega arith))
+        ∙ two-bytes (getD (t .arcs) k noArc .target) (omega (arith, arc-is .target, w .counts .statesFit))
+
+    pub label-is : (i : ℕ) → i < t .tapes → getD (m .arcBytes) (0 + 80 * k + 8 + 9 * i) 0 ≡ length (labelOn i (getD (t .arcs) k noArc))
+    label-is i b =
+        let p = k * 80 + (8 + i * 9) in
+        let e : 0 + 80 * k + 8 + 9 * i ≡ p + 0 = omega arith in
+        ap (λ (q : ℕ). getD (m .arcBytes) q 0) e ∙ sym (getD-drop p (m .arcBytes) 0 0) ∙ sym (getD-take 9 (drop p (m .arcBytes)) 0 0 (omega arith))
+        ∙ ap (λ (x : List ℕ). getD x 0 0) (label-field m t w h k noArc l i b)
+
+  -- the edges are the arcs
+  pub edges-are : (i j : ℕ) → i < t .tapes → j < t .tapes → edges i j 0 (m .arcs) (m .arcBytes) ≡ map (edgeOf i j) (t .arcs)
+  edges-are i j a b =
+      let d = edgeOf i j noArc in
+      let n = length-edges i j 0 (m .arcs) (m .arcBytes) in
+      ext-getD d (edges i j 0 (m .arcs) (m .arcBytes)) (map (edgeOf i j) (t .arcs)) (n ∙ h .arcs ∙ sym (length-map (t .arcs) (edgeOf i j)))
+      (λ k l.
+      let c : k < m .arcs = omega (arith, n) in
+      edges-at i j 0 (m .arcs) (m .arcBytes) k d c ∙ (λ z. record { source = source-is k c z; target = target-is k c z; up = label-is k c i a z; down = label-is k c j b z })
+      ∙ sym (map-at (edgeOf i j) (t .arcs) k noArc d (omega (arith, h .arcs))))
+
+  -- the starting delays are those of the states
+  pub starts-are : starts 0 (m .states) (m .stateBytes) ≡ startDelays t
+  starts-are =
+      let f : State ℕ → ℕ = λ s. if (isSome (s .final)) origin missing in
+      let n = length-starts 0 (m .states) (m .stateBytes) in
+      ext-getD 0 (starts 0 (m .states) (m .stateBytes)) (startDelays t) (n ∙ h .states ∙ sym (length-map (t .states) f))
+      (λ k l.
+      let c : k < m .states = omega (arith, n) in
+      let p = k * 10 + 5 in
+      let e : 0 + 10 * k + 5 ≡ p + 0 = omega arith in
+      let g : getD (m .stateBytes) (0 + 10 * k + 5) 0 ≡ flag (getD (t .states) k noState .final) .0
+      = ap (λ (q : ℕ). getD (m .stateBytes) q 0) e ∙ sym (getD-drop p (m .stateBytes) 0 0) ∙ sym (getD-take 1 (drop p (m .stateBytes)) 0 0 (omega arith))
+      ∙ ap (λ (x : List ℕ). getD x 0 0) (state-field m t w h k noState c 5 1 (omega arith)) in
+      starts-at 0 (m .states) (m .stateBytes) k 0 c ∙ ap startOf g ∙ start-flag (getD (t .states) k noState .final)
+      ∙ sym (map-at f (t .states) k noState 0 (omega (arith, h .states))))
+
+-- the arcs join states of the table
+pub joined-are : (tapes states i j : ℕ) (rs : List (Arc ℕ)) → All (WellFormedArc tapes states) rs → Joined states (map (edgeOf i j) rs)
+unfolding Joined
+joined-are tapes states i j [] p = tt
+joined-are tapes states i j (a ∷ rs) p = (p .0 .source, p .0 .target, joined-are tapes states i j rs (p .1))
+
+module _ (G : Graph (Arc ℕ)) (gs : List Edge) (i j : ℕ) where
+  relax-sweep : (old new : List ℕ) (rs : List (Arc ℕ)) → sweep (edgeGraph gs) missing (improveEdge false) old new (map (edgeOf i j) rs)
+      ≡ sweep (record { source = λ a. a .source; target = λ a. a .target; arcs = G .arcs }) missing (relax i j) old new rs
+  relax-sweep old new [] = refl
+  relax-sweep old new (a ∷ rs) = relax-sweep old _ rs
+
+  diverge-sweep : (old new : List ℕ) (rs : List (Arc ℕ)) → sweep (edgeGraph gs) missing (improveEdge true) old new (map (edgeOf i j) rs)
+      ≡ sweep (record { source = λ a. a .source; target = λ a. a .target; arcs = G .arcs }) missing (diverge i j) old new rs
+  diverge-sweep old new [] = refl
+  diverge-sweep old new (a ∷ rs) = diverge-sweep old _ rs
+
+-- the rounds are those of the definition
+pub relaxed-are : (t : Automaton ℕ) (i j n : ℕ) → roundsOf false (map (edgeOf i j) (t .arcs)) n (startDelays t) ≡ relaxed t i j n
+relaxed-are t i j n =
+    iterate-same (roundOf false (map (edgeOf i j) (t .arcs))) (round (graph t) missing (relax i j)) (λ x. relax-sweep (graph t) (map (edgeOf i j) (t .arcs)) i j x x (t .arcs)) n (startDelays t)
+
+pub least-are : (m : Memory) (t : Automaton ℕ) → WellFormed t → Holds m t → (i j : ℕ) → i < t .tapes → j < t .tapes
+    → leastOf (edges i j 0 (m .arcs) (m .arcBytes)) (m .states) (m .stateBytes) ≡ leastDelays t i j
+least-are m t w h i j a b =
+    let es = map (edgeOf i j) (t .arcs) in
+    rw (edges-are m t w h i j a b, starts-are m t w h, h .states)
+    (ap (roundsOf true es (size t)) (relaxed-are t i j (size t))
+    ∙ iterate-same (roundOf true es) (round (graph t) missing (diverge i j)) (λ x. diverge-sweep (graph t) es i j x x (t .arcs)) (size t) (relaxed t i j (size t)))

@@ -1,0 +1,114 @@
+-- The arcs as relaxation reads them: source, target, and the lengths of the labels on two tapes.
+use Prim.Native.Nat.{ℕ, zero, suc, _+_, _-_, _*_, _<_, _≤_, min}
+use mathlib.Core.Bool.{Bool, true, false}
+use mathlib.Core.List.{List, [], _∷_}
+use lib.Dec.{eqb, ltb}
+use lib.ListN.{length, getD}
+use Rattle.memory.specs.Region.{part, splice}
+use Rattle.memory.specs.Endian.{le, toLe}
+use mathlib.Core.Path.{_≡_}
+use Rattle.automata.specs.Lists.{if, sameList}
+use Rattle.automata.specs.Graph.{Graph}
+use Rattle.automata.specs.Rounds.{round, iterate}
+use Rattle.automata.specs.Closing.{origin, endless, missing}
+use Rattle.relaxation.specs.declared.Edge.{Edge}
+use Rattle.relaxation.specs.Column.{column, Frame}
+
+-- the arc record at place at, read on the tapes first and second, counted from 0
+abbrev pub edgeAt : ℕ → ℕ → ℕ → List ℕ → Edge
+edgeAt first second at arcs = record {
+  source = le (part at 2 arcs);
+  target = le (part (at + 2) 2 arcs);
+  up = getD arcs (at + 8 + 9 * first) 0;
+  down = getD arcs (at + 8 + 9 * second) 0;
+}
+
+-- the n arc records from place at
+unfoldable pub edges : ℕ → ℕ → ℕ → ℕ → List ℕ → List Edge
+edges first second at zero arcs = []
+edges first second at (suc n) arcs = edgeAt first second at arcs ∷ edges first second (at + 80) n arcs
+
+abbrev pub edgeGraph : List Edge → Graph Edge
+edgeGraph es = record { source = λ e. e .source; target = λ e. e .target; arcs = es }
+
+-- the edges join states below n
+unfoldable pub Joined : ℕ → List Edge → Type 0
+Joined n [] = Unit {0}
+Joined n (e ∷ es) = (e .source < n) × (e .target < n) × Joined n es
+
+-- what a round on two tapes asks of the arc records: they are wholly lent, the tapes are of eight, and the arcs join n states
+pub record ReadableArcs (n : ℕ) (arcs : List ℕ) (count first second : ℕ) : Type 0 where
+  pub lent : 80 * count ≤ length arcs
+  pub first-tape : first < 8
+  pub second-tape : second < 8
+  pub joined : Joined n (edges first second 0 count arcs)
+
+-- what relaxation asks of a table: the records of n states and of the arcs are wholly lent, and the arcs join these states
+pub record Readable (bytes : List ℕ) (n : ℕ) (arcs : List ℕ) (count : ℕ) : Type 0 where
+  pub states-lent : 10 * n ≤ length bytes
+  pub arcs-lent : 80 * count ≤ length arcs
+  pub joined : Joined n (edges 0 0 0 count arcs)
+
+-- the least delay through an edge, v being the one from its target on
+abbrev pub throughEdge : ℕ → ℕ → ℕ → ℕ
+throughEdge up down v = if (eqb v missing) missing (if (eqb v endless) endless (v + up - down))
+
+-- what relaxation, or divergence, makes of the delay x where t is the one through an edge
+abbrev pub improve : Bool → ℕ → ℕ → ℕ
+improve diverging x t = if diverging (if (ltb t x) endless x) (min x t)
+
+-- the same for the rounds of the definition
+abbrev pub improveEdge : Bool → Edge → List ℕ → ℕ → ℕ
+improveEdge diverging e old x = improve diverging x (throughEdge (e .up) (e .down) (getD old (e .target) missing))
+
+-- the delays of all states after a round
+abbrev pub roundOf : Bool → List Edge → List ℕ → List ℕ
+roundOf diverging es = round (edgeGraph es) missing (improveEdge diverging)
+
+-- the work space after one edge: the old delays stand in the column at place at, the new ones two bytes behind
+unfoldable pub visited : Bool → ℕ → Edge → List ℕ → List ℕ
+visited diverging at e w =
+    splice (at + 2 + 64 * e .source)
+    (toLe 2 (improve diverging (le (part (at + 2 + 64 * e .source) 2 w)) (throughEdge (e .up) (e .down) (le (part (at + 64 * e .target) 2 w))))) w
+
+-- and after several
+unfoldable pub swept : Bool → ℕ → List Edge → List ℕ → List ℕ
+swept diverging at [] w = w
+swept diverging at (e ∷ es) w = swept diverging at es (visited diverging at e w)
+
+-- the delay that a state starts with, by its flag for a final weight
+abbrev pub startOf : ℕ → ℕ
+startOf flag = if (eqb flag 0) missing origin
+
+-- the delays that n states start with, from their records from place from
+unfoldable pub starts : ℕ → ℕ → List ℕ → List ℕ
+starts from zero bytes = []
+starts from (suc n) bytes = startOf (getD bytes (from + 5) 0) ∷ starts (from + 10) n bytes
+
+-- the work space with these delays in the column at place at and in the one two bytes behind
+unfoldable pub started : ℕ → ℕ → ℕ → List ℕ → List ℕ → List ℕ
+started at from zero bytes w = w
+started at from (suc n) bytes w =
+    let v = startOf (getD bytes (from + 5) 0) in
+    started (at + 64) (from + 10) n bytes (splice (at + 2) (toLe 2 v) (splice at (toLe 2 v) w))
+
+-- a round over the edges es took the work space from v to w; same tells whether it changed no delay
+pub record Rounded (diverging : Bool) (es : List Edge) (at n : ℕ) (same : Bool) (w v : List ℕ) : Type 0 where
+  pub old : column at n w ≡ roundOf diverging es (column at n v)
+  pub new : column (at + 2) n w ≡ roundOf diverging es (column at n v)
+  pub frame : Frame at 4 n w v
+  pub same-is : same ≡ sameList (column at n v) (roundOf diverging es (column at n v))
+
+-- the columns at place at and two bytes behind it both hold the delays xs, and nothing else changed from v to w
+pub record Both (at n : ℕ) (xs w v : List ℕ) : Type 0 where
+  pub old : column at n w ≡ xs
+  pub new : column (at + 2) n w ≡ xs
+  pub frame : Frame at 4 n w v
+
+-- the delays after as many rounds as there are states
+abbrev pub roundsOf : Bool → List Edge → ℕ → List ℕ → List ℕ
+roundsOf diverging es n xs = iterate n (roundOf diverging es) xs
+
+-- the least delays of n states, by their records and the edges
+abbrev pub leastOf : List Edge → ℕ → List ℕ → List ℕ
+leastOf es n bytes = roundsOf true es n (roundsOf false es n (starts 0 n bytes))
