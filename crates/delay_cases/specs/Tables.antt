@@ -5,8 +5,8 @@ use lib.Dec.{eqb}
 use lib.ListN.{getD, replicate}
 use Rattle.automata.specs.Lists.{if}
 use Rattle.memory.specs.declared.answer.Counts.{Counts}
-use Rattle.delays.specs.declared.pair.Pair.{Pair}
-use Rattle.delays.specs.declared.pair.PairList.{PairList}
+use Rattle.memory.specs.declared.pair.Pair.{Pair}
+use Rattle.memory.specs.declared.pair.PairList.{PairList}
 
 -- how many symbols a label has, of none or one
 abbrev pub symbols : ℕ → ℕ

@@ -2,8 +2,8 @@
 // negated), and whether a final state is reached. Each is worked out by hand beside its table; a delay is the number of symbols that a
 // path to a final state spells on the pair's first tape, less that on its second.
 use delays::closing_tables;
-use delays::pair::Pair;
-use delays::pair::PairList;
+use memory::pair::Pair;
+use memory::pair::PairList;
 use memory::answer::Counts;
 use memory::bytes::copy_into;
 use memory::bytes::get16;
@@ -13,7 +13,7 @@ ghost use lib.ListN.{length};
 ghost use Rattle.automata.specs.Memory.{Sound};
 ghost use Rattle.memory.specs.Answers.{lent};
 ghost use Rattle.memory.specs.Region.{splice};
-ghost use Rattle.delays.specs.Pairs.{Named};
+ghost use Rattle.memory.specs.Pairs.{Named};
 ghost use Rattle.delay_cases.specs.Tables.{symbols, arcBytes, arcsBytes, stateBytes, countsOf, only};
 
 // How many symbols a label has, of none or one.

@@ -26,32 +26,12 @@ use Rattle.relaxation.specs.Column.{column}
 use Rattle.relaxation.specs.Edges.{edges, Joined, Readable, Both, roundsOf, leastOf}
 use Rattle.relaxation.proofs.SweepLaws.{frame-column}
 use Rattle.relaxation.proofs.TableLaws.{edgeOf, edges-are, starts-are, joined-are, relaxed-are, least-are}
-use Rattle.delays.specs.declared.pair.Pair.{Pair}
-use Rattle.delays.specs.declared.pair.PairList.{PairList}
-use Rattle.delays.specs.Pairs.{pairAs, pairsAs, Named, Within, noPair}
+use Rattle.memory.specs.declared.pair.Pair.{Pair}
+use Rattle.memory.specs.declared.pair.PairList.{PairList}
+use Rattle.memory.specs.Pairs.{pairAs, pairsAs, Named, Within, noPair}
 use Rattle.delays.specs.ClosingRegion.{ClosesPairs, reachingOf, WritesClosing}
 
 -- ---- the pairs
-
--- a number that is a tape
-tape-range : (tapes k : ℕ) → T (isTape tapes k) → (1 ≤ k) × (k ≤ tapes)
-tape-range tapes k t = let (a, b) = and-T (leb 1 k) (leb k tapes) t in (leb→le 1 k a, leb→le k tapes b)
-
--- each pair that is used names tapes
-pub named-at : (tapes : ℕ) (ps : PairList) → length (ps .pairs) ≡ 4 → Named tapes ps → (h : ℕ) → h < ps .used → Within tapes (getD (ps .pairs) h noPair)
-named-at tapes ps l n h lt =
-    let p = getD (ps .pairs) h noPair in
-    let four = n .four in
-    let ms = pairsAs ps in
-    let firsts : List ℕ = map (λ q. q .first) ms in
-    let seconds : List ℕ = map (λ q. q .second) ms in
-    let at : getElem? ms h ≡ some (pairAs p) = place-map pairAs (take (ps .used) (ps .pairs)) h (place-take (ps .used) (ps .pairs) h noPair lt (omega arith)) in
-    let t : T (all (isTape tapes) (named ms)) = true-T _ (n .are-tapes) in
-    let a = placed (named ms) h (place-append firsts seconds h (place-map {A = automata.Pair} (λ q. q .first) ms h at)) in
-    let b = placed (named ms) (length firsts + h) (place-append-right firsts seconds h ∙ place-map {A = automata.Pair} (λ q. q .second) ms h at) in
-    let x = tape-range tapes (p .first) (all-∈ (isTape tapes) (named ms) (p .first) t a) in
-    let y = tape-range tapes (p .second) (all-∈ (isTape tapes) (named ms) (p .second) t b) in
-    record { first-from = x .0; first-to = x .1; second-from = y .0; second-to = y .1 }
 
 -- the closing delays of the h-th pair
 closing-of : (A : Automaton ℕ) (D : ℕ) (ps : PairList) (h : ℕ) (c : Closing) → getElem? (closingTables A (limited D (pairsAs ps)) .closings) h ≡ some c
@@ -92,7 +72,7 @@ module _ (m : Memory) (s : Sound m) where
   -- its pairs name tapes of eight
   pub sound-within : (ps : PairList) → length (ps .pairs) ≡ 4 → Named (m .tapes) ps → (h : ℕ) → h < ps .used → Within 8 (getD (ps .pairs) h noPair)
   sound-within ps l n h lt =
-      let i = named-at (m .tapes) ps l n h lt in
+      let i = n .each h lt in
       let b = sound-well-formed m s .counts .tapesFit in
       let e = tapes-are in
       record { first-from = i .first-from; first-to = omega (arith, i .first-to, b, e); second-from = i .second-from; second-to = omega (arith, i .second-to, b, e) }
@@ -114,7 +94,7 @@ module _ (m : Memory) (s : Sound m) where
   unfolding closingTables
   writes-closing ps base v u w l n room a b =
       let e = a .frame .same-length in
-      let k = n .four in
+      let k = n .used-fit in
       let r : column (base + 32) (m .states) w ≡ column (base + 32) (m .states) u
       = frame-column (base + 32) base (8 * ps .used) (m .states) w u (b .frame) (omega arith) (inl (omega arith, omega arith)) in
       record {
@@ -137,7 +117,7 @@ module _ (m : Memory) (s : Sound m) where
       }
     where
       in-table : (h : ℕ) → h < ps .used → Within (t .tapes) (getD (ps .pairs) h noPair)
-      in-table h lt = rw tapes-are at (named-at (m .tapes) ps l n h lt)
+      in-table h lt = rw tapes-are at (n .each h lt)
 
       least-of : (p : Pair) → Within (t .tapes) p
           → leastOf (edges (p .first - 1) (p .second - 1) 0 (m .arcs) (m .arcBytes)) (m .states) (m .stateBytes) ≡ leastDelays t (p .first - 1) (p .second - 1)

@@ -17,7 +17,7 @@ use Rattle.automata.proofs.ListFacts.{place-bound}
 use Rattle.automata.proofs.TestFacts.{ltb-false}
 use Rattle.relaxation.specs.Column.{column, Outside}
 use Rattle.relaxation.proofs.ColumnLaws.{column-ext}
-use Rattle.delays.specs.declared.pair.PairList.{PairList}
+use Rattle.memory.specs.declared.pair.PairList.{PairList}
 use Rattle.delays.specs.ClosingRegion.{HoldsClosing, WritesClosing}
 
 behind-outside : (base n i : ℕ) → base + 64 * n ≤ i → Outside (base + 32) 4 n i

@@ -13,10 +13,10 @@ use Rattle.memory.specs.Endian.{le}
 use Rattle.automata.specs.Lists.{and, or}
 use Rattle.automata.specs.Closing.{withDelay≤}
 use Rattle.automata.proofs.TestFacts.{eqb-false}
-use Rattle.delays.specs.declared.pair.Pair.{Pair}
+use Rattle.memory.specs.declared.pair.Pair.{Pair}
 use Rattle.relaxation.specs.Column.{column, Room, Frame}
 use Rattle.relaxation.specs.Edges.{edges, Both, roundsOf, starts, leastOf}
-use Rattle.delays.specs.Pairs.{noPair}
+use Rattle.memory.specs.Pairs.{noPair}
 use Rattle.delays.specs.ClosingRegion.{PairClosed, ClosesPair, reachingOf, closableAt, closableFrom, viableAt}
 use Rattle.relaxation.proofs.ColumnLaws.{frame-trans}
 use Rattle.relaxation.proofs.SweepLaws.{frame-column, frame-wider}

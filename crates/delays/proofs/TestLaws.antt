@@ -18,8 +18,8 @@ use Rattle.automata.specs.Closing.{missing, Closing, ClosingTables, closing, cl
 use Rattle.automata.proofs.ReachingDelays.{held, held-at}
 use Rattle.relaxation.specs.Column.{column}
 use Rattle.relaxation.proofs.ColumnLaws.{column-at}
-use Rattle.delays.specs.declared.pair.PairList.{PairList}
-use Rattle.delays.specs.Pairs.{pairAs, pairsAs}
+use Rattle.memory.specs.declared.pair.PairList.{PairList}
+use Rattle.memory.specs.Pairs.{pairAs, pairsAs}
 use Rattle.delays.specs.ClosingRegion.{HoldsClosing, closableAt, closableFrom, viableAt, Lengths, Tests}
 
 module _ (q : ℕ) (firsts seconds w : List ℕ) where

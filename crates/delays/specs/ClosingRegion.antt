@@ -18,9 +18,9 @@ use Rattle.automata.specs.TapePair.{limited}
 use Rattle.automata.specs.Memory.{Memory, tableOf}
 use Rattle.relaxation.specs.Column.{column, Frame, Outside}
 use Rattle.relaxation.specs.Edges.{edges, roundsOf, starts, leastOf}
-use Rattle.delays.specs.declared.pair.Pair.{Pair}
-use Rattle.delays.specs.declared.pair.PairList.{PairList}
-use Rattle.delays.specs.Pairs.{pairsAs, noPair}
+use Rattle.memory.specs.declared.pair.Pair.{Pair}
+use Rattle.memory.specs.declared.pair.PairList.{PairList}
+use Rattle.memory.specs.Pairs.{pairsAs, noPair}
 
 -- the closing delays of a pair stand in the columns at place at and four bytes behind, and again two bytes behind each
 pub record PairClosed (bytes : List ℕ) (n : ℕ) (arcs : List ℕ) (count : ℕ) (p : Pair) (at : ℕ) (w : List ℕ) : Type 0 where

@@ -1,8 +1,7 @@
 // The closing delays of all pairs in a region of the work space, and the test for viable configurations that reads them.
-pub mod pair;
 
-use crate::pair::Pair;
-use crate::pair::PairList;
+use memory::pair::Pair;
+use memory::pair::PairList;
 use memory::answer::Counts;
 use memory::bytes::get16;
 use memory::record::InputState;
@@ -17,7 +16,7 @@ ghost use Rattle.automata.specs.Memory.{Sound};
 ghost use Rattle.memory.specs.Answers.{lent};
 ghost use Rattle.relaxation.specs.Column.{Room};
 ghost use Rattle.relaxation.specs.Edges.{Readable, Both};
-ghost use Rattle.delays.specs.Pairs.{Named, Within, noPair};
+ghost use Rattle.memory.specs.Pairs.{Named, Within, noPair};
 ghost use Rattle.delays.specs.ClosingRegion.{ClosesPair, ClosesPairs, reachingOf, closableAt, viableAt, WritesClosing, Tests};
 
 // The closing delays of a pair: the least, and the least of the pair turned round.

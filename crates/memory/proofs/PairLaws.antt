@@ -1,14 +1,21 @@
 -- What is known of pairs that name tapes.
-use Prim.Native.Nat.{ℕ, zero, suc, _≤_, _<_}
+use Prim.Native.Nat.{ℕ, zero, suc, _+_, _≤_, _<_}
 use mathlib.Core.Path.{_≡_, refl, sym, ap, _∙_}
 use mathlib.Core.Bool.{Bool, true, false}
+use mathlib.Core.Option.{some}
 use mathlib.Core.List.{List, [], _∷_, map}
 use native.Mathlib.Omega.{arith}
-use lib.Dec.{leb}
-use lib.ListN.{length, getD, take, length-map, List·getD-eq-default}
+use lib.Dec.{T, leb, leb→le}
+use lib.ListN.{length, getD, getElem?, take, length-map, List·getD-eq-default}
 use lib.Seq.{length-take-le}
 use borrow.Author.Tests.{leb-true, leb-false}
-use Rattle.automata.specs.Lists.{All}
+use Rattle.automata.specs.Lists.{all, All}
+use Rattle.automata.specs.TapePair as automata
+use Rattle.automata.specs.Projection.{isTape}
+use Rattle.automata.specs.IntersectCall.{named}
+use Rattle.automata.proofs.ListFacts.{placed, place-append}
+use Rattle.automata.proofs.TestFacts.{true-T, and-T, all-∈}
+use Rattle.automata.proofs.Membership.{place-map, place-take, place-append-right}
 use Rattle.memory.specs.Pairs.{pairAs, pairsAs, noPair, Within, Named}
 use Rattle.memory.specs.declared.pair.Pair.{Pair}
 use Rattle.memory.specs.declared.pair.PairList.{PairList}
@@ -41,3 +48,27 @@ module _ (tapes : ℕ) (ps : PairList) (n : Named tapes ps) where
   -- each of them names tapes
   pub named-all : All (Within tapes) (take (ps .used) (ps .pairs))
   named-all = All-front noPair (Within tapes) (ps .used) (ps .pairs) named-fit (n .each)
+
+-- ---- the test for pairs that name tapes
+
+-- a number that is a tape
+tape-range : (tapes k : ℕ) → T (isTape tapes k) → (1 ≤ k) × (k ≤ tapes)
+tape-range tapes k t = let (a, b) = and-T (leb 1 k) (leb k tapes) t in (leb→le 1 k a, leb→le k tapes b)
+
+-- pairs that pass the test of the definitions name tapes
+pub named-tested : (tapes : ℕ) (ps : PairList) → ps .used ≤ length (ps .pairs) → ps .used ≤ 4 → all (isTape tapes) (named (pairsAs ps)) ≡ true → Named tapes ps
+named-tested tapes ps l four e = record { used-fit = four; each = each }
+  where
+    each : (h : ℕ) → h < ps .used → Within tapes (getD (ps .pairs) h noPair)
+    each h lt =
+        let p = getD (ps .pairs) h noPair in
+        let ms = pairsAs ps in
+        let firsts : List ℕ = map (λ q. q .first) ms in
+        let seconds : List ℕ = map (λ q. q .second) ms in
+        let at : getElem? ms h ≡ some (pairAs p) = place-map pairAs (take (ps .used) (ps .pairs)) h (place-take (ps .used) (ps .pairs) h noPair lt (omega arith)) in
+        let t : T (all (isTape tapes) (named ms)) = true-T _ e in
+        let a = placed (named ms) h (place-append firsts seconds h (place-map {A = automata.Pair} (λ q. q .first) ms h at)) in
+        let b = placed (named ms) (length firsts + h) (place-append-right firsts seconds h ∙ place-map {A = automata.Pair} (λ q. q .second) ms h at) in
+        let x = tape-range tapes (p .first) (all-∈ (isTape tapes) (named ms) (p .first) t a) in
+        let y = tape-range tapes (p .second) (all-∈ (isTape tapes) (named ms) (p .second) t b) in
+        record { first-from = x .0; first-to = x .1; second-from = y .0; second-to = y .1 }

@@ -2,6 +2,7 @@
 use mathlib.Core.Path.{refl}
 use native.Mathlib.Omega.{arith}
 use Rattle.automata.specs.Memory.{Sound, tableOf, decodeTable}
+use Rattle.memory.proofs.PairLaws.{named-tested}
 use borrow.Author.Needs.{needs}
 use Rattle.delay_cases.proofs.dead_ends.Statement.{statement}
 use Rattle.delay_cases.proofs.dead_ends.Tie as tie
@@ -14,21 +15,21 @@ slice-aggregate-show c = search needs
 
 show-requires : tie.Need-show-requires
 unfolding Sound tableOf decodeTable
-show-requires c κs = (omega arith, refl, record { four = omega arith; are-tapes = refl })
+show-requires c κs = (omega arith, refl, named-tested _ _ (omega arith) (omega arith) refl)
 
 slice-aggregate-show-2 : tie.Need-slice-aggregate-show-2
 slice-aggregate-show-2 c = search needs
 
 show-requires-2 : tie.Need-show-requires-2
 unfolding Sound tableOf decodeTable
-show-requires-2 c κs = (omega arith, refl, record { four = omega arith; are-tapes = refl })
+show-requires-2 c κs = (omega arith, refl, named-tested _ _ (omega arith) (omega arith) refl)
 
 slice-aggregate-show-3 : tie.Need-slice-aggregate-show-3
 slice-aggregate-show-3 c = search needs
 
 show-requires-3 : tie.Need-show-requires-3
 unfolding Sound tableOf decodeTable
-show-requires-3 c κs = (omega arith, refl, record { four = omega arith; are-tapes = refl })
+show-requires-3 c κs = (omega arith, refl, named-tested _ _ (omega arith) (omega arith) refl)
 
 returns : tie.Need-returns
 returns c = search needs

@@ -3,7 +3,7 @@ use Rattle.relaxation.proofs.SweepLaws.{frame-wider}
 use Rattle.delays.proofs.PairLaws.{pairs-turn}
 use Rattle.relaxation.proofs.ColumnLaws.{frame-refl}
 use Rattle.delays.specs.ClosingRegion.{PairClosed}
-use Rattle.delays.specs.Pairs.{noPair}
+use Rattle.memory.specs.Pairs.{noPair}
 use Rattle.relaxation.specs.Column.{Frame}
 use lib.ListN.{getD}
 use Prim.Native.Nat.{ℕ, _<_}

@@ -30,7 +30,7 @@ close-pairs-requires c κs =
     let l : length (s .args .pairs .pairs) ≡ 4 = sym (length-map (s .args .pairs .pairs) _) ∙ s .good .1 .1 .1 .0 .1 .1 .0 .1 .0 .1 in
     let k = c .before .before .before .before .mark-reaching .ensures .frame .same-length in (
       sound-readable m (s .pre .0),
-      s .pre .2 .four,
+      s .pre .2 .used-fit,
       sound-within m (s .pre .0) (s .args .pairs) l (s .pre .2),
       omega (arith, s .pre .1, k),
     )
