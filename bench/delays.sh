@@ -1,4 +1,4 @@
-#!/bin/sh
+#!/usr/bin/env bash
 # Times the closing delays of two large tables. `rt check delay_bench` proves and builds the program first.
 set -e
 cd "$(dirname "$0")/.."
