@@ -68,7 +68,7 @@ closing-tables-requires : tie.Need-closing-tables-requires
 closing-tables-requires c κs =
     let s = c .before .before .before .before .before .before .before .before .before .before .before .before .before .before .before .before .before in (
       sound-lent (countsOf (s .args .t2)) _ (arcsBytes (s .args .a) (s .args .b) (s .args .c) (s .args .d)) _ _ (c .before .before .before .before .before .before .before .before .before .before .before .before .before .before .before .state-records .ensures)
-      (four-arcs (s .args .a) (s .args .b) (s .args .c) (s .args .d) _ _ _ _ (c .before .before .before .before .before .before .before .before .before .before .before .before .before .put-arc .ensures) (c .before .before .before .before .before .before .before .before .before .before .put-arc2 .ensures) (c .before .before .before .before .before .before .before .put-arc3 .ensures) (c .before .before .before .before .put-arc4 .ensures)) (s .pre .1),
+          (four-arcs (s .args .a) (s .args .b) (s .args .c) (s .args .d) _ _ _ _ (c .before .before .before .before .before .before .before .before .before .before .before .before .before .put-arc .ensures) (c .before .before .before .before .before .before .before .before .before .before .put-arc2 .ensures) (c .before .before .before .before .before .before .before .put-arc3 .ensures) (c .before .before .before .before .put-arc4 .ensures)) (s .pre .1),
       omega (arith, s .pre .0),
       s .pre .2,
     )

@@ -1,0 +1,2 @@
+-- Arcs that join states, one by one.
+pub mod JoinedFacts
