@@ -1,0 +1,2 @@
+-- Laws of edges in work space and of marks.
+pub mod EdgeLaws
