@@ -202,3 +202,10 @@ rounds-still es n left same w u v s r l b d e =
 pub kept-marks : (n : ℕ) (u v s : List ℕ) → u ≡ splice 0 (take (n - 0) (drop 0 v)) s → u ≡ splice 0 (part 0 n v) s
 unfolding part
 kept-marks n u v s e = let z : n - 0 ≡ n = omega arith in e ∙ ap (λ (k : ℕ). splice 0 (take k v) s) z
+
+-- the mark that a byte says
+pub bit-one : (b : ℕ) → b ≡ 1 → 1 ≡ bit (isMark b)
+bit-one b e = rw e
+
+pub bit-none : (b : ℕ) → b ≢ 1 → 0 ≡ bit (isMark b)
+bit-none b e = rw (eqb-false b 1 e)
