@@ -1,0 +1,171 @@
+-- Edges in work space: what is stored is read back, and what is held stays.
+use Prim.Native.Nat.{ℕ, zero, suc, _+_, _-_, _*_, _<_, _≤_}
+use mathlib.Core.Path.{_≡_, refl, sym, ap, ap₂, _∙_}
+use mathlib.Core.Logic.{_⊎_, inl, inr}
+use mathlib.Core.Bool.{Bool, true, false}
+use mathlib.Core.Option.{some, Option·some-injective}
+use mathlib.Core.List.{List, [], _∷_, _++_, map}
+use native.Mathlib.Omega.{arith}
+use lib.ListN.{length, getElem?, length-append}
+use Rattle.automata.specs.Automaton.{Arc}
+use Rattle.automata.specs.Explore.{Edge, edgeGraph}
+use Rattle.automata.specs.Rounds.{visit, sweep, round}
+use Rattle.automata.specs.Marks.{mark, marked, coaccessible}
+use Rattle.automata.proofs.ListFacts
+use Rattle.memory.specs.Region.{part, splice}
+use Rattle.memory.specs.Endian.{le, toLe}
+use Rattle.memory.proofs.Laws.{splice-behind, part-splice-in, part-splice-before, part-splice-after, part-front, part-middle, part-end}
+use Rattle.memory.proofs.EndianLaws.{length-toLe, le-toLe}
+use Rattle.edges.specs.declared.edge.EdgeRecord.{EdgeRecord}
+use Rattle.edges.specs.Edges.{edgeBytes, edgeAt, edgesAt, recordGraph, Joined, recordOf, HoldsEdges}
+
+-- ---- one record
+
+-- a record takes up 6 bytes
+pub length-edge : (e : EdgeRecord) → length (edgeBytes e) ≡ 6
+unfolding edgeBytes
+length-edge e = refl
+
+-- a record written number by number
+pub edge-stored : (at : ℕ) (e : EdgeRecord) (w w1 w2 w3 : List ℕ) → at + 6 ≤ length w → w1 ≡ splice at (toLe 2 (e .from .0)) w
+    → w2 ≡ splice (at + 2) (toLe 2 (e .arc)) w1 → w3 ≡ splice (at + 4) (toLe 2 (e .to .0)) w2 → w3 ≡ splice at (edgeBytes e) w
+unfolding edgeBytes
+edge-stored at e w w1 w2 w3 h a b c =
+    splice-behind at (at + 4) (toLe 2 (e .from .0) ++ toLe 2 (e .arc)) (toLe 2 (e .to .0)) w w2 w3
+    (splice-behind at (at + 2) (toLe 2 (e .from .0)) (toLe 2 (e .arc)) w w1 w2 a b (omega arith) (omega arith)) c (omega arith) (omega arith)
+
+-- an edge, from its numbers
+pub edge-read : (at : ℕ) (w : List ℕ) (s n t : ℕ) → s ≡ le (part at 2 w) → n ≡ le (part (at + 2) 2 w) → t ≡ le (part (at + 4) 2 w)
+    → _≡_ {A = EdgeRecord} (record { from = record { 0 = s }; arc = n; to = record { 0 = t } }) (edgeAt at w)
+edge-read at w s n t a b c = λ i. record { from = record { 0 = a i }; arc = b i; to = record { 0 = c i } }
+
+-- the numbers of an edge fit into two bytes each
+pub record Fits (e : EdgeRecord) : Type 0 where
+  pub from : e .from .0 < 65536
+  pub arc : e .arc < 65536
+  pub to : e .to .0 < 65536
+
+-- a record is read back where it was written
+pub edge-back : (at : ℕ) (e : EdgeRecord) (w : List ℕ) → Fits e → at + 6 ≤ length w → edgeAt at (splice at (edgeBytes e) w) ≡ e
+unfolding edgeBytes
+edge-back at e w f h =
+    let a = toLe 2 (e .from .0) in
+    let b = toLe 2 (e .arc) in
+    let c = toLe 2 (e .to .0) in
+    let r = edgeBytes e in
+    let l : length r ≡ 6 = length-edge e in
+    let p : part at 2 (splice at r w) ≡ a = part-at-zero at 2 r w (omega arith) (omega arith) ∙ part-front 2 a (b ++ c) refl in
+    let q : part (at + 2) 2 (splice at r w) ≡ b = part-splice-in 2 2 at r w (omega arith) (omega arith) ∙ part-middle 2 2 a b c refl refl in
+    let s : part (at + 4) 2 (splice at r w) ≡ c = part-splice-in 4 2 at r w (omega arith) (omega arith) ∙ part-end 4 2 (a ++ b) c refl refl in
+    λ i. record {
+      from = record { 0 = (ap le p ∙ le-toLe 2 (e .from .0) (f .from)) i };
+      arc = (ap le q ∙ le-toLe 2 (e .arc) (f .arc)) i;
+      to = record { 0 = (ap le s ∙ le-toLe 2 (e .to .0) (f .to)) i };
+    }
+  where
+    part-at-zero : (at n : ℕ) (r w : List ℕ) → n ≤ length r → at + length r ≤ length w → part at n (splice at r w) ≡ part 0 n r
+    part-at-zero at n r w h k = let z : at + 0 ≡ at = omega arith in ap (λ (m : ℕ). part m n (splice at r w)) (sym z) ∙ part-splice-in 0 n at r w (omega arith) k
+
+-- a record beside the region that was written
+pub edge-beside : (k at : ℕ) (ys w : List ℕ) → at + length ys ≤ length w → (k + 6 ≤ at) ⊎ (at + length ys ≤ k) → edgeAt k (splice at ys w) ≡ edgeAt k w
+edge-beside k at ys w h (inl l) = λ i. record {
+  from = record { 0 = le (part-splice-before k 2 at ys w (omega arith) (omega arith) i) };
+  arc = le (part-splice-before (k + 2) 2 at ys w (omega arith) (omega arith) i);
+  to = record { 0 = le (part-splice-before (k + 4) 2 at ys w (omega arith) (omega arith) i) };
+}
+edge-beside k at ys w h (inr l) = λ i. record {
+  from = record { 0 = le (part-splice-after k 2 at ys w (omega arith) (omega arith) i) };
+  arc = le (part-splice-after (k + 2) 2 at ys w (omega arith) (omega arith) i);
+  to = record { 0 = le (part-splice-after (k + 4) 2 at ys w (omega arith) (omega arith) i) };
+}
+
+-- ---- a list of edges that is held
+
+-- nothing is held of no edges
+pub holds-none : (at room : ℕ) (w : List ℕ) → HoldsEdges at room [] w
+unfolding HoldsEdges
+holds-none at room w j x l e = ListFacts.none-not-some refl e
+
+-- one of them
+pub held-at : (at room : ℕ) (es : List (Edge (ℕ × Arc ℕ))) (w : List ℕ) → HoldsEdges at room es w
+    → (j : ℕ) (x : Edge (ℕ × Arc ℕ)) → j < room → getElem? es j ≡ some x → edgeAt (at + 16 * j) w ≡ recordOf x
+unfolding HoldsEdges
+held-at at room es w h = h
+
+-- a place of a list with one element more: an old one, or the last
+snoc-place : {A : Type 0} (xs : List A) (y : A) (j : ℕ) (x : A) → getElem? (xs ++ (y ∷ [])) j ≡ some x
+    → (getElem? xs j ≡ some x) ⊎ ((j ≡ length xs) × (y ≡ x))
+snoc-place [] y zero x e = inr (refl, Option·some-injective y x e)
+snoc-place [] y (suc j) x e = ListFacts.none-not-some refl e
+snoc-place (z ∷ xs) y zero x e = inl e
+snoc-place (z ∷ xs) y (suc j) x e = elim (snoc-place xs y j x e) [ inl p ↦ inl p | inr p ↦ inr (ap suc (p .0), p .1) ]
+
+-- Writing the record of one edge more behind them.
+pub holds-more : (at room : ℕ) (es : List (Edge (ℕ × Arc ℕ))) (x : Edge (ℕ × Arc ℕ)) (w v : List ℕ) → Fits (recordOf x) → length es < room
+    → at + 16 * room ≤ length w → v ≡ splice (at + 16 * length es) (edgeBytes (recordOf x)) w → HoldsEdges at room es w → HoldsEdges at room (es ++ (x ∷ [])) v
+unfolding HoldsEdges
+holds-more at room es x w v f l h e k j y jr g = go (snoc-place es x j y g)
+  where
+    place : ℕ
+    place = at + 16 * length es
+
+    n : length (edgeBytes (recordOf x)) ≡ 6
+    n = length-edge (recordOf x)
+
+    go : (getElem? es j ≡ some y) ⊎ ((j ≡ length es) × (x ≡ y)) → edgeAt (at + 16 * j) v ≡ recordOf y
+    go (inl p) =
+        let b : j < length es = ListFacts.place-bound es j p in
+        ap (edgeAt (at + 16 * j)) e ∙ edge-beside (at + 16 * j) place (edgeBytes (recordOf x)) w (omega (arith, n)) (inl (omega arith)) ∙ k j y jr p
+    go (inr p) =
+        ap₂ (λ (i : ℕ) (u : List ℕ). edgeAt (at + 16 * i) u) (p .0) e ∙ edge-back place (recordOf x) w f (omega arith) ∙ ap recordOf (p .1)
+
+-- Edges past the room are not looked at.
+pub holds-beyond : (at room : ℕ) (es more : List (Edge (ℕ × Arc ℕ))) (w : List ℕ) → room ≤ length es → HoldsEdges at room es w → HoldsEdges at room (es ++ more) w
+unfolding HoldsEdges
+holds-beyond at room es more w l h j x jr e =
+    let p = ListFacts.place-exists es j (omega arith) in
+    h j x jr (p .1 ∙ sym (ListFacts.place-append es more j (p .1)) ∙ e)
+
+-- A write outside of their places keeps them.
+pub holds-beside : (at room b : ℕ) (es : List (Edge (ℕ × Arc ℕ))) (ys w v : List ℕ) → b + length ys ≤ length w → (b + length ys ≤ at) ⊎ (at + 16 * room ≤ b)
+    → v ≡ splice b ys w → HoldsEdges at room es w → HoldsEdges at room es v
+unfolding HoldsEdges
+holds-beside at room b es ys w v l (inl s) e h j x jr g =
+    ap (edgeAt (at + 16 * j)) e ∙ edge-beside (at + 16 * j) b ys w l (inr (omega arith)) ∙ h j x jr g
+holds-beside at room b es ys w v l (inr s) e h j x jr g =
+    ap (edgeAt (at + 16 * j)) e ∙ edge-beside (at + 16 * j) b ys w l (inl (omega arith)) ∙ h j x jr g
+
+-- the records are those of the edges
+records-from : (at : ℕ) (es : List (Edge (ℕ × Arc ℕ))) (w : List ℕ) → ((j : ℕ) (x : Edge (ℕ × Arc ℕ)) → getElem? es j ≡ some x → edgeAt (at + 16 * j) w ≡ recordOf x)
+    → edgesAt at (length es) w ≡ map recordOf es
+unfolding edgesAt
+records-from at [] w h = refl
+records-from at (x ∷ es) w h =
+    let z : at + 16 * 0 ≡ at = omega arith in
+    ap₂ (λ (e : EdgeRecord) (r : List EdgeRecord). e ∷ r) (ap (λ (k : ℕ). edgeAt k w) (sym z) ∙ h zero x refl)
+    (records-from (at + 16) es w (λ j y e. let s : at + 16 + 16 * j ≡ at + 16 * suc j = omega arith in ap (λ (k : ℕ). edgeAt k w) s ∙ h (suc j) y e))
+
+-- The edges read from work space are the records of those that it holds.
+pub edges-held : (at room : ℕ) (es : List (Edge (ℕ × Arc ℕ))) (w : List ℕ) → HoldsEdges at room es w → length es ≤ room → edgesAt at (length es) w ≡ map recordOf es
+unfolding HoldsEdges
+edges-held at room es w h l = records-from at es w (λ j x e. let b = ListFacts.place-bound es j e in h j x (omega arith) e)
+
+-- ---- the marks by the records are the marks by the edges
+
+sweep-records : (gs : List (Edge (ℕ × Arc ℕ))) (es : List (Edge (ℕ × Arc ℕ))) (old new : List Bool)
+    → sweep (recordGraph (map recordOf gs)) false (mark (recordGraph (map recordOf gs))) old new (map recordOf es)
+    ≡ sweep (edgeGraph gs) false (mark (edgeGraph gs)) old new es
+sweep-records gs [] old new = refl
+sweep-records gs (x ∷ es) old new = sweep-records gs es old (visit (edgeGraph gs) false (mark (edgeGraph gs)) old new x)
+
+rounds-records : (es : List (Edge (ℕ × Arc ℕ))) (n : ℕ) (fs : List Bool) → marked (recordGraph (map recordOf es)) fs n ≡ marked (edgeGraph es) fs n
+rounds-records es zero fs = refl
+rounds-records es (suc n) fs =
+    sweep-records es es (marked (recordGraph (map recordOf es)) fs n) (marked (recordGraph (map recordOf es)) fs n)
+    ∙ ap (round (edgeGraph es) false (mark (edgeGraph es))) (rounds-records es n fs)
+
+-- Which vertices lead on to a final one, by the records in work space and by the edges that it holds.
+pub coaccessible-held : (at room : ℕ) (es : List (Edge (ℕ × Arc ℕ))) (w : List ℕ) (fs : List Bool) → HoldsEdges at room es w → length es ≤ room
+    → coaccessible (recordGraph (edgesAt at (length es) w)) fs ≡ coaccessible (edgeGraph es) fs
+coaccessible-held at room es w fs h l =
+    ap (λ (rs : List EdgeRecord). coaccessible (recordGraph rs) fs) (edges-held at room es w h l) ∙ rounds-records es (length fs) fs

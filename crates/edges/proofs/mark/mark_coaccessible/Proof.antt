@@ -1,0 +1,92 @@
+-- `edges::mark::mark_coaccessible` meets its contract. Assumes nothing.
+use denote.Ref.{now}
+use mathlib.Core.Path.{_≡_, refl, sym, _∙_}
+use Prim.Native.Nat.{_+_, _-_, _*_, _≤_}
+use native.Mathlib.Omega.{arith}
+use lib.ListN.{length, take, drop}
+use Rattle.edges.specs.Edges.{edgesAt}
+use Rattle.edges.proofs.MarkLaws.{roundsBytes, rounds-turn, rounds-still, rounds-end}
+use borrow.Author.Needs.{needs}
+use Rattle.edges.proofs.mark.mark_coaccessible.Statement.{statement}
+use Rattle.edges.proofs.mark.mark_coaccessible.Tie as tie
+use Rattle.edges.proofs.mark.mark_coaccessible.Reads as reads
+use Rattle.edges.proofs.mark.mark_coaccessible.Lts as lts
+use Rattle.edges.proofs.mark.round_marks.Reads as round-marks-reads
+
+abbrev Inv-loop : tie.InvT-loop
+Inv-loop work base arcs count marks₀ scratch₀ left₀ marks scratch left =
+    (length marks ≡ length marks₀) × (length scratch ≡ length scratch₀) × (drop count marks ≡ drop count marks₀)
+    × (roundsBytes (edgesAt base arcs work) left (take count marks) ≡ roundsBytes (edgesAt base arcs work) count (take count marks₀))
+
+abbrev μ-loop : tie.MeasureT-loop
+μ-loop work base arcs count marks₀ scratch₀ left₀ marks scratch left = left
+
+loop-holds : tie.Need-loop-holds Inv-loop μ-loop
+loop-holds c = (refl, refl, refl, refl)
+
+round-marks-requires : tie.Need-round-marks-requires Inv-loop μ-loop
+round-marks-requires c κs =
+    let s = c .before .before .before .before .before .before .before .pre in
+    let l = c .before .before .before .loop in
+    (s .0, omega (arith, s .1, l .inv .0), omega (arith, s .2, l .inv .1), s .3)
+
+same-length : tie.Need-same-length Inv-loop μ-loop
+same-length c = search needs
+
+same-length-2 : tie.Need-same-length-2 Inv-loop μ-loop
+same-length-2 c = search needs
+
+returns : tie.Need-returns Inv-loop μ-loop
+returns c =
+    let s = c .before .before .before .before .before .before .before .before .before .before .before .before .before in
+    let a = s .args in
+    let l = c .before .before .before .before .before .before .before .before .before .loop in
+    rounds-still (edgesAt (a .base) (a .arcs) (now (a .work))) (a .count) (l .left) _ _ _ (now (a .marks)) (c .if1 .taken) (c .before .before .before .before .before .round-marks .ensures) (s .pre .1) (s .pre .4) (l .inv .2) (l .inv .3)
+
+sub-left : tie.Need-sub-left Inv-loop μ-loop
+sub-left c = search needs
+
+loop-less : tie.Need-loop-less Inv-loop μ-loop
+loop-less c = search needs
+
+loop-again : tie.Need-loop-again Inv-loop μ-loop
+loop-again c =
+    let l = c .before .before .before .before .before .before .before .before .before .loop in
+    let r = c .before .before .before .before .before .round-marks in
+    let a = c .before .before .before .before .before .before .before .before .before .before .before .before .before .args in (
+      r .kept .1 .1 .1 .1 .0 ∙ l .inv .0,
+      r .kept .1 .1 .1 .1 .1 .0 ∙ l .inv .1,
+      r .ensures .rest ∙ l .inv .2,
+      rounds-turn (edgesAt (a .base) (a .arcs) (now (a .work))) (a .count) (l .left) (l .left - 1) _ _ _ (now (a .marks)) (omega (arith, c .before .before .before .before .before .before .before .before .loop-test .taken)) (r .ensures) (l .inv .3),
+    )
+
+same-length-3 : tie.Need-same-length-3 Inv-loop μ-loop
+same-length-3 c = search needs
+
+same-length-4 : tie.Need-same-length-4 Inv-loop μ-loop
+same-length-4 c = search needs
+
+returns-2 : tie.Need-returns-2 Inv-loop μ-loop
+returns-2 c =
+    let s = c .before .before .before .before .before in
+    let a = s .args in
+    let l = c .before .loop in
+    rounds-end (edgesAt (a .base) (a .arcs) (now (a .work))) (a .count) (l .left) _ (now (a .marks)) (omega (arith, c .loop-test .left)) (s .pre .1) (s .pre .4) (l .inv .2) (l .inv .3)
+
+pub mark-coaccessible-spec : {M : Type 1} → statement M
+mark-coaccessible-spec =
+    tie.close
+    (tie.spec
+    Inv-loop
+    μ-loop
+    loop-holds
+    round-marks-requires
+    same-length
+    same-length-2
+    returns
+    sub-left
+    loop-less
+    loop-again
+    same-length-3
+    same-length-4
+    returns-2)

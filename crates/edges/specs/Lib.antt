@@ -1,0 +1,3 @@
+-- What the contracts over edges between configurations cite.
+pub mod Edges
+pub mod Marked

@@ -1,0 +1,3 @@
+-- Laws of the rows of configurations, of their numbers and of the result.
+pub mod RankLaws
+pub mod RowLaws

@@ -1,0 +1,3 @@
+-- What the contracts over the kept configurations cite.
+pub mod Ranks
+pub mod Rows
