@@ -53,6 +53,7 @@ store-four-requires-2 c κs = search needs
 same-length : tie.Need-same-length
 same-length c = search needs
 
+-- that there are eight labels is part of what is known of the parameter
 returns : tie.Need-returns
 returns c =
     let s = c .before .before .before .before .before .before .before .before .before .before .before .before .before .before .before .before .before .before .before .before .before in
