@@ -111,6 +111,10 @@ config-row at xs =
     let d = leftover-in at 224 xs (omega arith) in
     λ i. record { state = record { 0 = s i }; leftovers = a i ∷ b i ∷ c i ∷ d i ∷ [] }
 
+-- a configuration is loaded from where its bytes stand
+pub load-row : (used at : ℕ) (c : Config) (w : List ℕ) → GoodConfig used c → part at 298 w ≡ configBytes c → configAt at w ≡ c
+load-row used at c w g e = config-row at w ∙ ap (configAt 0) e ∙ config-back used c g
+
 module _ (used at : ℕ) (c : Config) (w : List ℕ) (g : GoodConfig used c) (h : at + 298 ≤ length w) where
   -- the bytes that a store leaves, and the configuration that is loaded from them
   pub row-stored : part at 298 (splice at (configBytes c) w) ≡ configBytes c
@@ -119,7 +123,7 @@ module _ (used at : ℕ) (c : Config) (w : List ℕ) (g : GoodConfig used c) (h 
       ap (λ (n : ℕ). part at n (splice at (configBytes c) w)) (sym l) ∙ part-splice-same at (configBytes c) w (omega arith)
 
   pub load-stored : configAt at (splice at (configBytes c) w) ≡ c
-  load-stored = config-row at (splice at (configBytes c) w) ∙ ap (configAt 0) row-stored ∙ config-back used c g
+  load-stored = load-row used at c (splice at (configBytes c) w) g row-stored
 
   -- every other record is what it was
   pub row-other : (k : ℕ) → (k + 298 ≤ at) ⊎ (at + 298 ≤ k) → part k 298 (splice at (configBytes c) w) ≡ part k 298 w

@@ -10,7 +10,7 @@ use native.Mathlib.Nat.{sub-zero, zero-sub, suc-sub-suc}
 use lib.Dec.{eqb, ltb}
 use lib.ListN.{length, getD, getElem?, take, drop, replicate, drop-of-length-le, length-take, length-drop, length-map, length-replicate}
 use lib.Seq.{drop-cons, getD-take, length-take-le}
-use borrow.Author.Tests.{lt-ltb, le-ltb}
+use borrow.Author.Tests.{lt-ltb, le-ltb, ltb-false}
 use Rattle.automata.specs.Lists.{or, and, any, all, All, sameList}
 use Rattle.automata.specs.TapePair.{Pair, TapePair, limited}
 use Rattle.automata.specs.Leftover as automata
@@ -109,6 +109,30 @@ module _ (used limit : ℕ) (c : Config) (g : GoodConfig used c) (h : used ≤ 4
   unfolding anyLonger
   longer-none i k = let m : length (take used (c .leftovers)) ≤ i = omega (arith, count) in ap (anyLonger limit) (drop-of-length-le (take used (c .leftovers)) m)
 
+-- ---- what a limit says of the lengths
+
+or-parts : (a b : Bool) → or a b ≡ false → (a ≡ false) × (b ≡ false)
+or-parts true b e = absurd (false≢true (sym e))
+or-parts false b e = (refl, e)
+
+-- where no leftover is longer, each is as short
+none-longer : (limit h : ℕ) (ls : List Leftover) → h < length ls → anyLonger limit ls ≡ false → getD ls h outside .len ≤ limit
+unfolding anyLonger
+none-longer limit h [] k e = absurd (omega arith)
+none-longer limit zero (l ∷ ls) k e = ltb-false limit (l .len) (or-parts (ltb limit (l .len)) (anyLonger limit ls) e .0)
+none-longer limit (suc h) (l ∷ ls) k e = none-longer limit h ls (omega arith) (or-parts (ltb limit (l .len)) (anyLonger limit ls) e .1)
+
+pub short-each : (used limit : ℕ) (c : Config) (ps : List Pair) → GoodConfig used c → used ≤ 4 → length ps ≡ used → tooLong (limited limit ps) (configAs used c .leftovers) ≡ false
+    → (h : ℕ) → h < used → getD (c .leftovers) h outside .len ≤ limit
+short-each used limit c ps g k e f h l =
+    let m : h < length (take used (c .leftovers)) = omega (arith, count used limit c g k) in
+    rw (getD-take used (c .leftovers) h outside l) at (none-longer limit h (take used (c .leftovers)) m (sym (taken-is used limit c g k ps e) ∙ f))
+
+-- at the start nothing is too long
+pub start-short : (D : ℕ) (ps : List Pair) → tooLong (limited D ps) (map (λ p. automata.nothing) (limited D ps)) ≡ false
+start-short D [] = refl
+start-short D (p ∷ ps) = rw (le-ltb D 0 (omega arith)) (start-short D ps)
+
 -- ---- no leftovers
 same-nil : (xs : List ℕ) → sameList xs [] ≡ not (ltb 0 (length xs))
 same-nil [] = sym (ap not (le-ltb 0 0 (omega arith)))
@@ -180,6 +204,10 @@ lengths-in b n (suc used) h [] m k e = let z : _≡_ {A = ℕ} 0 1 = cc in absur
 lengths-in b zero (suc used) h (l ∷ ls) m k e = absurd (omega arith)
 lengths-in b (suc n) (suc used) zero (l ∷ ls) m k e = let q : leftoverAs l ≡ m = cc in ap (λ (x : automata.Leftover). length (onTape b x)) q
 lengths-in b (suc n) (suc used) (suc h) (l ∷ ls) m k e = lengths-in b n used h ls m (omega arith) e
+
+-- there are as many leftovers as pairs
+pub length-leftovers : (used : ℕ) (c : Config) → GoodConfig used c → used ≤ 4 → length (configAs used c .leftovers) ≡ used
+length-leftovers used c g h = length-map (take used (c .leftovers)) leftoverAs ∙ length-take-le used (c .leftovers) (omega (arith, g .four))
 
 pub length-of : (b : Bool) (used h : ℕ) (c : Config) (m : automata.Leftover) → used ≤ 4 → getElem? (configAs used c .leftovers) h ≡ some m
     → getD (lengthsOn b c) h 0 ≡ length (onTape b m)
