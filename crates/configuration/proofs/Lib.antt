@@ -1,4 +1,5 @@
 -- Laws that belong to no one function.
+pub mod ListLaws
 pub mod StripLaws
 pub mod RecordLaws
 pub mod TestLaws

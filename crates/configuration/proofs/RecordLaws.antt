@@ -1,23 +1,17 @@
 -- What loads and stores of leftovers and configurations leave, over plain lists.
-use Prim.Native.Nat.{ℕ, zero, suc, _+_, _-_, _*_, _≤_, _<_}
-use mathlib.Core.Path.{_≡_, refl, sym, ap, ap₂, _∙_}
-use mathlib.Core.Bool.{Bool, true, false}
+use Prim.Native.Nat.{ℕ, _+_, _-_, _≤_}
+use mathlib.Core.Path.{_≡_, refl, ap, _∙_}
 use mathlib.Core.List.{List, [], _∷_, _++_, append-nil, append-assoc}
-use mathlib.Core.Logic.{_⊎_, ⊎-elim}
 use native.Mathlib.Omega.{arith}
-use native.Mathlib.Nat.{add-zero, add-assoc}
 use lib.Dec.{eqb}
 use lib.ListN.{length, getD, set, take, drop, replicate, length-append, length-replicate, length-take, length-drop, drop-of-length-le}
-use Rattle.automata.specs.Lists.{All}
 use Rattle.memory.specs.Region.{part, splice}
 use Rattle.memory.specs.Endian.{le, toLe}
-use Rattle.memory.proofs.Laws.{two-stores, splice-behind, length-splice, part-splice-in, part-splice-same, part-splice-before, part-splice-after, getD-splice-in, getD-splice-before, getD-splice-after, part-middle, part-front, part-end}
-use Rattle.memory.proofs.EndianLaws.{length-toLe, le-toLe}
-use Rattle.memory.specs.declared.record.InputState.{InputState}
+use Rattle.memory.proofs.Laws.{two-stores, splice-behind}
 use Rattle.configuration.specs.declared.leftover.Leftover.{Leftover}
 use Rattle.configuration.specs.declared.config.Config.{Config}
-use Rattle.configuration.specs.Leftovers.{flag, leftoverBytes, leftoverAt, outside, Good}
-use Rattle.configuration.specs.Configs.{GoodConfig, configBytes, configAt}
+use Rattle.configuration.specs.Leftovers.{flag, leftoverBytes, leftoverAt, outside}
+use Rattle.configuration.specs.Configs.{configBytes, configAt}
 
 -- an array that was filled from a part of a slice
 pub array-of : (at n : ℕ) (xs a : List ℕ) → at + n ≤ length xs → a ≡ splice 0 (take (at + n - at) (drop at xs)) (replicate n 0) → a ≡ part at n xs
@@ -44,15 +38,6 @@ leftover-stored at l b w w2 h s f e = (
 )
 
 -- ---- a configuration
-
--- a list of four, element by element
-pub four-elements : {A : Type 0} (d : A) (xs : List A) → length xs ≡ 4 → xs ≡ getD xs 0 d ∷ getD xs 1 d ∷ getD xs 2 d ∷ getD xs 3 d ∷ []
-four-elements d [] e = absurd (omega arith)
-four-elements d (a ∷ []) e = absurd (omega arith)
-four-elements d (a ∷ b ∷ []) e = absurd (omega arith)
-four-elements d (a ∷ b ∷ c ∷ []) e = absurd (omega arith)
-four-elements d (a ∷ b ∷ c ∷ f ∷ []) e = refl
-four-elements d (a ∷ b ∷ c ∷ f ∷ g ∷ xs) e = absurd (omega arith)
 
 -- what a call left that stored ys, of 74 bytes, at place b
 abbrev Left : ℕ → List ℕ → List ℕ → List ℕ → Type 0

@@ -1,11 +1,11 @@
 -- A configuration that was stored is loaded again, others stay, and its bytes and its meaning determine each other.
-use Prim.Native.Nat.{ℕ, zero, suc, _+_, _-_, _≤_, _<_}
+use Prim.Native.Nat.{ℕ, _+_, _-_, _≤_, _<_}
 use mathlib.Core.Path.{_≡_, refl, sym, ap, ap₂, _∙_}
 use mathlib.Core.Logic.{_⊎_, ⊎-elim, _↔_}
-use mathlib.Core.Bool.{Bool, true, false, false≢true}
+use mathlib.Core.Bool.{Bool, true, false}
 use mathlib.Core.List.{List, [], _∷_, _++_, map, append-assoc, append-nil}
 use native.Mathlib.Omega.{arith}
-use native.Mathlib.Nat.{add-zero, add-assoc, sub-zero}
+use native.Mathlib.Nat.{add-zero, add-assoc}
 use lib.Dec.{eqb}
 use lib.ListN.{length, getD, take, drop, replicate, length-append, take-append-drop}
 use lib.Seq.{getD-append-add}
@@ -13,6 +13,7 @@ use Rattle.automata.specs.Lists.{All, Decides, sameList}
 use Rattle.automata.specs.Leftover as automata
 use Rattle.automata.specs.Config as model
 use Rattle.automata.proofs.ListFacts.{numbers-decided, lists-decided}
+use Rattle.automata.proofs.TestFacts.{same-truth}
 use Rattle.automata.proofs.Configurations.{configs-decided}
 use Rattle.memory.specs.Region.{part, splice}
 use Rattle.memory.specs.Endian.{le, toLe}
@@ -22,8 +23,8 @@ use Rattle.configuration.specs.declared.leftover.Leftover.{Leftover}
 use Rattle.configuration.specs.declared.config.Config.{Config}
 use Rattle.configuration.specs.Leftovers.{flag, sided, leftoverAs, blank, outside, Good, leftoverBytes, leftoverAt, packed, leftoverOf}
 use Rattle.configuration.specs.Configs.{configAs, GoodConfig, configBytes, configAt}
-use Rattle.configuration.proofs.RecordLaws.{four-elements}
-use Rattle.configuration.proofs.TestLaws.{good-at, kept-length, All-take}
+use Rattle.configuration.proofs.ListLaws.{four-elements, All-take}
+use Rattle.configuration.proofs.TestLaws.{good-at, kept-length}
 
 -- ---- a leftover in a record
 flag-back : (b : Bool) → eqb (flag b) 1 ≡ b
@@ -111,6 +112,10 @@ config-row at xs =
     let d = leftover-in at 224 xs (omega arith) in
     λ i. record { state = record { 0 = s i }; leftovers = a i ∷ b i ∷ c i ∷ d i ∷ [] }
 
+-- a configuration is loaded from where its bytes stand
+pub load-row : (used at : ℕ) (c : Config) (w : List ℕ) → GoodConfig used c → part at 298 w ≡ configBytes c → configAt at w ≡ c
+load-row used at c w g e = config-row at w ∙ ap (configAt 0) e ∙ config-back used c g
+
 module _ (used at : ℕ) (c : Config) (w : List ℕ) (g : GoodConfig used c) (h : at + 298 ≤ length w) where
   -- the bytes that a store leaves, and the configuration that is loaded from them
   pub row-stored : part at 298 (splice at (configBytes c) w) ≡ configBytes c
@@ -119,7 +124,7 @@ module _ (used at : ℕ) (c : Config) (w : List ℕ) (g : GoodConfig used c) (h 
       ap (λ (n : ℕ). part at n (splice at (configBytes c) w)) (sym l) ∙ part-splice-same at (configBytes c) w (omega arith)
 
   pub load-stored : configAt at (splice at (configBytes c) w) ≡ c
-  load-stored = config-row at (splice at (configBytes c) w) ∙ ap (configAt 0) row-stored ∙ config-back used c g
+  load-stored = load-row used at c (splice at (configBytes c) w) g row-stored
 
   -- every other record is what it was
   pub row-other : (k : ℕ) → (k + 298 ≤ at) ⊎ (at + 298 ≤ k) → part k 298 (splice at (configBytes c) w) ≡ part k 298 w
@@ -161,13 +166,8 @@ leftovers-form (l ∷ ls) g = ap₂ (λ (x : Leftover) (xs : List Leftover). x �
 
 -- two tests that decide equal questions answer the same
 decided : {A B : Type 0} {s : A → A → Bool} {t : B → B → Bool} {x y : A} {u v : B} → Decides s → Decides t → (x ≡ y → u ≡ v) → (u ≡ v → x ≡ y) → s x y ≡ t u v
-decided {s = s} {t = t} {x = x} {y = y} {u = u} {v = v} ds dt f b = go (s x y) (t u v) refl refl
-  where
-    go : (p q : Bool) → s x y ≡ p → t u v ≡ q → p ≡ q
-    go true true e k = refl
-    go false false e k = refl
-    go true false e k = absurd (false≢true (sym k ∙ ap (t u) (sym (f (ds .sound x y e))) ∙ dt .complete u))
-    go false true e k = absurd (false≢true (sym e ∙ ap (s x) (sym (b (dt .sound u v k))) ∙ ds .complete x))
+decided {s = s} {t = t} {x = x} {y = y} {u = u} {v = v} ds dt f b =
+    same-truth (s x y) (t u v) (λ e. ap (t u) (sym (f (ds .sound x y e))) ∙ dt .complete u) (λ e. ap (s x) (sym (b (dt .sound u v e))) ∙ ds .complete x)
 
 module _ (used : ℕ) (c d : Config) (g : GoodConfig used c) (h : GoodConfig used d) where
   all-leftovers : (e : Config) → GoodConfig used e → map leftoverOf (configAs used e .leftovers) ++ replicate (4 - used) blank ≡ e .leftovers

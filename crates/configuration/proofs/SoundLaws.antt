@@ -1,5 +1,5 @@
 -- The arcs of a table in memory stand in its bytes as following an arc asks.
-use Prim.Native.Nat.{ℕ, zero, suc, _+_, _-_, _*_, _/_, _%_, _≤_, _<_}
+use Prim.Native.Nat.{ℕ, _+_, _-_, _*_, _/_, _%_, _≤_, _<_}
 use mathlib.Core.Path.{_≡_, refl, sym, ap, ap₂, _∙_}
 use mathlib.Core.List.{List, [], _∷_, _++_}
 use native.Mathlib.Omega.{arith}
@@ -7,18 +7,17 @@ use lib.ListN.{length, getD, take, drop, length-take}
 use native.Mathlib.Nat.{add-zero}
 use lib.Seq.{take-at, take-take}
 use Rattle.memory.proofs.Laws.{getD-part, part-part}
-use Rattle.automata.specs.Lists.{All}
-use Rattle.automata.specs.Automaton.{Arc, Automaton, labelOn}
+use Rattle.automata.specs.Automaton.{Arc, labelOn}
 use Rattle.automata.specs.Format.{place}
 use Rattle.automata.specs.Records.{writeAll}
-use Rattle.automata.specs.Table.{Label, WellFormed, WellFormedArc}
-use Rattle.automata.specs.Memory.{Memory, Holds, Sound, tableOf, zeros, labelRecord, encodeArcs}
+use Rattle.automata.specs.Table.{Label, WellFormedArc}
+use Rattle.automata.specs.Memory.{Memory, Sound, tableOf, zeros, labelRecord}
 use Rattle.automata.proofs.SoundFacts.{sound-well-formed, sound-holds}
 use Rattle.automata.proofs.RecordFacts.{All-at}
 use Rattle.automata.proofs.MemoryLaws.{arc-field, label-field, length-encodeArcs}
 use Rattle.memory.specs.Region.{part}
 use Rattle.memory.specs.Endian.{le}
-use Rattle.memory.specs.Pairs.{Named, noPair}
+use Rattle.memory.specs.Pairs.{Named}
 use Rattle.memory.specs.declared.pair.PairList.{PairList}
 use Rattle.configuration.specs.declared.config.Config.{Config}
 use Rattle.configuration.specs.Leftovers.{outside}

@@ -1,34 +1,33 @@
 -- Laws of the step by an arc: pair after pair, from the labels in the arc's record.
-use Prim.Native.Nat.{ℕ, zero, suc, _+_, _-_, _*_, _≤_, _<_}
+use Prim.Native.Nat.{ℕ, _+_, _-_, _≤_, _<_}
 use mathlib.Core.Path.{_≡_, refl, sym, ap, ap₂, _∙_}
-use mathlib.Core.Bool.{Bool, true, false, not, false≢true}
+use mathlib.Core.Bool.{Bool, true, false, not, Bool·not-not}
 use mathlib.Core.Option.{Option, none, some, Option·map}
 use mathlib.Core.List.{List, [], _∷_, _++_, map, append-assoc, append-nil}
 use native.Mathlib.Omega.{arith}
 use native.Mathlib.Numerals.{add-one}
 use lib.ListN.{length, getD, set, take, drop, replicate, drop-of-length-le, length-set}
 use lib.Seq.{drop-cons, getD-take, length-take-le, take-suc-set, drop-set-lt, drop-drop}
-use Rattle.automata.specs.Lists.{All, guard, consBoth}
+use Rattle.automata.specs.Lists.{All, consBoth}
 use Rattle.automata.specs.Automaton.{Symbol, Arc, labelOn}
-use Rattle.automata.specs.TapePair.{reading, reading-is, limited, firstLabel, secondLabel}
+use Rattle.automata.specs.TapePair.{reading, reading-is, limited}
 use Rattle.automata.specs.Leftover as automata
-use Rattle.automata.specs.Config.{advanceAll, follow}
+use Rattle.automata.specs.Config.{advanceAll}
 use Rattle.automata.proofs.ListFacts.{map-append}
 use Rattle.memory.specs.Region.{part}
 use Rattle.memory.specs.Endian.{le}
-use Rattle.memory.specs.Pairs.{pairAs, pairsAs, noPair, Within, Named}
-use Rattle.memory.proofs.PairLaws.{length-front, named-all, named-fit}
+use Rattle.memory.specs.Pairs.{pairAs, noPair, Within}
+use Rattle.memory.proofs.PairLaws.{length-front, named-all}
 use Rattle.memory.specs.declared.pair.Pair.{Pair}
 use Rattle.memory.specs.declared.pair.PairList.{PairList}
 use Rattle.memory.specs.declared.record.Label.{Label}
 use Rattle.configuration.specs.declared.leftover.Leftover.{Leftover}
 use Rattle.configuration.specs.declared.leftover.Advanced.{Advanced}
 use Rattle.configuration.specs.declared.config.Config.{Config}
-use Rattle.configuration.specs.declared.step.Followed.{Followed}
 use Rattle.configuration.specs.Leftovers.{leftoverAs, labelOf, blank, outside, Good, advancedAs, Advances}
-use Rattle.configuration.specs.Configs.{configAs, GoodConfig, Starts}
-use Rattle.configuration.specs.Steps.{labelPlace, labelAt, pairAfter, Reads, Followable, followedAs, Follows}
-use Rattle.configuration.proofs.TestLaws.{drop-blanks}
+use Rattle.configuration.specs.Configs.{GoodConfig, Starts}
+use Rattle.configuration.specs.Steps.{labelPlace, labelAt, pairAfter, Reads, Followable, Follows}
+use Rattle.configuration.proofs.ListLaws.{drop-replicate, All-set}
 
 -- ---- the labels in a record
 pub label-loaded : (at tape : ℕ) (xs y : List ℕ) → y ≡ part (labelPlace at (tape - 1) + 1) 8 xs
@@ -94,12 +93,10 @@ unfolding allAfter
 ended at arcs xs ps ls e f = rw (e, f) (ap some (append-nil xs))
 
 not-true : (b : Bool) → not b ≡ true → b ≡ false
-not-true true e = sym e
-not-true false e = refl
+not-true b e = sym (Bool·not-not b) ∙ ap not e
 
 not-false : (b : Bool) → not b ≡ false → b ≡ true
-not-false true e = refl
-not-false false e = sym e
+not-false b e = sym (Bool·not-not b) ∙ ap not e
 
 -- ---- the loop over the pairs
 
@@ -114,23 +111,18 @@ pub record Progress (arcs : List ℕ) (at : ℕ) (c : Config) (ps : PairList) (n
   pub rest : before (map leftoverAs (take i (next .leftovers))) (still arcs at c ps i)
       ≡ allAfter at arcs (take (ps .used) (ps .pairs)) (take (ps .used) (c .leftovers))
 
-All-set : {A : Type 0} (P : A → Type 0) (xs : List A) (i : ℕ) (x : A) → All P xs → P x → All P (set xs i x)
-All-set P [] i x g p = tt
-All-set P (y ∷ ys) zero x g p = (p, g .1)
-All-set P (y ∷ ys) (suc i) x g p = (g .0, All-set P ys i x (g .1) p)
-
 -- one leftover more
 good-next : (c : Config) (i : ℕ) (l : Leftover) → i < 4 → GoodConfig i c → Good l → GoodConfig (i + 1) (record { state = c .state; leftovers = set (c .leftovers) i l })
 good-next c i l h g k =
     let m : 4 - i - 1 ≡ 4 - (i + 1) = omega arith in
     record {
-  state-fits = g .state-fits;
-  four = length-set (c .leftovers) i l ∙ g .four;
-  each = All-set Good (c .leftovers) i l (g .each) k;
-  blanks =
-      drop-set-lt (i + 1) (c .leftovers) i l (omega arith)
-      ∙ sym (drop-drop 1 i (c .leftovers)) ∙ ap (drop 1) (g .blanks) ∙ drop-blanks (4 - i) 1 ∙ ap (λ (n : ℕ). replicate n blank) m;
-}
+      state-fits = g .state-fits;
+      four = length-set (c .leftovers) i l ∙ g .four;
+      each = All-set Good (c .leftovers) i l (g .each) k;
+      blanks =
+          drop-set-lt (i + 1) (c .leftovers) i l (omega arith)
+          ∙ sym (drop-drop 1 i (c .leftovers)) ∙ ap (drop 1) (g .blanks) ∙ drop-replicate (4 - i) 1 blank ∙ ap (λ (n : ℕ). replicate n blank) m;
+    }
 
 module _ (arcs : List ℕ) (at : ℕ) (c : Config) (ps : PairList) (f : Followable c arcs at ps) where
   pub progress-start : (q : ℕ) (next : Config) → q ≡ le (part (at + 2) 2 arcs) → Starts q next → Progress arcs at c ps next 0
@@ -189,14 +181,14 @@ module _ (arcs : List ℕ) (at : ℕ) (c : Config) (ps : PairList) (f : Followab
   follows-some next i r h =
       let e : ps .used ≡ i = omega (arith, r .within) in
       record {
-    meaning = λ tapes D a n w.
-        let m : length (take (ps .used) (ps .pairs)) ≤ i = omega (arith, length-front 8 ps (f .named)) in
-        let k : length (take (ps .used) (c .leftovers)) ≤ i = omega (arith, length-take-le (ps .used) (c .leftovers) (omega (arith, f .named .used-fit, f .good .four))) in
-        let p : a .target ≡ next .state .0 = w .target ∙ sym (r .target) in
-        let all : allAfter at arcs (take (ps .used) (ps .pairs)) (take (ps .used) (c .leftovers)) ≡ some (map leftoverAs (take (ps .used) (next .leftovers))) =
-        sym (r .rest) ∙ ended at arcs (map leftoverAs (take i (next .leftovers))) _ _ (drop-of-length-le (take (ps .used) (ps .pairs)) m) (drop-of-length-le (take (ps .used) (c .leftovers)) k) ∙ rw e in
-        sym (ap (Option·map (λ ls. record { state = a .target; leftovers = ls }))
-        (all-after at arcs tapes D a w (take (ps .used) (ps .pairs)) (take (ps .used) (c .leftovers)) (named-all tapes ps n) ∙ all)
-        ∙ (λ j. some (record { state = p j; leftovers = map leftoverAs (take (ps .used) (next .leftovers)) })));
-    good = rw e (r .good);
-  }
+        meaning = λ tapes D a n w.
+            let m : length (take (ps .used) (ps .pairs)) ≤ i = omega (arith, length-front 8 ps (f .named)) in
+            let k : length (take (ps .used) (c .leftovers)) ≤ i = omega (arith, length-take-le (ps .used) (c .leftovers) (omega (arith, f .named .used-fit, f .good .four))) in
+            let p : a .target ≡ next .state .0 = w .target ∙ sym (r .target) in
+            let all : allAfter at arcs (take (ps .used) (ps .pairs)) (take (ps .used) (c .leftovers)) ≡ some (map leftoverAs (take (ps .used) (next .leftovers))) =
+            sym (r .rest) ∙ ended at arcs (map leftoverAs (take i (next .leftovers))) _ _ (drop-of-length-le (take (ps .used) (ps .pairs)) m) (drop-of-length-le (take (ps .used) (c .leftovers)) k) ∙ rw e in
+            sym (ap (Option·map (λ ls. record { state = a .target; leftovers = ls }))
+            (all-after at arcs tapes D a w (take (ps .used) (ps .pairs)) (take (ps .used) (c .leftovers)) (named-all tapes ps n) ∙ all)
+            ∙ (λ j. some (record { state = p j; leftovers = map leftoverAs (take (ps .used) (next .leftovers)) })));
+        good = rw e (r .good);
+      }

@@ -1,15 +1,15 @@
 -- Laws of `agrees` and `strip`, and of what an arc leaves of two tapes.
-use Prim.Native.Nat.{ℕ, zero, suc, _+_, _-_, _≤_, _<_}
+use Prim.Native.Nat.{ℕ, _+_, _-_, _≤_, _<_}
 use mathlib.Core.Path.{_≡_, refl, sym, ap, ap₂, _∙_}
 use mathlib.Core.Bool.{Bool, true, false, not, false≢true}
-use mathlib.Core.Option.{Option, none, some, Option·map}
-use mathlib.Core.List.{List, [], _∷_, _++_, append-nil}
+use mathlib.Core.Option.{none, some, Option·map}
+use mathlib.Core.List.{List, [], _∷_, _++_}
 use native.Mathlib.Omega.{arith}
 use native.Mathlib.Numerals.{add-one}
-use native.Mathlib.Nat.{sub-zero, zero-sub, suc-sub-suc, zero-add}
+use native.Mathlib.Nat.{zero-add}
 use lib.Dec.{eqb}
 use lib.ListN.{length, getD, take, drop, replicate, drop-of-length-le, length-drop, length-append, length-replicate, length-take}
-use lib.Seq.{drop-cons, take-all, take-at, drop-at, take-append-le}
+use lib.Seq.{drop-cons, take-all, take-at, drop-at}
 use borrow.Author.Tests.{eq-eqb, ne-eqb, eqb-true, eqb-false}
 use Rattle.automata.specs.Lists.{if}
 use Rattle.automata.specs.Leftover as automata
@@ -18,7 +18,8 @@ use Rattle.memory.proofs.Laws.{take-splice-in}
 use Rattle.memory.specs.declared.record.Label.{Label}
 use Rattle.configuration.specs.declared.leftover.Leftover.{Leftover}
 use Rattle.configuration.specs.declared.leftover.Advanced.{Advanced}
-use Rattle.configuration.specs.Leftovers.{sided, leftoverAs, labelOf, blank, Good, packed, packedTwo, leftoverOf, advancedOf, exchanged, turned, agrees, advancedAs, Advances}
+use Rattle.configuration.specs.Leftovers.{sided, leftoverAs, labelOf, blank, Good, packed, packedTwo, leftoverOf, advancedOf, exchanged, turned, agrees, Advances}
+use Rattle.configuration.proofs.ListLaws.{drop-replicate}
 
 -- ---- one step of the comparison
 module _ (i : ℕ) (u v : List ℕ) (h : i < length u) (k : i < length v) where
@@ -96,11 +97,6 @@ strip-swap (x ∷ u) (y ∷ v) = rw (eqb-swap y x) (go (eqb x y) (strip-swap u v
     go false ih = refl
 
 -- ---- a string kept as a leftover
-drop-replicate : (n k : ℕ) → drop {A = ℕ} k (replicate n 0) ≡ replicate (n - k) 0
-drop-replicate n zero = rw sub-zero
-drop-replicate zero (suc k) = rw zero-sub
-drop-replicate (suc n) (suc k) = rw (suc-sub-suc n k) (drop-replicate n k)
-
 pub packed-none : (b : Bool) (r : List ℕ) → length r ≡ 0 → packed b r ≡ blank
 unfolding packed
 packed-none b [] h = refl
@@ -109,7 +105,7 @@ packed-none b (x ∷ r) h = absurd (omega arith)
 pub packed-some : (b : Bool) (r s : List ℕ) → (length r ≡ 0 → ⊥) → s ≡ splice 0 r (replicate 72 0) → packed b r ≡ record { second = b; len = length r; symbols = s }
 unfolding packed splice
 packed-some b [] s f e = absurd (f refl)
-packed-some b (x ∷ r) s f e = rw (e, zero-add (length (x ∷ r)), drop-replicate 72 (length (x ∷ r)))
+packed-some b (x ∷ r) s f e = rw (e, zero-add (length (x ∷ r)), drop-replicate {A = ℕ} 72 (length (x ∷ r)) 0)
 
 -- it stands for the string, and is in its one form
 pub blank-good : Good blank

@@ -1,28 +1,28 @@
 -- Laws of the start, and of the lengths of a configuration's leftovers.
-use Prim.Native.Nat.{ℕ, zero, suc, _+_, _-_, _≤_, _<_}
+use Prim.Native.Nat.{ℕ, zero, suc, _+_, _≤_, _<_}
 use mathlib.Core.Path.{_≡_, refl, sym, ap, ap₂, _∙_}
 use mathlib.Core.Bool.{Bool, true, false, not, false≢true, Bool·beq}
-use mathlib.Core.Option.{Option, none, some}
-use mathlib.Core.List.{List, [], _∷_, _++_, map}
+use mathlib.Core.Option.{some}
+use mathlib.Core.List.{List, [], _∷_, map}
 use native.Mathlib.Omega.{arith}
 use native.Mathlib.Numerals.{add-one}
-use native.Mathlib.Nat.{sub-zero, zero-sub, suc-sub-suc}
-use lib.Dec.{eqb, ltb}
-use lib.ListN.{length, getD, getElem?, take, drop, replicate, drop-of-length-le, length-take, length-drop, length-map, length-replicate}
+use lib.Dec.{ltb}
+use lib.ListN.{length, getD, getElem?, take, drop, replicate, drop-of-length-le, length-map, length-replicate}
 use lib.Seq.{drop-cons, getD-take, length-take-le}
-use borrow.Author.Tests.{lt-ltb, le-ltb}
-use Rattle.automata.specs.Lists.{or, and, any, all, All, sameList}
+use borrow.Author.Tests.{lt-ltb, le-ltb, ltb-false}
+use Rattle.automata.specs.Lists.{or, and, all, All, sameList}
 use Rattle.automata.specs.TapePair.{Pair, TapePair, limited}
 use Rattle.automata.specs.Leftover as automata
 use Rattle.automata.specs.Config.{tooLong, noLeftovers}
 use Rattle.automata.proofs.RecordFacts.{All-at}
+use Rattle.automata.proofs.TestFacts.{or-false}
 use Rattle.memory.specs.declared.record.InputState.{InputState}
 use Rattle.configuration.specs.declared.leftover.Leftover.{Leftover}
 use Rattle.configuration.specs.declared.config.Config.{Config}
 use Rattle.configuration.specs.Leftovers.{sided, leftoverAs, blank, outside, Good, onTape}
 use Rattle.configuration.specs.Configs.{configAs, GoodConfig, Starts, TellsLong, lengthsOn}
 use Rattle.configuration.proofs.StripLaws.{blank-good}
-use Rattle.configuration.proofs.RecordLaws.{four-elements}
+use Rattle.configuration.proofs.ListLaws.{drop-replicate, four-elements, All-take}
 
 -- ---- the start
 blank-as : leftoverAs blank ≡ automata.nothing
@@ -34,15 +34,10 @@ blanks-as [] n h = refl
 blanks-as (p ∷ ps) zero h = absurd (omega arith)
 blanks-as (p ∷ ps) (suc n) h = ap₂ (λ (m : automata.Leftover) (ms : List automata.Leftover). m ∷ ms) blank-as (blanks-as ps n (omega arith))
 
-pub drop-blanks : (n k : ℕ) → drop k (replicate n blank) ≡ replicate (n - k) blank
-drop-blanks n zero = rw sub-zero
-drop-blanks zero (suc k) = rw zero-sub
-drop-blanks (suc n) (suc k) = rw (suc-sub-suc n k) (drop-blanks n k)
-
 pub starts-blank : (q : InputState) (l : Leftover) → q .0 < 65536 → l ≡ blank → Starts (q .0) (record { state = q; leftovers = l ∷ l ∷ l ∷ l ∷ [] })
 starts-blank q l h e = rw e (record {
   meaning = λ ps k. (λ i. record { state = q .0; leftovers = blanks-as ps 4 k i });
-  good = λ used. record { state-fits = h; four = refl; each = (blank-good, (blank-good, (blank-good, (blank-good, tt)))); blanks = drop-blanks 4 used };
+  good = λ used. record { state-fits = h; four = refl; each = (blank-good, (blank-good, (blank-good, (blank-good, tt)))); blanks = drop-replicate 4 used blank };
 })
 
 -- ---- leftovers longer than a limit
@@ -56,20 +51,15 @@ anyLonger limit (l ∷ ls) = let r = anyLonger limit ls in or (ltb limit (l .len
 pub kept-length : (l : Leftover) → Good l → length (take (l .len) (l .symbols)) ≡ l .len
 kept-length l g = length-take-le (l .len) (l .symbols) (omega (arith, g .all-symbols, g .len-fits))
 
-pub All-take : {A : Type 0} (P : A → Type 0) (n : ℕ) (xs : List A) → All P xs → All P (take n xs)
-All-take P zero xs p = tt
-All-take P (suc n) [] p = tt
-All-take P (suc n) (x ∷ xs) p = (p .0, All-take P n xs (p .1))
-
-or-false : (b : Bool) → or b false ≡ b
-or-false true = refl
-or-false false = refl
+or-none : (b : Bool) → or b false ≡ b
+or-none true = refl
+or-none false = refl
 
 longer-is : (D : ℕ) (l : Leftover) → Good l → or (ltb D (length (leftoverAs l .first))) (ltb D (length (leftoverAs l .second))) ≡ ltb D (l .len)
 longer-is D l g = go (l .second)
   where
     go : (b : Bool) → or (ltb D (length (sided b (take (l .len) (l .symbols)) .first))) (ltb D (length (sided b (take (l .len) (l .symbols)) .second))) ≡ ltb D (l .len)
-    go false = rw (kept-length l g, le-ltb D 0 (omega arith)) (or-false (ltb D (l .len)))
+    go false = rw (kept-length l g, le-ltb D 0 (omega arith)) (or-none (ltb D (l .len)))
     go true = rw (kept-length l g, le-ltb D 0 (omega arith))
 
 tooLong-is : (D : ℕ) (ps : List Pair) (ls : List Leftover) → All Good ls → length ps ≡ length ls → tooLong (limited D ps) (map leftoverAs ls) ≡ anyLonger D ls
@@ -109,20 +99,40 @@ module _ (used limit : ℕ) (c : Config) (g : GoodConfig used c) (h : used ≤ 4
   unfolding anyLonger
   longer-none i k = let m : length (take used (c .leftovers)) ≤ i = omega (arith, count) in ap (anyLonger limit) (drop-of-length-le (take used (c .leftovers)) m)
 
+-- ---- what a limit says of the lengths
+
+-- where no leftover is longer, each is as short
+none-longer : (limit h : ℕ) (ls : List Leftover) → h < length ls → anyLonger limit ls ≡ false → getD ls h outside .len ≤ limit
+unfolding anyLonger
+none-longer limit h [] k e = absurd (omega arith)
+none-longer limit zero (l ∷ ls) k e = ltb-false limit (l .len) (or-false (ltb limit (l .len)) (anyLonger limit ls) e .0)
+none-longer limit (suc h) (l ∷ ls) k e = none-longer limit h ls (omega arith) (or-false (ltb limit (l .len)) (anyLonger limit ls) e .1)
+
+pub short-each : (used limit : ℕ) (c : Config) (ps : List Pair) → GoodConfig used c → used ≤ 4 → length ps ≡ used → tooLong (limited limit ps) (configAs used c .leftovers) ≡ false
+    → (h : ℕ) → h < used → getD (c .leftovers) h outside .len ≤ limit
+short-each used limit c ps g k e f h l =
+    let m : h < length (take used (c .leftovers)) = omega (arith, count used limit c g k) in
+    rw (getD-take used (c .leftovers) h outside l) at (none-longer limit h (take used (c .leftovers)) m (sym (taken-is used limit c g k ps e) ∙ f))
+
+-- at the start nothing is too long
+pub start-short : (D : ℕ) (ps : List Pair) → tooLong (limited D ps) (map (λ p. automata.nothing) (limited D ps)) ≡ false
+start-short D [] = refl
+start-short D (p ∷ ps) = rw (le-ltb D 0 (omega arith)) (start-short D ps)
+
 -- ---- no leftovers
 same-nil : (xs : List ℕ) → sameList xs [] ≡ not (ltb 0 (length xs))
 same-nil [] = sym (ap not (le-ltb 0 0 (omega arith)))
 same-nil (x ∷ xs) = sym (ap not (lt-ltb 0 (length (x ∷ xs)) (omega arith)))
 
-and-true : (b : Bool) → and b true ≡ b
-and-true true = refl
-and-true false = refl
+and-all : (b : Bool) → and b true ≡ b
+and-all true = refl
+and-all false = refl
 
 empty-is : (l : Leftover) → Good l → automata.sameLeftover (leftoverAs l) automata.nothing ≡ not (ltb 0 (l .len))
 empty-is l g = go (l .second)
   where
     go : (b : Bool) → automata.sameLeftover (sided b (take (l .len) (l .symbols))) automata.nothing ≡ not (ltb 0 (l .len))
-    go false = rw (same-nil (take (l .len) (l .symbols)), kept-length l g) (and-true (not (ltb 0 (l .len))))
+    go false = rw (same-nil (take (l .len) (l .symbols)), kept-length l g) (and-all (not (ltb 0 (l .len))))
     go true = rw (same-nil (take (l .len) (l .symbols)), kept-length l g)
 
 not-or : (a b : Bool) → and (not a) (not b) ≡ not (or a b)
@@ -180,6 +190,10 @@ lengths-in b n (suc used) h [] m k e = let z : _≡_ {A = ℕ} 0 1 = cc in absur
 lengths-in b zero (suc used) h (l ∷ ls) m k e = absurd (omega arith)
 lengths-in b (suc n) (suc used) zero (l ∷ ls) m k e = let q : leftoverAs l ≡ m = cc in ap (λ (x : automata.Leftover). length (onTape b x)) q
 lengths-in b (suc n) (suc used) (suc h) (l ∷ ls) m k e = lengths-in b n used h ls m (omega arith) e
+
+-- there are as many leftovers as pairs
+pub length-leftovers : (used : ℕ) (c : Config) → GoodConfig used c → used ≤ 4 → length (configAs used c .leftovers) ≡ used
+length-leftovers used c g h = length-map (take used (c .leftovers)) leftoverAs ∙ length-take-le used (c .leftovers) (omega (arith, g .four))
 
 pub length-of : (b : Bool) (used h : ℕ) (c : Config) (m : automata.Leftover) → used ≤ 4 → getElem? (configAs used c .leftovers) h ≡ some m
     → getD (lengthsOn b c) h 0 ≡ length (onTape b m)

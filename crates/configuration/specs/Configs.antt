@@ -9,7 +9,6 @@ use Rattle.automata.specs.TapePair.{Pair, TapePair, limited}
 use Rattle.automata.specs.Config as automata
 use Rattle.memory.specs.Region.{part}
 use Rattle.memory.specs.Endian.{le, toLe}
-use Rattle.configuration.specs.declared.leftover.Leftover.{Leftover}
 use Rattle.configuration.specs.declared.config.Config.{Config}
 use Rattle.configuration.specs.Leftovers.{onTape, leftoverAs, blank, outside, Good, leftoverBytes, leftoverAt}
 

@@ -18,7 +18,7 @@ use Rattle.memory.specs.declared.pair.PairList.{PairList}
 use Rattle.configuration.specs.declared.leftover.Leftover.{Leftover}
 use Rattle.configuration.specs.declared.config.Config.{Config}
 use Rattle.configuration.specs.declared.step.Followed.{Followed}
-use Rattle.configuration.specs.Leftovers.{outside, Advances, leftoverAs, labelOf}
+use Rattle.configuration.specs.Leftovers.{outside, leftoverAs, labelOf}
 use Rattle.configuration.specs.Configs.{configAs, GoodConfig}
 
 -- where the label on a tape, counted from 0, stands in the record of an arc

@@ -8,11 +8,11 @@ ghost use Rattle.automata.specs.Config as automata;
 ghost use Rattle.memory.specs.Region.{splice};
 ghost use Rattle.configuration.specs.Leftovers.{Good};
 ghost use Rattle.configuration.specs.Configs.{GoodConfig, Starts, TellsLong, configAs, lengthsOn, configBytes, configAt};
+use crate::leftover::Leftover;
 use crate::leftover::blank_leftover;
 use crate::leftover::length_on;
 use crate::leftover::load_leftover;
 use crate::leftover::store_leftover;
-use crate::leftover::Leftover;
 use memory::bytes::get16;
 use memory::bytes::put16;
 use memory::record::InputState;
@@ -97,11 +97,11 @@ fn lengths_on(second: bool, c: Config) -> [u8; 4]
     let q = c.leftovers[1];
     let r = c.leftovers[2];
     let s = c.leftovers[3];
-    let first = length_on(second, p);
-    let second_one = length_on(second, q);
-    let third = length_on(second, r);
-    let fourth = length_on(second, s);
-    [first, second_one, third, fourth]
+    let w = length_on(second, p);
+    let x = length_on(second, q);
+    let y = length_on(second, r);
+    let z = length_on(second, s);
+    [w, x, y, z]
 }
 
 // The lengths of the leftovers on the first tape of each pair.

@@ -4,7 +4,7 @@ ghost use mathlib.Core.List.{_++_};
 ghost use Prim.Native.Nat.{_+_, _≤_};
 ghost use lib.ListN.{length, take};
 ghost use Rattle.automata.specs.Leftover as automata;
-ghost use Rattle.memory.specs.Region.{part, splice};
+ghost use Rattle.memory.specs.Region.{splice};
 ghost use Rattle.configuration.specs.Leftovers.{blank, flag, Good, onTape, leftoverAs, labelOf, leftoverBytes, leftoverAt, packed, advancedOf, turned, agrees, Advances};
 use memory::bytes::copy_into;
 use memory::record::Label;
@@ -76,7 +76,11 @@ fn strip_to(turn: bool, u: &[u8], v: &[u8]) -> Advanced
     if agree(u, v) {
         let n = u.len();
         let m = v.len();
-        let leftover = if m < n { keep(turn, &u[m..]) } else { keep(!turn, &v[n..]) };
+        let leftover = if m < n {
+            keep(turn, &u[m..])
+        } else {
+            keep(!turn, &v[n..])
+        };
         Advanced {
             compatible: true,
             leftover,
