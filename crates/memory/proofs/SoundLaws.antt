@@ -4,15 +4,15 @@ use mathlib.Core.Option.{some}
 use mathlib.Core.List.{List}
 use Prim.Native.Nat.{ℕ, _+_, _*_, _≤_, _<_}
 use native.Mathlib.Omega.{arith}
-use lib.ListN.{length, getD, getElem?, take, drop, length-take}
+use lib.ListN.{length, getD, getElem?, take, drop}
 use lib.Seq.{take-all}
 use Rattle.automata.specs.Automaton.{State, Arc}
 use Rattle.automata.specs.Table.{WellFormedState, WellFormedArc}
 use Rattle.automata.specs.Memory.{Memory, Sound, tableOf, stateRecord, arcRecord}
 use Rattle.automata.proofs.ListFacts.{place-exists, place-default}
-use Rattle.automata.proofs.MemoryLaws.{stateRecord-lawful, arcRecord-lawful, arcRecord-width, length-encodeStates, length-encodeArcs, state-field, arc-field}
+use Rattle.automata.proofs.MemoryLaws.{stateRecord-lawful, arcRecord-lawful, arcRecord-width, state-field, arc-field}
 use Rattle.automata.proofs.RecordFacts.{All-at}
-use Rattle.automata.proofs.SoundFacts.{sound-well-formed, sound-holds}
+use Rattle.automata.proofs.SoundFacts.{sound-well-formed, sound-holds, sound-states-lent, sound-arcs-lent}
 use Rattle.memory.specs.Region.{part}
 use Rattle.memory.specs.Records.{stateAs, arcAs, stateAt, arcAt, Canonical}
 use Rattle.memory.proofs.LoadedLaws.{state-decoded, arc-decoded, canonical-decoded}
@@ -37,15 +37,11 @@ module _ (m : Memory) (s : Sound m) where
 
   -- the bytes lent hold all its states
   pub states-lent : 10 * m .states ≤ length (m .stateBytes)
-  states-lent =
-      let h = sound-holds m s in
-      omega (arith, h .states, length-encodeStates (tableOf m) (sound-well-formed m s), simp length-take at (ap length (h .stateBytes)))
+  states-lent = sound-states-lent m s
 
   -- and all its arcs
   pub arcs-lent : 80 * m .arcs ≤ length (m .arcBytes)
-  arcs-lent =
-      let h = sound-holds m s in
-      omega (arith, h .arcs, length-encodeArcs (tableOf m) (sound-well-formed m s), simp length-take at (ap length (h .arcBytes)))
+  arcs-lent = sound-arcs-lent m s
 
 module _ (m : Memory) (s : Sound m) (k : ℕ) where
   -- ---- a state
