@@ -29,7 +29,9 @@ pub fn accounts(automaton: &Automaton, most: usize) -> Vec<Account> {
 /// The empty paths at the initial states.
 fn starts(automaton: &Automaton) -> Vec<Path> {
     let states = automaton.states.iter().enumerate();
-    states.filter_map(|(state, record)| Some(Path { state, tuple: vec![Vec::new(); automaton.tapes], weight: record.initial? })).collect()
+    states
+        .filter_map(|(state, record)| Some(Path { state, tuple: vec![Vec::new(); automaton.tapes], weight: record.initial? }))
+        .collect()
 }
 
 /// The account of a path, if it ends at a state with a final weight.

@@ -47,9 +47,45 @@ fn edge_number(random: &mut Random, case: &Case) -> u64 {
     let states = case.automaton.states.len() as u64;
     let arcs = case.automaton.arcs.len() as u64;
     random.pick(&[
-        0, 1, 2, 4, 5, 7, 8, 9, 10, 63, 64, 65, 66, 99, 100, 512, 513, 999, 1_000, 1_023, 1_024, 1_025, 8_191, 8_192, 8_193,
-        99_999, 100_000, 999_999, 1_000_000, 999_999_999, 1_000_000_000, 4_294_967_295, 4_294_967_296, 9_999_999_999,
-        states, states + 1, states.saturating_sub(1), arcs + 1, arcs.saturating_sub(1),
+        0,
+        1,
+        2,
+        4,
+        5,
+        7,
+        8,
+        9,
+        10,
+        63,
+        64,
+        65,
+        66,
+        99,
+        100,
+        512,
+        513,
+        999,
+        1_000,
+        1_023,
+        1_024,
+        1_025,
+        8_191,
+        8_192,
+        8_193,
+        99_999,
+        100_000,
+        999_999,
+        1_000_000,
+        999_999_999,
+        1_000_000_000,
+        4_294_967_295,
+        4_294_967_296,
+        9_999_999_999,
+        states,
+        states + 1,
+        states.saturating_sub(1),
+        arcs + 1,
+        arcs.saturating_sub(1),
     ])
 }
 
@@ -73,7 +109,9 @@ fn odd_field(random: &mut Random, field: &[u8], case: &Case) -> Vec<u8> {
         4 => justified(&format!("{}{bare}", random.pick(&["+", "-", "00", "0x", "."])), width),
         5 => justified("-", width),
         6 => justified(&format!("{} {}", random.below(9), random.below(9)), width),
-        7 => justified(random.pick(&["A", "Z9", "a", "0", "00", "ABCDEFGH", "ABCDEFGHI", "A B", "A-", "12345678", "I1O0"]), width),
+        7 => {
+            justified(random.pick(&["A", "Z9", "a", "0", "00", "ABCDEFGH", "ABCDEFGHI", "A B", "A-", "12345678", "I1O0"]), width)
+        }
         8 => {
             let mut field = field.to_vec();
             let at = random.below(width);
@@ -206,12 +244,19 @@ pub fn stray_input(random: &mut Random) -> Vec<u8> {
             vec![random.pick(b" 0\nA"); size]
         }
         2 => pair_line(&vec![(1, 2); random.range(0, 999)], random.below(999) as u64),
-        3..=6 => random.pick(&[&b"abc"[..], b"abcdef", b"abcdefg", b"  0", b"  0  0", b"  0  0\n", b"  1  0\n", b"999999\n", b"\n"]).to_vec(),
+        3..=6 => random
+            .pick(&[&b"abc"[..], b"abcdef", b"abcdefg", b"  0", b"  0  0", b"  0  0\n", b"  1  0\n", b"999999\n", b"\n"])
+            .to_vec(),
         7..=9 => (0..random.below(60)).map(|_| random.below(256) as u8).collect(),
         10..=12 => (0..random.below(60)).map(|_| odd_byte(random)).collect(),
         13..=15 => [pair_line(&[], 0), write(&Automaton::empty(random.range(1, 8)))].concat(),
         _ => {
-            let header = format!("{:>3}{:>6}{:>6}\n", random.range(0, 9), random.pick(&[0, 64, 65, 1_024, 1_025]), random.pick(&[0, 512, 513, 8_192, 8_193]));
+            let header = format!(
+                "{:>3}{:>6}{:>6}\n",
+                random.range(0, 9),
+                random.pick(&[0, 64, 65, 1_024, 1_025]),
+                random.pick(&[0, 512, 513, 8_192, 8_193])
+            );
             [pair_line(&[], random.below(70) as u64), header.into_bytes()].concat()
         }
     }

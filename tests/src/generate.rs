@@ -233,7 +233,11 @@ fn graph_case(random: &mut Random) -> Case {
         }
     }
     arcs.truncate(512);
-    Case { automaton: Automaton { tapes: columns.len(), states: states(random, size.states), arcs }, pairs, limit: good_limit(random) }
+    Case {
+        automaton: Automaton { tapes: columns.len(), states: states(random, size.states), arcs },
+        pairs,
+        limit: good_limit(random),
+    }
 }
 
 /// One word cut in two ways along a chain, with loops that repeat a piece on both tapes, and arcs of noise.
@@ -251,7 +255,8 @@ fn chain_case(random: &mut Random) -> Case {
             arcs.push(Arc { source: link, target: link + 1, weight: weight(random), labels });
         }
         if random.chance(20) {
-            let owed = [&whole[second[link].min(first[link])..first[link]], &whole[first[link].min(second[link])..second[link]]].concat();
+            let owed = [&whole[second[link].min(first[link])..first[link]], &whole[first[link].min(second[link])..second[link]]]
+                .concat();
             let size = owed.len().min(MOST_LABEL);
             arcs.push(Arc { source: link, target: link, weight: weight(random), labels: vec![owed[..size].to_vec(); 2] });
         }
@@ -272,40 +277,52 @@ fn cuts(random: &mut Random, length: usize, pieces: usize) -> Vec<usize> {
     cuts
 }
 
-/// Words written on one tape, carried along a corridor of empty arcs, and closed on the other tape: reached configurations
-/// are (words x corridor) + 2, arcs between them can be made many by repeating the corridor's arcs. Aimed at the edges of 8 and 9.
+/// Words written on one tape, carried along a corridor of empty arcs, and closed on the other tape. Reached are words x corridor
+/// configurations and two more; the arcs between them are made many by repeating the corridor's arcs and the first opening one.
+/// Aimed at the edges of 8 and 9.
 fn corridor_case(random: &mut Random) -> Case {
     let words = random.range(1, 8);
-    let near = random.pick(&[20, 40, 62, 62, 62, 64]);
-    let corridor = (near / words).max(1) + random.below(2);
-    let states_near = words * corridor + 2;
-    let repeats = if random.chance(50) { 1 } else { (520 / states_near.max(1)).max(1) + random.below(2) };
-    let word_of = |number: usize| vec![b'A' + (number / 3) as u8, b'0' + (number % 3) as u8];
-    let mut arcs = Vec::new();
-    for number in 0..words {
-        arcs.push(Arc { source: 0, target: 1, weight: number as u64, labels: vec![word_of(number), Label::new()] });
+    let corridor = (random.pick(&[20, 40, 62, 62, 62, 64]) / words).max(1) + random.below(2);
+    let links = words * (corridor - 1);
+    let (mut repeats, mut openings) = (1, 1);
+    if links > 0 && words > 2 && random.chance(50) {
+        let spare = random.range(511, 514) - 2 * words;
+        repeats = spare / links;
+        openings += spare % links;
     }
-    for link in 1..corridor {
-        for _ in 0..repeats {
-            arcs.push(Arc { source: link, target: link + 1, weight: 0, labels: vec![Label::new(), Label::new()] });
-        }
-    }
-    for number in 0..words {
-        arcs.push(Arc { source: corridor, target: corridor + 1, weight: 1, labels: vec![Label::new(), word_of(number)] });
-    }
-    while arcs.len() > 512 {
-        arcs.remove(words);
-    }
+    let mut arcs = corridor_arcs(words, corridor, repeats, openings);
+    arcs.truncate(512);
     let mut states = vec![State::default(); corridor + 2];
     states[0].initial = Some(0);
     states[corridor + 1].final_weight = optional_weight(random, 95);
-    for _ in 0..random.below(3) {
-        let state = random.below(states.len());
-        states[state] = State { initial: optional_weight(random, 50), final_weight: optional_weight(random, 50) };
+    if random.chance(40) {
+        for _ in 0..random.below(3) {
+            let state = random.below(states.len());
+            states[state] = State { initial: optional_weight(random, 50), final_weight: optional_weight(random, 50) };
+        }
     }
     let limit = random.pick(&[1, 2, 2, 2, 3, 64]);
     let pairs = vec![if random.chance(50) { (1, 2) } else { (2, 1) }];
     Case { automaton: Automaton { tapes: 2, states, arcs }, pairs, limit }
+}
+
+/// The arcs of a corridor: the words written (the first of them `openings` times), carried, and closed.
+fn corridor_arcs(words: usize, corridor: usize, repeats: usize, openings: usize) -> Vec<Arc> {
+    let word_of = |number: usize| vec![b'A' + (number / 3) as u8, b'0' + (number % 3) as u8];
+    let opening =
+        |number: usize| Arc { source: 0, target: 1, weight: number as u64, labels: vec![word_of(number), Label::new()] };
+    let mut arcs = vec![opening(0); openings];
+    arcs.extend((1..words).map(opening));
+    for link in 1..corridor {
+        arcs.extend(vec![Arc { source: link, target: link + 1, weight: 0, labels: vec![Label::new(), Label::new()] }; repeats]);
+    }
+    arcs.extend((0..words).map(|number| Arc {
+        source: corridor,
+        target: corridor + 1,
+        weight: 1,
+        labels: vec![Label::new(), word_of(number)],
+    }));
+    arcs
 }
 
 /// Tables whose delay loops grow on one side and shrink on the other, with steps of several sizes: many give 10, some give 8.
@@ -322,9 +339,17 @@ fn growing_case(random: &mut Random) -> Case {
         arcs.push(Arc { source: 0, target: 1, weight: 3, labels: vec![Label::new(), unary(random.range(1, 8))] });
     }
     if random.chance(30) {
-        arcs.push(Arc { source: 1, target: random.below(2), weight: 4, labels: vec![unary(random.below(3)), unary(random.below(3))] });
+        arcs.push(Arc {
+            source: 1,
+            target: random.below(2),
+            weight: 4,
+            labels: vec![unary(random.below(3)), unary(random.below(3))],
+        });
     }
-    let states = vec![State { initial: Some(0), final_weight: optional_weight(random, 20) }, State { initial: None, final_weight: Some(0) }];
+    let states = vec![
+        State { initial: Some(0), final_weight: optional_weight(random, 20) },
+        State { initial: None, final_weight: Some(0) },
+    ];
     let limit = random.pick(&[0, 1, 2, 5, 15, 20, 29, 30, 31, 32, 33, 63, 64]);
     Case { automaton: Automaton { tapes: 2, states, arcs: random.shuffled(&arcs) }, pairs: vec![(1, 2)], limit }
 }

@@ -8,7 +8,14 @@ use crate::product::product;
 use crate::refusal::Refusal;
 
 /// The join of two tables on (judged) pairs; the refusal of the first step that refuses.
-pub fn join(first: &Automaton, second: &Automaton, pairs: &[Pair], limit: u64, between: Room, room: Room) -> Result<Automaton, Refusal> {
+pub fn join(
+    first: &Automaton,
+    second: &Automaton,
+    pairs: &[Pair],
+    limit: u64,
+    between: Room,
+    room: Room,
+) -> Result<Automaton, Refusal> {
     let product = product(first, second, between)?;
     let raised: Vec<Pair> = pairs.iter().map(|&(i, j)| (i, first.tapes + j)).collect();
     let kept = intersect(&product, &raised, limit, room)?;

@@ -22,5 +22,6 @@ pub mod pairs;
 pub mod product;
 pub mod random;
 pub mod refusal;
+pub mod requests;
 pub mod sample;
 pub mod text;

@@ -101,7 +101,11 @@ fn encode_optional(weight: Option<u64>) -> Vec<u8> {
 
 /// The state records of an automaton.
 pub fn encode_states(automaton: &Automaton) -> Vec<u8> {
-    automaton.states.iter().flat_map(|state| [encode_optional(state.initial), encode_optional(state.final_weight)].concat()).collect()
+    automaton
+        .states
+        .iter()
+        .flat_map(|state| [encode_optional(state.initial), encode_optional(state.final_weight)].concat())
+        .collect()
 }
 
 /// One arc record.

@@ -2,7 +2,9 @@
 //!
 //! A field is read by trimming its blanks, and is well-formed only if the writer would write the value back as the same bytes.
 
-use crate::automaton::{is_symbol, Arc, Automaton, Label, Room, State, MOST_ARCS, MOST_LABEL, MOST_STATES, MOST_TAPES, MOST_WEIGHT};
+use crate::automaton::{
+    is_symbol, Arc, Automaton, Label, Room, State, MOST_ARCS, MOST_LABEL, MOST_STATES, MOST_TAPES, MOST_WEIGHT,
+};
 use crate::refusal::{refuse_if, Refusal};
 
 const COUNT: usize = 3;

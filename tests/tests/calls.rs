@@ -1,5 +1,6 @@
 //! The calls on lent bytes: refusals in their order, and what every lent byte holds afterwards.
 
+use std::collections::BTreeMap;
 use tomchoen_tests::automaton::{Automaton, State};
 use tomchoen_tests::calls::{self, Counts, JoinRequest, ResultSpace, TableOutcome};
 use tomchoen_tests::damage::damaged_table;
@@ -7,6 +8,7 @@ use tomchoen_tests::generate::small_case;
 use tomchoen_tests::memory::{encode, judge, LentTable, ARC_BYTES, STATE_BYTES};
 use tomchoen_tests::random::Random;
 use tomchoen_tests::refusal::Refusal;
+use tomchoen_tests::requests::{outcome, request, Outcome, Request};
 use tomchoen_tests::sample::{first_to_last, p, q, s, table};
 use tomchoen_tests::text::write;
 
@@ -98,7 +100,9 @@ fn records_in_order() {
 
 #[test]
 fn faults_of_a_state_record() {
-    let record = |record: [u8; 10]| refused(&LentTable { tapes: 1, states: 1, arcs: 0, state_records: record.to_vec(), arc_records: Vec::new() });
+    let record = |record: [u8; 10]| {
+        refused(&LentTable { tapes: 1, states: 1, arcs: 0, state_records: record.to_vec(), arc_records: Vec::new() })
+    };
     assert_eq!(record([0, 0, 0, 0, 0, 1, 0xff, 0xc9, 0x9a, 0x3b]), 0);
     assert_eq!(record([0, 0, 0, 0, 0, 1, 0, 0xca, 0x9a, 0x3b]), 3);
     assert_eq!(record([0, 1, 0, 0, 0, 1, 0, 0xca, 0x9a, 0x3b]), 2);
@@ -264,7 +268,7 @@ fn order_of_a_lookup() {
         outcome.answer
     };
     let table = encode(&p());
-    let long = vec![b'A'; 65];
+    let long = [b'A'; 65];
     assert_eq!(call(&malformed(), b"", 0), Err(Refusal::Form));
     assert_eq!(call(&table, b"A\nB\nC", 0), Err(Refusal::Short));
     assert_eq!(call(&table, b"a\n", 0), Err(Refusal::Tape));
@@ -290,4 +294,49 @@ fn damaged_tables_never_fail_and_good_ones_come_back() {
             assert_eq!(again.arc_records, damaged.arc_records[..again.arc_records.len()]);
         }
     }
+}
+
+/// The result space and the length of the work that a request lends.
+fn lent_by(request: &Request) -> (ResultSpace, usize) {
+    match request {
+        Request::Read { result, .. }
+        | Request::Union { result, .. }
+        | Request::Project { result, .. }
+        | Request::DropTapes { result, .. } => (result.clone(), 0),
+        Request::Intersect { result, work, .. } | Request::Product { result, work, .. } => (result.clone(), work.len()),
+        Request::Join { request, .. } => (request.result.clone(), request.work.len()),
+        Request::Write { .. } | Request::Lookup { .. } => panic!("no table is given"),
+    }
+}
+
+#[test]
+fn random_requests_leave_every_byte_as_stated() {
+    let mut answers: BTreeMap<u64, usize> = BTreeMap::new();
+    let mut count = |refusal: Option<Refusal>| *answers.entry(refusal.map_or(0, Refusal::number)).or_insert(0) += 1;
+    for seed in 0..6_000 {
+        let request = request(&mut Random::new(seed));
+        match (outcome(&request), &request) {
+            (Outcome::Table(outcome), _) => {
+                let (result, work) = lent_by(&request);
+                check_bytes(&outcome, &result, work);
+                count(outcome.answer.err());
+                if outcome.answer.is_ok() {
+                    given(&outcome);
+                }
+            }
+            (Outcome::Text(outcome), Request::Write { output, .. }) => {
+                let used = outcome.answer.map_or(0, |length| length as usize);
+                assert_eq!(outcome.output[used..], output[used..]);
+                count(outcome.answer.err());
+            }
+            (Outcome::Lookup(outcome), Request::Lookup { work, .. }) => {
+                assert_eq!(outcome.work, vec![0; work.len()]);
+                count(outcome.answer.err());
+            }
+            _ => panic!("an outcome of another call"),
+        }
+    }
+    assert_eq!(answers.len(), 14, "{answers:?}");
+    assert!(answers[&0] > 2_000, "{answers:?}");
+    println!("{answers:?}");
 }

@@ -145,8 +145,12 @@ fn figure_2_of_001_in_two_calls() {
 
 #[test]
 fn footnote_10_of_001() {
-    let rows: &[(usize, usize, u64, &[&str])] =
-        &[(0, 1, 0, &["", "", "", "X", "Y"]), (1, 1, 1, &["A", "C", "", "", ""]), (1, 2, 0, &["", "", "", "", ""]), (2, 2, 2, &["B", "", "C", "", ""])];
+    let rows: &[(usize, usize, u64, &[&str])] = &[
+        (0, 1, 0, &["", "", "", "X", "Y"]),
+        (1, 1, 1, &["A", "C", "", "", ""]),
+        (1, 2, 0, &["", "", "", "", ""]),
+        (2, 2, 2, &["B", "", "C", "", ""]),
+    ];
     let automaton = first_to_last(5, 3, rows);
     check("001-footnote-10-both", &[(2, 3), (4, 5)], 64, &automaton);
     check("001-footnote-10-one", &[(2, 3)], 8, &automaton);
@@ -244,8 +248,13 @@ fn second_transducer() -> Automaton {
     let mut weights = vec![(None, None); 5];
     weights[0].0 = Some(0);
     weights[1].1 = Some(0);
-    let rows: &[(usize, usize, u64, &[&str])] =
-        &[(0, 1, 100, &["", "A"]), (1, 2, 100, &["A", "B"]), (2, 3, 100, &["B", ""]), (3, 4, 100, &["", "C"]), (4, 1, 100, &["C", "A"])];
+    let rows: &[(usize, usize, u64, &[&str])] = &[
+        (0, 1, 100, &["", "A"]),
+        (1, 2, 100, &["A", "B"]),
+        (2, 3, 100, &["B", ""]),
+        (3, 4, 100, &["", "C"]),
+        (4, 1, 100, &["C", "A"]),
+    ];
     table(2, &weights, rows)
 }
 

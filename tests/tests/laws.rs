@@ -66,16 +66,19 @@ fn closing_delays_by_relaxation() {
     }
 }
 
+/// What is left of a pair's two tapes.
+type Left = (Vec<u8>, Vec<u8>);
+
 /// A configuration as document 01 words it: a state and, for each pair, what is left of its two tapes.
-type Listed = (usize, Vec<(Vec<u8>, Vec<u8>)>);
+type Listed = (usize, Vec<Left>);
 
 /// Keeping word for word: a list of configurations in the order first reached, searched from its start.
 fn listed(automaton: &Automaton, pairs: &[Pair], limit: usize, room: Room) -> Result<Automaton, Refusal> {
     let closings: Vec<Vec<Option<Closing>>> = pairs.iter().map(|&pair| relaxed(automaton, pair)).collect();
     let coaccessible = automaton.coaccessible();
-    let delay = |left: &(Vec<u8>, Vec<u8>)| left.0.len() as i64 - left.1.len() as i64;
+    let delay = |left: &Left| left.0.len() as i64 - left.1.len() as i64;
     let hopeful = |config: &Listed| {
-        let admits = |(left, closing): (&(Vec<u8>, Vec<u8>), &Vec<Option<Closing>>)| closing[config.0].unwrap().admits(delay(left));
+        let admits = |(left, closing): (&Left, &Vec<Option<Closing>>)| closing[config.0].unwrap().admits(delay(left));
         coaccessible[config.0] && config.1.iter().zip(&closings).all(admits)
     };
     let mut reached: Vec<Listed> = Vec::new();
@@ -202,7 +205,10 @@ fn light_table(random: &mut Random) -> Automaton {
         if automaton.arcs.len() <= 6 {
             automaton.arcs.iter_mut().for_each(|arc| arc.weight %= 1_000);
             for state in &mut automaton.states {
-                *state = State { initial: state.initial.map(|weight| weight % 1_000), final_weight: state.final_weight.map(|weight| weight % 1_000) };
+                *state = State {
+                    initial: state.initial.map(|weight| weight % 1_000),
+                    final_weight: state.final_weight.map(|weight| weight % 1_000),
+                };
             }
             return automaton;
         }
@@ -251,18 +257,26 @@ fn listed_product(first: &Automaton, second: &Automaton) -> Automaton {
         let mut moves: Vec<(Node, u64, Vec<Vec<u8>>)> = Vec::new();
         for one in out(first, x) {
             for two in out(second, y) {
-                moves.push(((Some(one.target), Some(two.target)), one.weight + two.weight, [one.labels.clone(), two.labels].concat()));
+                moves.push((
+                    (Some(one.target), Some(two.target)),
+                    one.weight + two.weight,
+                    [one.labels.clone(), two.labels].concat(),
+                ));
             }
         }
         if let Some(end) = end(first, x) {
-            moves.extend(out(second, y).into_iter().map(|two| {
-                ((None, Some(two.target)), end + two.weight, [vec![Vec::new(); first.tapes], two.labels].concat())
-            }));
+            moves.extend(
+                out(second, y).into_iter().map(|two| {
+                    ((None, Some(two.target)), end + two.weight, [vec![Vec::new(); first.tapes], two.labels].concat())
+                }),
+            );
         }
         if let Some(end) = end(second, y) {
-            moves.extend(out(first, x).into_iter().map(|one| {
-                ((Some(one.target), None), end + one.weight, [one.labels, vec![Vec::new(); second.tapes]].concat())
-            }));
+            moves.extend(
+                out(first, x).into_iter().map(|one| {
+                    ((Some(one.target), None), end + one.weight, [one.labels, vec![Vec::new(); second.tapes]].concat())
+                }),
+            );
         }
         for (target, weight, labels) in moves {
             let place = nodes.iter().position(|node| *node == target).unwrap_or(nodes.len());
@@ -388,7 +402,8 @@ fn some_pairs_first() {
     for seed in 0..1_500 {
         let mut random = Random::new(seed);
         let case = small_case(&mut random);
-        let all: Vec<Pair> = random_pairs(&mut random, case.automaton.tapes).iter().map(|&(i, j)| (i as usize, j as usize)).collect();
+        let all: Vec<Pair> =
+            random_pairs(&mut random, case.automaton.tapes).iter().map(|&(i, j)| (i as usize, j as usize)).collect();
         let (one, rest) = all.split_at(random.below(all.len() + 1));
         let keep = |automaton: &Automaton, pairs: &[Pair]| intersect(automaton, pairs, 64, Room::AMPLE);
         let (Ok(at_once), Ok(first)) = (keep(&case.automaton, &all), keep(&case.automaton, one)) else { continue };

@@ -71,7 +71,8 @@ fn numbers_out_of_form() {
         let header = format!("  2{:>w$}     1\n", field, w = 6 - (field.len() - field.chars().count()));
         assert_eq!(refused(&[&header, FIRST, SECOND, ARC]), 2, "{field:?}");
     }
-    for weight in ["          ", "         +", "        - ", "-         ", "        --", "        00", "0000000001", "        1-"] {
+    for weight in ["          ", "         +", "        - ", "-         ", "        --", "        00", "0000000001", "        1-"]
+    {
         assert_eq!(refused(&[HEADER, &format!("{weight}         -\n"), SECOND, ARC]), 2, "{weight:?}");
     }
     assert_eq!(refused_arc("     0     1         -     ABC0        Z\n"), 2);
@@ -79,7 +80,18 @@ fn numbers_out_of_form() {
 
 #[test]
 fn labels_out_of_form() {
-    for label in ["ABCDEFGHI", "        a", "      A B", "A        ", "       A-", "       A\t", "        @", "        [", "        /", "        :"] {
+    for label in [
+        "ABCDEFGHI",
+        "        a",
+        "      A B",
+        "A        ",
+        "       A-",
+        "       A\t",
+        "        @",
+        "        [",
+        "        /",
+        "        :",
+    ] {
         assert_eq!(refused_arc(&format!("     0     1        12{label}        Z\n")), 2, "{label:?}");
     }
     assert_eq!(refused_arc("     0     1        12 ABCDEFGH         \n"), 0);
@@ -160,7 +172,8 @@ fn pair_lines() {
     for input in ["", "abc", "abcdef", "  0  0", "  1  0  1", "  1  x     \r"] {
         assert_eq!(agree_refuses(&[input]), 1, "{input:?}");
     }
-    for input in ["abcdefg", "  x  0\n", " 01  0\n", "  0  x\n", "  0  0\r", "  1  x  1  2\n", "  1  0  1  -\n", "  1  0  1  2 "] {
+    for input in ["abcdefg", "  x  0\n", " 01  0\n", "  0  x\n", "  0  0\r", "  1  x  1  2\n", "  1  0  1  -\n", "  1  0  1  2 "]
+    {
         assert_eq!(agree_refuses(&[input]), 2, "{input:?}");
     }
     assert_eq!(agree_refuses(&["  0  0 \n", &table]), 2);

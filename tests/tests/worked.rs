@@ -39,7 +39,8 @@ fn p_at_one_and_zero() {
 
 #[test]
 fn p_in_the_order_of_request_2_2() {
-    let arcs: &[(usize, usize, u64, &[&str])] = &[(0, 1, 1, &["A", "X", ""]), (1, 2, 2, &["B", "Y", "A"]), (2, 3, 3, &["", "Z", "B"])];
+    let arcs: &[(usize, usize, u64, &[&str])] =
+        &[(0, 1, 1, &["A", "X", ""]), (1, 2, 2, &["B", "Y", "A"]), (2, 3, 3, &["", "Z", "B"])];
     assert_eq!(keep(&p(), &[(1, 3)], 1), Ok(first_to_last(3, 4, arcs)));
 }
 
