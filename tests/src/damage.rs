@@ -42,51 +42,50 @@ fn odd_byte(random: &mut Random) -> u8 {
     random.pick(b"  0019AZaz@[`{/:-+.,\n\r\t\x00\x7f\xff_I1O")
 }
 
-/// A number near an edge of some range.
-fn edge_number(random: &mut Random, case: &Case) -> u64 {
-    let states = case.automaton.states.len() as u64;
-    let arcs = case.automaton.arcs.len() as u64;
-    random.pick(&[
-        0,
-        1,
-        2,
-        4,
-        5,
-        7,
-        8,
-        9,
-        10,
-        63,
-        64,
-        65,
-        66,
-        99,
-        100,
-        512,
-        513,
-        999,
-        1_000,
-        1_023,
-        1_024,
-        1_025,
-        8_191,
-        8_192,
-        8_193,
-        99_999,
-        100_000,
-        999_999,
-        1_000_000,
-        999_999_999,
-        1_000_000_000,
-        4_294_967_295,
-        4_294_967_296,
-        9_999_999_999,
-        states,
-        states + 1,
-        states.saturating_sub(1),
-        arcs + 1,
-        arcs.saturating_sub(1),
-    ])
+/// A number near an edge of the range of a field: of a pair line, a header, a state or a weight.
+fn edge_number(random: &mut Random, line: usize, width: usize, case: &Case) -> u64 {
+    let (states, arcs) = (case.automaton.states.len() as u64, case.automaton.arcs.len() as u64);
+    let tapes = case.automaton.tapes as u64;
+    match (line, width) {
+        (_, 3) => random.pick(&[0, 1, 4, 5, 8, 9, 10, 63, 64, 65, 99, 100, 999, tapes, tapes + 1]),
+        (1, _) => random.pick(&[
+            0,
+            1,
+            63,
+            64,
+            65,
+            511,
+            512,
+            513,
+            1_023,
+            1_024,
+            1_025,
+            8_191,
+            8_192,
+            8_193,
+            99_999,
+            100_000,
+            999_999,
+            states + 1,
+            states.saturating_sub(1),
+            arcs + 1,
+            arcs.saturating_sub(1),
+        ]),
+        (_, 6) => random.pick(&[0, states, states, states + 1, states.saturating_sub(1), 64, 1_024, 65_536, 999_999]),
+        _ => random.pick(&[
+            0,
+            1,
+            99_999_999,
+            999_999_999,
+            999_999_999,
+            1_000_000_000,
+            1_000_000_000,
+            1_999_999_999,
+            4_294_967_295,
+            4_294_967_296,
+            9_999_999_999,
+        ]),
+    }
 }
 
 /// `text` right-justified in `width` columns, cut to them at its right end.
@@ -96,12 +95,12 @@ fn justified(text: &str, width: usize) -> Vec<u8> {
     field
 }
 
-/// What may stand in a field instead.
-fn odd_field(random: &mut Random, field: &[u8], case: &Case) -> Vec<u8> {
+/// What may stand in a field of a line instead.
+fn odd_field(random: &mut Random, line: usize, field: &[u8], case: &Case) -> Vec<u8> {
     let width = field.len();
     let text = String::from_utf8_lossy(field).into_owned();
     let bare = text.trim_start();
-    match random.below(14) {
+    match random.below(16) {
         0 => vec![b' '; width],
         1 => vec![random.pick(b"0919A"); width],
         2 => justified(&format!("0{bare}"), width),
@@ -109,36 +108,31 @@ fn odd_field(random: &mut Random, field: &[u8], case: &Case) -> Vec<u8> {
         4 => justified(&format!("{}{bare}", random.pick(&["+", "-", "00", "0x", "."])), width),
         5 => justified("-", width),
         6 => justified(&format!("{} {}", random.below(9), random.below(9)), width),
-        7 => {
-            justified(random.pick(&["A", "Z9", "a", "0", "00", "ABCDEFGH", "ABCDEFGHI", "A B", "A-", "12345678", "I1O0"]), width)
-        }
-        8 => {
+        7 => justified(random.pick(&["A", "Z9", "a", "z", "0", "00", "A B", "A-", "12345678", "I1O0"]), width),
+        8 => justified(random.pick(&["ABCDEFGH", "ABCDEFGHI", "AbC", "A@", "[", "/0", "0:", "`", "{"]), width),
+        9 => {
             let mut field = field.to_vec();
             let at = random.below(width);
             field[at] = odd_byte(random);
             field
         }
-        _ => {
-            let number = edge_number(random, case).to_string();
-            if number.len() <= width {
-                justified(&number, width)
-            } else {
-                vec![b'9'; width]
-            }
-        }
+        _ if width == 9 => justified(random.pick(&["", "A", "AB", "ABCDEFGH", "a", "ABCDEFGHI"]), width),
+        _ => justified(&edge_number(random, line, width, case).to_string(), width),
     }
 }
 
-/// Replaces one field of one line.
+/// Replaces one field of one line, or two of them.
 fn damage_field(random: &mut Random, lines: &mut [Vec<u8>], case: &Case) {
     let widths = widths(case);
     let at = some_line(random, widths.len().min(lines.len()));
-    let field = if random.chance(30) { random.below(2) } else { random.below(widths[at].len()) };
-    let start: usize = widths[at][..field].iter().sum();
-    let end = start + widths[at][field];
-    if lines[at].len() >= end {
-        let odd = odd_field(random, &lines[at][start..end], case);
-        lines[at].splice(start..end, odd);
+    for _ in 0..random.pick(&[1, 1, 2]) {
+        let field = if random.chance(40) { random.below(3).min(widths[at].len() - 1) } else { random.below(widths[at].len()) };
+        let start: usize = widths[at][..field].iter().sum();
+        let end = start + widths[at][field];
+        if lines[at].len() >= end {
+            let odd = odd_field(random, at, &lines[at][start..end], case);
+            lines[at].splice(start..end, odd);
+        }
     }
 }
 
@@ -209,23 +203,31 @@ fn damage_end(random: &mut Random, text: &mut Vec<u8>) {
     }
 }
 
-/// A damaged input of `agree`.
+/// Lines joined, one of them or all with another end.
+fn joined_otherwise(random: &mut Random, lines: &[Vec<u8>]) -> Vec<u8> {
+    let end: &[u8] = random.pick(&[&b"\r\n"[..], b"\r", b"\r", b"", b"\n\n", b" ", b"\0", b" \n"]);
+    if random.chance(30) {
+        return joined(lines, end);
+    }
+    let at = some_line(random, lines.len());
+    [joined(&lines[..at], b"\n"), lines[at].clone(), end.to_vec(), joined(&lines[at + 1..], b"\n")].concat()
+}
+
+/// A damaged input of `agree`: one to three faults.
 pub fn damaged_input(random: &mut Random, case: &Case) -> Vec<u8> {
     let mut lines = lines_of(case);
-    let count = random.pick(&[1, 1, 1, 1, 2, 2, 3]);
-    let mut of_bytes = 0;
-    let mut of_end = 0;
-    for _ in 0..count {
+    let (mut of_bytes, mut of_end, mut of_line_ends) = (0, 0, false);
+    for _ in 0..random.pick(&[1, 1, 1, 1, 2, 2, 3]) {
         match random.below(20) {
             0..=9 => damage_field(random, &mut lines, case),
             10 | 11 => damage_count(random, &mut lines, case),
             12 | 13 => damage_lines(random, &mut lines),
-            14..=17 => of_bytes += 1,
+            14..=16 => of_bytes += 1,
+            17 => of_line_ends = true,
             _ => of_end += 1,
         }
     }
-    let end: &[u8] = if random.chance(3) { random.pick(&[&b"\r\n"[..], b"\r", b"", b"\n\n"]) } else { b"\n" };
-    let mut text = joined(&lines, end);
+    let mut text = if of_line_ends { joined_otherwise(random, &lines) } else { joined(&lines, b"\n") };
     for _ in 0..of_bytes {
         damage_bytes(random, &mut text);
     }

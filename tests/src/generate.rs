@@ -307,7 +307,7 @@ fn corridor_case(random: &mut Random) -> Case {
 }
 
 /// The arcs of a corridor: the words written (the first of them `openings` times), carried, and closed.
-fn corridor_arcs(words: usize, corridor: usize, repeats: usize, openings: usize) -> Vec<Arc> {
+pub fn corridor_arcs(words: usize, corridor: usize, repeats: usize, openings: usize) -> Vec<Arc> {
     let word_of = |number: usize| vec![b'A' + (number / 3) as u8, b'0' + (number % 3) as u8];
     let opening =
         |number: usize| Arc { source: 0, target: 1, weight: number as u64, labels: vec![word_of(number), Label::new()] };

@@ -15,13 +15,12 @@ impl Random {
     /// The generator of one case of a run: cases do not depend on each other.
     pub fn for_case(seed: u64, case: u64) -> Self {
         let mut random = Random::new(seed ^ case.wrapping_mul(0xd134_2543_de82_ef95));
-        random.next();
-        Random::new(random.next())
+        random.bits();
+        Random::new(random.bits())
     }
 
     /// The next 64 bits.
-    #[allow(clippy::should_implement_trait)]
-    pub fn next(&mut self) -> u64 {
+    pub fn bits(&mut self) -> u64 {
         self.state = self.state.wrapping_add(0x9e37_79b9_7f4a_7c15);
         let mut mixed = self.state;
         mixed = (mixed ^ (mixed >> 30)).wrapping_mul(0xbf58_476d_1ce4_e5b9);
@@ -31,7 +30,7 @@ impl Random {
 
     /// A number below `bound`, which is at least 1.
     pub fn below(&mut self, bound: usize) -> usize {
-        ((u128::from(self.next()) * bound as u128) >> 64) as usize
+        ((u128::from(self.bits()) * bound as u128) >> 64) as usize
     }
 
     /// A number from `low` to `high`, both included.

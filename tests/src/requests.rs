@@ -3,11 +3,11 @@
 //! A harness that links another implementation turns a `Request` into its call and compares what it answers, and every lent
 //! byte, with `outcome`.
 
-use crate::automaton::{Automaton, Room};
+use crate::automaton::{Arc, Automaton, Room, State};
 use crate::calls::{self, JoinRequest, LookupOutcome, ResultSpace, TableOutcome, TextOutcome};
 use crate::columns::project;
 use crate::damage::damaged_table;
-use crate::generate::{bad_pairs, case, limit, small_case, Case};
+use crate::generate::{bad_pairs, case, corridor_arcs, limit, small_case, Case};
 use crate::intersect::intersect;
 use crate::join::join;
 use crate::memory::{encode, LentTable, ARC_BYTES, STATE_BYTES};
@@ -57,7 +57,7 @@ pub fn outcome(request: &Request) -> Outcome {
 
 /// So many bytes, none of them likely to be zero.
 fn filled(random: &mut Random, length: usize) -> Vec<u8> {
-    (0..length).map(|_| random.next() as u8).collect()
+    (0..length).map(|_| random.bits() as u8).collect()
 }
 
 /// A count at or near another: mostly enough, often exactly, sometimes one too few.
@@ -298,8 +298,68 @@ fn lookup_request(random: &mut Random) -> Request {
     Request::Lookup { table: lent(random, &automaton), tuple, work }
 }
 
+/// One tape, all states initial, none or the first of them final, and so many loops and steps to the next state.
+fn wheel(states: usize, arcs: usize, ends: bool) -> Automaton {
+    let arc = |number: usize| Arc {
+        source: number % states,
+        target: (number + number / states) % states,
+        weight: 1,
+        labels: vec![vec![b'A'; number % 3]],
+    };
+    let mut records = vec![State { initial: Some(0), final_weight: None }; states];
+    records[0].final_weight = ends.then_some(0);
+    Automaton { tapes: 1, states: records, arcs: (0..arcs).map(arc).collect() }
+}
+
+/// More space than any table may use.
+fn vast_space(random: &mut Random) -> ResultSpace {
+    ResultSpace { states: filled(random, 1_030 * STATE_BYTES), arcs: filled(random, 8_200 * ARC_BYTES) }
+}
+
+/// A request whose result is at or just past 1,024 states or 8,192 arcs, with more space than that.
+fn large_request(random: &mut Random) -> Request {
+    let result = vast_space(random);
+    match random.below(3) {
+        0 => {
+            let states = random.range(1, 1_023);
+            let arcs = random.range(1, 8_191);
+            let first = encode(&wheel(states, arcs, true));
+            let second = encode(&wheel(random.range(1_023, 1_025) - states, random.range(8_191, 8_193) - arcs, false));
+            Request::Union { first, second, result }
+        }
+        1 => {
+            let sizes = [
+                ((32, 32), (32, 32)),
+                ((25, 25), (41, 41)),
+                ((1, 4_096), (1, 2)),
+                ((1, 2_731), (1, 3)),
+                ((31, 31), (32, 32)),
+                ((32, 128), (2, 64)),
+            ];
+            let (one, two) = random.pick(&sizes);
+            let first = encode(&wheel(one.0, one.1, random.chance(30)));
+            let second = encode(&wheel(two.0, two.1, random.chance(30)));
+            let work = work_near(random, calls::product_work(result.room()));
+            Request::Product { first, second, result, work }
+        }
+        _ => {
+            let (words, corridor) = random.pick(&[(7, 146), (3, 341), (2, 510), (2, 511), (5, 205)]);
+            let mut states = vec![State::default(); corridor + 2];
+            states[0].initial = Some(0);
+            states[corridor + 1].final_weight = Some(0);
+            let arcs = corridor_arcs(words, corridor, random.pick(&[1, 2, 7, 8]), 1);
+            let table = encode(&Automaton { tapes: 2, states, arcs });
+            let work = work_near(random, calls::intersect_work(result.room(), table.states));
+            Request::Intersect { table, pairs: vec![(1, 2)], limit: random.pick(&[1, 2, 64]), result, work }
+        }
+    }
+}
+
 /// A random request.
 pub fn request(random: &mut Random) -> Request {
+    if random.chance(1) {
+        return large_request(random);
+    }
     match random.below(20) {
         0 => read_request(random),
         1 => write_request(random),

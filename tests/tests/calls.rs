@@ -261,6 +261,24 @@ fn a_union_past_every_table() {
 }
 
 #[test]
+fn results_at_the_greatest_size() {
+    let mut large: BTreeMap<u64, usize> = BTreeMap::new();
+    for seed in 0..6_000 {
+        let request = request(&mut Random::new(seed));
+        if let Outcome::Table(outcome) = outcome(&request) {
+            let (result, _) = lent_by(&request);
+            if result.room().states > 1_024 {
+                *large.entry(outcome.answer.err().map_or(0, Refusal::number)).or_insert(0) += 1;
+            }
+            if let Ok(counts) = outcome.answer {
+                assert!(counts.states <= 1_024 && counts.arcs <= 8_192);
+            }
+        }
+    }
+    assert!([0, 8, 9].iter().all(|answer| large.contains_key(answer)), "{large:?}");
+}
+
+#[test]
 fn order_of_a_lookup() {
     let call = |table: &LentTable, tuple: &[u8], bytes| {
         let outcome = calls::lookup(table, tuple, &work(bytes));

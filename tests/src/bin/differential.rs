@@ -115,10 +115,11 @@ struct Findings {
     failure: Option<String>,
 }
 
-/// The first line of an answer if it is a refusal, else `a table` or `an empty table`.
+/// The first line of an answer if it is a refusal, else what it is.
 fn kind(answer: &[u8]) -> String {
     let text = String::from_utf8_lossy(answer);
     match text.lines().next() {
+        None => "nothing".to_string(),
         Some(line) if line.starts_with("refused") => line.to_string(),
         _ if text.lines().count() == 1 => "an empty table".to_string(),
         _ => "a table".to_string(),
@@ -126,13 +127,14 @@ fn kind(answer: &[u8]) -> String {
 }
 
 /// Keeps the input and both outputs of a difference, and says where.
-fn keep(options: &Options, case: u64, input: &[u8], ours: &[u8], theirs: &[u8]) -> io::Result<()> {
+fn keep(options: &Options, case: u64, input: &[u8], ours: &[u8], theirs: &[u8], by_itself: bool) -> io::Result<()> {
     let file = |ending: &str| options.keep.join(format!("seed-{}-case-{case}.{ending}", options.seed));
     fs::create_dir_all(&options.keep)?;
     fs::write(file("input"), input)?;
     fs::write(file("expected"), ours)?;
     fs::write(file("program"), theirs)?;
-    println!("difference: case {case}: expected {}, program gave {}; {}", kind(ours), kind(theirs), file("input").display());
+    let end = if by_itself { "" } else { " and was killed by a signal" };
+    println!("difference: case {case}: expected {}, program gave {}{end}; {}", kind(ours), kind(theirs), file("input").display());
     Ok(())
 }
 
@@ -146,7 +148,7 @@ fn compare(options: &Options, case: u64, slot: &Slot, findings: &Mutex<Findings>
     *findings.answers.entry(kind(&ours)).or_insert(0) += 1;
     if differs {
         findings.differences += 1;
-        keep(options, case, &input, &ours, &theirs)?;
+        keep(options, case, &input, &ours, &theirs, by_itself)?;
     }
     Ok(())
 }
