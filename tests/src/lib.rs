@@ -1,0 +1,27 @@
+//! The second implementation of Tomchoen, written from document 01 alone, on plain Rust types.
+//!
+//! `text`, `memory`: tables as texts and as records; `intersect`, `product`, `join`, `columns`, `lookup`: the calls on automata;
+//! `calls`: the same calls on lent bytes; `agree`: the program from text to text. The rest makes and checks test inputs.
+
+#![forbid(unsafe_code)]
+
+pub mod accounts;
+pub mod agree;
+pub mod automaton;
+pub mod calls;
+pub mod closing;
+pub mod columns;
+pub mod damage;
+pub mod generate;
+pub mod intersect;
+pub mod join;
+pub mod lookup;
+pub mod memory;
+pub mod order;
+pub mod pairs;
+pub mod product;
+pub mod random;
+pub mod refusal;
+pub mod requests;
+pub mod sample;
+pub mod text;

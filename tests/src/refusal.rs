@@ -1,0 +1,35 @@
+//! The refusal list of document 01.
+
+/// A refusal; its discriminant is the number of document 01's list.
+#[derive(Clone, Copy, Debug, PartialEq, Eq, Hash, PartialOrd, Ord)]
+pub enum Refusal {
+    Short = 1,
+    Form = 2,
+    Size = 3,
+    State = 4,
+    Tape = 5,
+    Pairs = 6,
+    Limit = 7,
+    StatesFull = 8,
+    ArcsFull = 9,
+    Delay = 10,
+    Weight = 11,
+    Width = 12,
+    Space = 13,
+}
+
+impl Refusal {
+    /// The number in document 01's list.
+    pub fn number(self) -> u64 {
+        self as u64
+    }
+}
+
+/// Refuses with `refusal` where `wrong` holds.
+pub fn refuse_if(wrong: bool, refusal: Refusal) -> Result<(), Refusal> {
+    if wrong {
+        Err(refusal)
+    } else {
+        Ok(())
+    }
+}

@@ -1,0 +1,414 @@
+//! The second implementation against plain definitions on random tables: every path followed, rounds of relaxation, lists.
+
+use std::collections::BTreeMap;
+use tomchoen_tests::accounts::{accounts, path_count, Account};
+use tomchoen_tests::automaton::{Arc, Automaton, Room, State};
+use tomchoen_tests::closing::{arc_delay, closing_delays, Closing};
+use tomchoen_tests::columns::{drop_tapes, project, union};
+use tomchoen_tests::generate::{random_pairs, small_case, Case};
+use tomchoen_tests::intersect::intersect;
+use tomchoen_tests::join::join;
+use tomchoen_tests::lookup::lookup;
+use tomchoen_tests::pairs::Pair;
+use tomchoen_tests::product::product;
+use tomchoen_tests::random::Random;
+use tomchoen_tests::refusal::Refusal;
+use tomchoen_tests::sample::table;
+use tomchoen_tests::text::{read, write};
+
+/// The pairs of a case as tape numbers.
+fn pairs_of(case: &Case) -> Vec<Pair> {
+    case.pairs.iter().map(|&(first, second)| (first as usize, second as usize)).collect()
+}
+
+/// The greatest number of arcs, at most `most`, for which a table's paths are few.
+fn affordable(automaton: &Automaton, most: usize) -> usize {
+    (1..=most).rev().find(|&arcs| path_count(automaton, arcs, 1_500) < 1_500).unwrap_or(0)
+}
+
+/// Closing delays by rounds of relaxation: as many rounds as states find the delays, as many again what can still be improved.
+fn relaxed(automaton: &Automaton, pair: Pair) -> Vec<Option<Closing>> {
+    let count = automaton.states.len();
+    let mut least: Vec<Option<i64>> = automaton.states.iter().map(|state| state.final_weight.map(|_| 0)).collect();
+    let mut greatest = least.clone();
+    let (mut least_endless, mut greatest_endless) = (vec![false; count], vec![false; count]);
+    for round in 0..2 * count {
+        for arc in &automaton.arcs {
+            let delay = arc_delay(&arc.labels, pair);
+            if let (Some(low), Some(high)) = (least[arc.target], greatest[arc.target]) {
+                if least[arc.source].is_none_or(|value| low + delay < value) {
+                    least[arc.source] = Some(low + delay);
+                    least_endless[arc.source] |= round >= count;
+                }
+                if greatest[arc.source].is_none_or(|value| high + delay > value) {
+                    greatest[arc.source] = Some(high + delay);
+                    greatest_endless[arc.source] |= round >= count;
+                }
+            }
+            least_endless[arc.source] |= least_endless[arc.target];
+            greatest_endless[arc.source] |= greatest_endless[arc.target];
+        }
+    }
+    let closing = |state: usize| {
+        let (low, high) = (least[state]?, greatest[state]?);
+        Some(Closing { least: (!least_endless[state]).then_some(low), greatest: (!greatest_endless[state]).then_some(high) })
+    };
+    (0..count).map(closing).collect()
+}
+
+#[test]
+fn closing_delays_by_relaxation() {
+    for seed in 0..3_000 {
+        let case = small_case(&mut Random::new(seed));
+        for pair in pairs_of(&case) {
+            assert_eq!(closing_delays(&case.automaton, pair), relaxed(&case.automaton, pair), "seed {seed}");
+        }
+    }
+}
+
+/// What is left of a pair's two tapes.
+type Left = (Vec<u8>, Vec<u8>);
+
+/// A configuration as document 01 words it: a state and, for each pair, what is left of its two tapes.
+type Listed = (usize, Vec<Left>);
+
+/// Keeping word for word: a list of configurations in the order first reached, searched from its start.
+fn listed(automaton: &Automaton, pairs: &[Pair], limit: usize, room: Room) -> Result<Automaton, Refusal> {
+    let closings: Vec<Vec<Option<Closing>>> = pairs.iter().map(|&pair| relaxed(automaton, pair)).collect();
+    let coaccessible = automaton.coaccessible();
+    let delay = |left: &Left| left.0.len() as i64 - left.1.len() as i64;
+    let hopeful = |config: &Listed| {
+        let admits = |(left, closing): (&Left, &Vec<Option<Closing>>)| closing[config.0].unwrap().admits(delay(left));
+        coaccessible[config.0] && config.1.iter().zip(&closings).all(admits)
+    };
+    let mut reached: Vec<Listed> = Vec::new();
+    for (state, record) in automaton.states.iter().enumerate() {
+        let config = (state, vec![(Vec::new(), Vec::new()); pairs.len()]);
+        if record.initial.is_some() && hopeful(&config) {
+            reached.push(config);
+        }
+    }
+    let mut arcs: Vec<(usize, usize, usize)> = Vec::new();
+    let mut exceeded = false;
+    let mut taken = 0;
+    while taken < reached.len() && reached.len() as u64 <= room.usable_states() {
+        let state = reached[taken].0;
+        for (number, arc) in automaton.arcs.iter().enumerate().filter(|(_, arc)| arc.source == state) {
+            let mut config: Listed = (arc.target, reached[taken].1.clone());
+            for (left, pair) in config.1.iter_mut().zip(pairs) {
+                left.0.extend(&arc.labels[pair.0 - 1]);
+                left.1.extend(&arc.labels[pair.1 - 1]);
+                while !left.0.is_empty() && !left.1.is_empty() && left.0[0] == left.1[0] {
+                    left.0.remove(0);
+                    left.1.remove(0);
+                }
+            }
+            let compatible = config.1.iter().all(|left| left.0.is_empty() || left.1.is_empty());
+            if !compatible || !hopeful(&config) {
+                continue;
+            }
+            if config.1.iter().any(|left| left.0.len() > limit || left.1.len() > limit) {
+                exceeded = true;
+                continue;
+            }
+            let found = reached.iter().position(|known| *known == config);
+            arcs.push((taken, number, found.unwrap_or(reached.len())));
+            if found.is_none() {
+                reached.push(config);
+            }
+        }
+        taken += 1;
+    }
+    if reached.len() as u64 > room.usable_states() {
+        return Err(Refusal::StatesFull);
+    }
+    if arcs.len() as u64 > room.usable_arcs() {
+        return Err(Refusal::ArcsFull);
+    }
+    if exceeded {
+        return Err(Refusal::Delay);
+    }
+    let even = |config: &Listed| config.1.iter().all(|left| left.0.is_empty() && left.1.is_empty());
+    let record = |config: &Listed| if even(config) { automaton.states[config.0] } else { State::default() };
+    let mut kept: Vec<bool> = reached.iter().map(|config| record(config).final_weight.is_some()).collect();
+    for _ in 0..reached.len() {
+        for &(source, _, target) in &arcs {
+            kept[source] |= kept[target];
+        }
+    }
+    let rank = |node: usize| kept[..node].iter().filter(|&&kept| kept).count();
+    let built = arcs.iter().filter(|arc| kept[arc.0] && kept[arc.2]).map(|&(source, number, target)| Arc {
+        source: rank(source),
+        target: rank(target),
+        ..automaton.arcs[number].clone()
+    });
+    let states = reached.iter().enumerate().filter(|(node, _)| kept[*node]).map(|(_, config)| record(config)).collect();
+    Ok(Automaton { tapes: automaton.tapes, states, arcs: built.collect() })
+}
+
+#[test]
+fn keeping_word_for_word() {
+    for seed in 0..4_000 {
+        let mut random = Random::new(seed);
+        let case = small_case(&mut random);
+        let room = Room { states: random.pick(&[0, 1, 3, 8, 20, 64, 200]), arcs: random.pick(&[0, 2, 8, 30, 200, 512]) };
+        let pairs = pairs_of(&case);
+        let ours = intersect(&case.automaton, &pairs, case.limit, room);
+        assert_eq!(ours, listed(&case.automaton, &pairs, case.limit as usize, room), "seed {seed}");
+    }
+}
+
+#[test]
+fn keeping_keeps_the_accounts_that_agree() {
+    let mut kept_some = 0;
+    for seed in 0..3_000 {
+        let case = small_case(&mut Random::new(seed));
+        let pairs = pairs_of(&case);
+        let Ok(kept) = intersect(&case.automaton, &pairs, case.limit, Room::AMPLE) else { continue };
+        let most = affordable(&case.automaton, 7);
+        let agrees = |account: &Account| pairs.iter().all(|&(first, second)| account.0[first - 1] == account.0[second - 1]);
+        let expected: Vec<Account> = accounts(&case.automaton, most).into_iter().filter(agrees).collect();
+        kept_some += usize::from(!expected.is_empty());
+        assert_eq!(accounts(&kept, most), expected, "seed {seed}");
+    }
+    assert!(kept_some > 500, "only {kept_some} tables kept something");
+}
+
+#[test]
+fn results_are_trimmed() {
+    for seed in 0..2_000 {
+        let case = small_case(&mut Random::new(seed));
+        let Ok(kept) = intersect(&case.automaton, &pairs_of(&case), case.limit, Room::AMPLE) else { continue };
+        assert!(kept.coaccessible().iter().all(|&marked| marked), "seed {seed}");
+        assert_eq!(intersect(&kept, &[], 0, Room::AMPLE), Ok(kept), "seed {seed}");
+    }
+}
+
+#[test]
+fn given_again() {
+    for seed in 0..2_000 {
+        let mut random = Random::new(seed);
+        let case = small_case(&mut random);
+        let room = Room { states: random.pick(&[4, 20, 64]), arcs: random.pick(&[8, 60, 512]) };
+        let Ok(kept) = intersect(&case.automaton, &pairs_of(&case), case.limit, room) else { continue };
+        let limit = random.range(case.limit as usize, 64) as u64;
+        assert_eq!(intersect(&case.automaton, &pairs_of(&case), limit, Room::AMPLE), Ok(kept), "seed {seed}");
+    }
+}
+
+/// A small table of one or two tapes with small weights, for products.
+fn light_table(random: &mut Random) -> Automaton {
+    loop {
+        let case = small_case(random);
+        let chosen: Vec<u64> = (1..=case.automaton.tapes.min(2) as u64).collect();
+        let mut automaton = project(&case.automaton, &chosen, Room::AMPLE).unwrap();
+        if automaton.arcs.len() <= 6 {
+            automaton.arcs.iter_mut().for_each(|arc| arc.weight %= 1_000);
+            for state in &mut automaton.states {
+                *state = State {
+                    initial: state.initial.map(|weight| weight % 1_000),
+                    final_weight: state.final_weight.map(|weight| weight % 1_000),
+                };
+            }
+            return automaton;
+        }
+    }
+}
+
+/// All pairs of accounts joined, the weights added.
+fn pairs_of_accounts(first: &[Account], second: &[Account]) -> Vec<Account> {
+    let pair = |one: &Account, two: &Account| ([one.0.clone(), two.0.clone()].concat(), one.1 + two.1);
+    let mut found: Vec<Account> = first.iter().flat_map(|one| second.iter().map(move |two| pair(one, two))).collect();
+    found.sort();
+    found
+}
+
+#[test]
+fn a_product_pairs_all_accounts() {
+    for seed in 0..1_500 {
+        let mut random = Random::new(seed);
+        let (first, second) = (light_table(&mut random), light_table(&mut random));
+        let both = product(&first, &second, Room::AMPLE).unwrap();
+        let most = affordable(&both, 5);
+        assert_eq!(accounts(&both, most), pairs_of_accounts(&accounts(&first, most), &accounts(&second, most)), "seed {seed}");
+    }
+}
+
+/// A product word for word (004, 6.1) with a list searched from its start, in the order of request 2.2; `None` is past the end.
+fn listed_product(first: &Automaton, second: &Automaton) -> Automaton {
+    type Node = (Option<usize>, Option<usize>);
+    let mut nodes: Vec<Node> = Vec::new();
+    let mut result = Automaton::empty(first.tapes + second.tapes);
+    for (x, one) in first.states.iter().enumerate() {
+        for (y, two) in second.states.iter().enumerate() {
+            if one.initial.is_some() && two.initial.is_some() {
+                nodes.push((Some(x), Some(y)));
+            }
+        }
+    }
+    let starts = nodes.len();
+    let end = |automaton: &Automaton, place: Option<usize>| place.map_or(Some(0), |state| automaton.states[state].final_weight);
+    let out = |automaton: &Automaton, place: Option<usize>| -> Vec<Arc> {
+        automaton.arcs.iter().filter(|arc| Some(arc.source) == place).cloned().collect()
+    };
+    let mut taken = 0;
+    while taken < nodes.len() {
+        let (x, y) = nodes[taken];
+        let mut moves: Vec<(Node, u64, Vec<Vec<u8>>)> = Vec::new();
+        for one in out(first, x) {
+            for two in out(second, y) {
+                moves.push((
+                    (Some(one.target), Some(two.target)),
+                    one.weight + two.weight,
+                    [one.labels.clone(), two.labels].concat(),
+                ));
+            }
+        }
+        if let Some(end) = end(first, x) {
+            moves.extend(
+                out(second, y).into_iter().map(|two| {
+                    ((None, Some(two.target)), end + two.weight, [vec![Vec::new(); first.tapes], two.labels].concat())
+                }),
+            );
+        }
+        if let Some(end) = end(second, y) {
+            moves.extend(
+                out(first, x).into_iter().map(|one| {
+                    ((Some(one.target), None), end + one.weight, [one.labels, vec![Vec::new(); second.tapes]].concat())
+                }),
+            );
+        }
+        for (target, weight, labels) in moves {
+            let place = nodes.iter().position(|node| *node == target).unwrap_or(nodes.len());
+            if place == nodes.len() {
+                nodes.push(target);
+            }
+            result.arcs.push(Arc { source: taken, target: place, weight, labels });
+        }
+        let initial = |x: Option<usize>, y: Option<usize>| Some(first.states[x?].initial? + second.states[y?].initial?);
+        result.states.push(State {
+            initial: initial(x, y).filter(|_| taken < starts),
+            final_weight: end(first, x).and_then(|left| Some(left + end(second, y)?)),
+        });
+        taken += 1;
+    }
+    result
+}
+
+#[test]
+fn a_product_word_for_word() {
+    for seed in 0..1_500 {
+        let mut random = Random::new(seed);
+        let (first, second) = (light_table(&mut random), light_table(&mut random));
+        let expected = listed_product(&first, &second);
+        let (states, arcs) = (expected.states.len() as u64, expected.arcs.len() as u64);
+        assert_eq!(product(&first, &second, Room { states, arcs }), Ok(expected), "seed {seed}");
+        if states > 0 {
+            assert_eq!(product(&first, &second, Room { states: states - 1, arcs: 0 }), Err(Refusal::StatesFull), "seed {seed}");
+        }
+        if arcs > 0 {
+            assert_eq!(product(&first, &second, Room { states, arcs: arcs - 1 }), Err(Refusal::ArcsFull), "seed {seed}");
+        }
+    }
+}
+
+#[test]
+fn a_join_gives_the_meetings() {
+    for seed in 0..1_500 {
+        let mut random = Random::new(seed);
+        let (first, second) = (light_table(&mut random), light_table(&mut random));
+        let most_pairs = first.tapes.min(second.tapes);
+        let pairs: Vec<Pair> = (1..=random.below(most_pairs + 1)).map(|tape| (tape, most_pairs + 1 - tape)).collect();
+        let Ok(joined) = join(&first, &second, &pairs, 64, Room::AMPLE, Room::AMPLE) else { continue };
+        let most = affordable(&product(&first, &second, Room::AMPLE).unwrap(), 5);
+        let meets = |account: &Account| pairs.iter().all(|&(i, j)| account.0[i - 1] == account.0[first.tapes + j - 1]);
+        let shorten = |account: Account| {
+            let dropped = |tape: usize| pairs.iter().any(|&(_, j)| first.tapes + j == tape + 1);
+            (account.0.into_iter().enumerate().filter(|(tape, _)| !dropped(*tape)).map(|(_, string)| string).collect(), account.1)
+        };
+        let all = pairs_of_accounts(&accounts(&first, most), &accounts(&second, most));
+        let mut expected: Vec<Account> = all.into_iter().filter(meets).map(shorten).collect();
+        expected.sort();
+        assert_eq!(accounts(&joined, most), expected, "seed {seed}");
+    }
+}
+
+#[test]
+fn a_lookup_gives_the_least_weight() {
+    let mut found_some = 0;
+    for seed in 0..1_500 {
+        let mut random = Random::new(seed);
+        let mut automaton = small_case(&mut random).automaton;
+        automaton.arcs.retain(|arc| arc.labels.iter().any(|label| !label.is_empty()));
+        let most = affordable(&automaton, 4);
+        let mut least: BTreeMap<Vec<Vec<u8>>, u64> = BTreeMap::new();
+        for (tuple, weight) in accounts(&automaton, most) {
+            let entry = least.entry(tuple).or_insert(weight);
+            *entry = (*entry).min(weight);
+        }
+        for (tuple, &weight) in least.iter().filter(|(tuple, _)| tuple.iter().map(Vec::len).sum::<usize>() <= most) {
+            found_some += 1;
+            assert_eq!(lookup(&automaton, tuple), Some(weight), "seed {seed}");
+            let mut other = tuple.clone();
+            other[0].push(b'A');
+            if other.iter().map(Vec::len).sum::<usize>() <= most {
+                assert_eq!(lookup(&automaton, &other), least.get(&other).copied(), "seed {seed}");
+            }
+        }
+    }
+    assert!(found_some > 300, "only {found_some} tuples found");
+}
+
+#[test]
+fn a_lookup_through_empty_arcs() {
+    let weights = [(Some(5), None), (None, Some(7)), (None, Some(999_999_999))];
+    let automaton = table(1, &weights, &[(0, 0, 0, &[""]), (0, 2, 1, &[""]), (2, 1, 1, &["A"]), (0, 1, 90, &["A"])]);
+    assert_eq!(lookup(&automaton, &vec![b"A".to_vec()]), Some(14));
+    assert_eq!(lookup(&automaton, &vec![Vec::new()]), Some(1_000_000_005));
+    assert_eq!(lookup(&automaton, &vec![b"AA".to_vec()]), None);
+}
+
+#[test]
+fn union_choosing_and_dropping() {
+    for seed in 0..1_000 {
+        let mut random = Random::new(seed);
+        let (first, second) = (small_case(&mut random).automaton, small_case(&mut random).automaton);
+        let most = affordable(&first, 4).min(affordable(&second, 4));
+        let both = union(&first, &second, Room::AMPLE);
+        if first.tapes == second.tapes {
+            let mut expected = [accounts(&first, most), accounts(&second, most)].concat();
+            expected.sort();
+            assert_eq!(accounts(&both.unwrap(), most), expected, "seed {seed}");
+        } else {
+            assert_eq!(both, Err(Refusal::Tape));
+        }
+        let marked = random.below(1 << first.tapes) as u8;
+        let left: Vec<u64> = (1..=first.tapes as u64).filter(|tape| marked & (1 << (tape - 1)) == 0).collect();
+        assert_eq!(drop_tapes(&first, marked, Room::AMPLE), project(&first, &left, Room::AMPLE), "seed {seed}");
+    }
+}
+
+#[test]
+fn reading_and_writing_are_inverse() {
+    for seed in 0..2_000 {
+        let mut random = Random::new(seed);
+        let automaton = small_case(&mut random).automaton;
+        assert_eq!(read(&write(&automaton), Room::AMPLE), Ok(automaton));
+    }
+}
+
+#[test]
+fn some_pairs_first() {
+    for seed in 0..1_500 {
+        let mut random = Random::new(seed);
+        let case = small_case(&mut random);
+        let all: Vec<Pair> =
+            random_pairs(&mut random, case.automaton.tapes).iter().map(|&(i, j)| (i as usize, j as usize)).collect();
+        let (one, rest) = all.split_at(random.below(all.len() + 1));
+        let keep = |automaton: &Automaton, pairs: &[Pair]| intersect(automaton, pairs, 64, Room::AMPLE);
+        let (Ok(at_once), Ok(first)) = (keep(&case.automaton, &all), keep(&case.automaton, one)) else { continue };
+        let Ok(then) = keep(&first, rest) else { continue };
+        let most = affordable(&case.automaton, 6);
+        assert_eq!(accounts(&then, most), accounts(&at_once, most), "seed {seed}");
+    }
+}

@@ -1,0 +1,140 @@
+//! The worked cases of document 01 and its example of `agree`.
+
+use tomchoen_tests::accounts::accounts;
+use tomchoen_tests::agree::agree;
+use tomchoen_tests::automaton::{Automaton, Room, MOST_WEIGHT};
+use tomchoen_tests::calls;
+use tomchoen_tests::intersect::intersect;
+use tomchoen_tests::memory::encode;
+use tomchoen_tests::pairs::judge_intersect;
+use tomchoen_tests::product::product;
+use tomchoen_tests::refusal::Refusal;
+use tomchoen_tests::sample::{first_to_last, p, q, r, s, table, tuple};
+use tomchoen_tests::text::{pair_line, read, write};
+
+/// Keeping with ample space.
+fn keep(automaton: &Automaton, pairs: &[(usize, usize)], limit: u64) -> Result<Automaton, Refusal> {
+    intersect(automaton, pairs, limit, Room::AMPLE)
+}
+
+/// How many states and arcs a result has.
+fn counts(result: Result<Automaton, Refusal>) -> Result<(usize, usize), Refusal> {
+    result.map(|automaton| (automaton.states.len(), automaton.arcs.len()))
+}
+
+#[test]
+fn example_of_agree() {
+    let input = "  1  0  1  2\n  2     1     2\n         0         5\n     0     0         2        A        A\n     0     0         3        B        C\n";
+    let output = "  2     1     1\n         0         5\n     0     0         2        A        A\n";
+    assert_eq!(String::from_utf8(agree(input.as_bytes())).unwrap(), output);
+}
+
+#[test]
+fn p_at_one_and_zero() {
+    let kept = keep(&p(), &[(1, 3)], 1).unwrap();
+    assert_eq!((kept.states.len(), kept.arcs.len()), (4, 3));
+    assert_eq!(accounts(&kept, 10), vec![(tuple(&["AB", "XYZ", "AB"]), 6)]);
+    assert_eq!(keep(&p(), &[(1, 3)], 0), Err(Refusal::Delay));
+}
+
+#[test]
+fn p_in_the_order_of_request_2_2() {
+    let arcs: &[(usize, usize, u64, &[&str])] =
+        &[(0, 1, 1, &["A", "X", ""]), (1, 2, 2, &["B", "Y", "A"]), (2, 3, 3, &["", "Z", "B"])];
+    assert_eq!(keep(&p(), &[(1, 3)], 1), Ok(first_to_last(3, 4, arcs)));
+}
+
+#[test]
+fn q_at_one_and_zero() {
+    assert_eq!(counts(keep(&q(), &[(1, 2)], 1)), Ok((3, 2)));
+    assert_eq!(counts(keep(&q(), &[(1, 2)], 64)), Ok((3, 2)));
+    assert_eq!(keep(&q(), &[(1, 2)], 0), Err(Refusal::Delay));
+}
+
+#[test]
+fn r_at_one_and_sixty_four() {
+    let at = |limit, states, arcs| intersect(&r(), &[(1, 2)], limit, Room { states, arcs });
+    assert_eq!(at(1, 1_024, 8_192), Err(Refusal::Delay));
+    assert_eq!(at(64, 130, 193), Err(Refusal::Delay));
+    assert_eq!(at(64, 129, 193), Err(Refusal::StatesFull));
+    assert_eq!(at(64, 129, 192), Err(Refusal::StatesFull));
+    assert_eq!(at(64, 130, 192), Err(Refusal::ArcsFull));
+    assert_eq!(at(64, 5_000, 50_000), Err(Refusal::Delay));
+}
+
+#[test]
+fn s_gives_the_empty_table() {
+    assert_eq!(keep(&s(), &[(1, 2)], 0), Ok(Automaton::empty(2)));
+    assert_eq!(keep(&s(), &[(1, 2)], 64), Ok(Automaton::empty(2)));
+}
+
+#[test]
+fn table_without_states() {
+    let text = b"  3     0     0\n";
+    assert_eq!(read(text, Room { states: 0, arcs: 0 }), Ok(Automaton::empty(3)));
+    assert_eq!(write(&Automaton::empty(3)), text);
+    let input = [pair_line(&[(1, 3)], 64), text.to_vec()].concat();
+    assert_eq!(agree(&input), text);
+}
+
+#[test]
+fn no_pairs_give_the_source_trimmed() {
+    let weights = [(None, None), (Some(1), None), (None, Some(2)), (None, None), (Some(3), None)];
+    let rows: &[(usize, usize, u64, &[&str])] =
+        &[(1, 2, 0, &["A"]), (1, 3, 0, &["A"]), (0, 2, 0, &["B"]), (2, 1, 7, &[""]), (4, 4, 0, &["C"]), (1, 2, 0, &["A"])];
+    let kept = table(1, &[(Some(1), None), (None, Some(2))], &[(0, 1, 0, &["A"]), (0, 1, 0, &["A"]), (1, 0, 7, &[""])]);
+    assert_eq!(keep(&table(1, &weights, rows), &[], 0), Ok(kept));
+}
+
+#[test]
+fn limits_and_numbers_of_pairs() {
+    assert!(judge_intersect(&[], 1, 64).is_ok());
+    assert_eq!(judge_intersect(&[], 1, 65), Err(Refusal::Limit));
+    assert!(judge_intersect(&[(1, 2), (3, 4), (5, 6), (7, 8)], 8, 64).is_ok());
+    assert_eq!(judge_intersect(&[(1, 2), (3, 4), (5, 6), (7, 8), (1, 2)], 8, 64), Err(Refusal::Pairs));
+}
+
+#[test]
+fn a_heavy_product() {
+    let first = table(1, &[(Some(0), Some(MOST_WEIGHT))], &[]);
+    let second = first_to_last(1, 2, &[(0, 1, 1, &["A"])]);
+    assert_eq!(product(&first, &second, Room::AMPLE), Err(Refusal::Weight));
+    assert_eq!(product(&second, &first, Room::AMPLE), Err(Refusal::Weight));
+    let light = table(1, &[(Some(0), Some(MOST_WEIGHT - 1))], &[]);
+    assert!(product(&light, &second, Room::AMPLE).is_ok());
+}
+
+#[test]
+fn worked_cases_through_agree() {
+    let answer = |automaton: &Automaton, pairs: &[(u64, u64)], limit| {
+        let output = agree(&[pair_line(pairs, limit), write(automaton)].concat());
+        String::from_utf8(output).unwrap().lines().next().unwrap_or_default().to_string()
+    };
+    assert_eq!(answer(&p(), &[(1, 3)], 1), "  3     4     3");
+    assert_eq!(answer(&p(), &[(1, 3)], 0), "refused  10");
+    assert_eq!(answer(&q(), &[(1, 2)], 1), "  2     3     2");
+    assert_eq!(answer(&q(), &[(1, 2)], 0), "refused  10");
+    assert_eq!(answer(&r(), &[(1, 2)], 1), "refused  10");
+    assert_eq!(answer(&r(), &[(1, 2)], 31), "refused  10");
+    assert_eq!(answer(&r(), &[(1, 2)], 32), "refused   8");
+    assert_eq!(answer(&s(), &[(1, 2)], 1), "  2     0     0");
+    assert_eq!(answer(&s(), &[(1, 2)], 65), "refused   7");
+    assert_eq!(answer(&s(), &[(1, 1)], 65), "refused   6");
+    assert_eq!(answer(&s(), &[(1, 1), (3, 2)], 65), "refused   5");
+}
+
+#[test]
+fn r_on_lent_bytes() {
+    let space = |states: usize, arcs: usize| calls::ResultSpace { states: vec![7; 10 * states], arcs: vec![7; 80 * arcs] };
+    let call = |states: usize, arcs: usize, short: usize| {
+        let work = vec![7; 320 * states + 16 * arcs + 64 * 2 - short];
+        calls::intersect(&encode(&r()), &[(1, 2)], 64, &space(states, arcs), &work)
+    };
+    assert_eq!(call(130, 193, 0).answer, Err(Refusal::Delay));
+    assert_eq!(call(130, 192, 0).answer, Err(Refusal::ArcsFull));
+    assert_eq!(call(129, 193, 0).answer, Err(Refusal::StatesFull));
+    let short = call(129, 193, 1);
+    assert_eq!(short.answer, Err(Refusal::Space));
+    assert_eq!(short.result, space(129, 193));
+    assert!(short.work.iter().all(|&byte| byte == 0));
+}
