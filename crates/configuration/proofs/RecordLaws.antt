@@ -5,6 +5,7 @@ use mathlib.Core.List.{List, [], _∷_, _++_, append-nil, append-assoc}
 use native.Mathlib.Omega.{arith}
 use lib.Dec.{eqb}
 use lib.ListN.{length, getD, set, take, drop, replicate, length-append, length-replicate, length-take, length-drop, drop-of-length-le}
+use Rattle.memory.proofs.RecordLaws.{array-of}
 use Rattle.memory.specs.Region.{part, splice}
 use Rattle.memory.specs.Endian.{le, toLe}
 use Rattle.memory.proofs.Laws.{two-stores, splice-behind}
@@ -12,15 +13,6 @@ use Rattle.configuration.specs.declared.leftover.Leftover.{Leftover}
 use Rattle.configuration.specs.declared.config.Config.{Config}
 use Rattle.configuration.specs.Leftovers.{flag, leftoverBytes, leftoverAt, outside}
 use Rattle.configuration.specs.Configs.{configBytes, configAt}
-
--- an array that was filled from a part of a slice
-pub array-of : (at n : ℕ) (xs a : List ℕ) → at + n ≤ length xs → a ≡ splice 0 (take (at + n - at) (drop at xs)) (replicate n 0) → a ≡ part at n xs
-unfolding part splice
-array-of at n xs a h e =
-    let m : at + n - at ≡ n = omega arith in
-    let l : length (take n (drop at xs)) ≡ n = simp (length-take, length-drop) (omega arith) in
-    let k : length {A = ℕ} (replicate n 0) ≤ 0 + length (take n (drop at xs)) = simp length-replicate (omega arith) in
-    e ∙ rw m (ap (λ (r : List ℕ). take n (drop at xs) ++ r) (drop-of-length-le (replicate n 0) k) ∙ append-nil (take n (drop at xs)))
 
 -- ---- a leftover
 pub leftover-loaded : (at : ℕ) (xs y : List ℕ) → at + 74 ≤ length xs → y ≡ splice 0 (take (at + 2 + 72 - (at + 2)) (drop (at + 2) xs)) (replicate 72 0)

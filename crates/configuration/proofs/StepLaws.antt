@@ -10,7 +10,7 @@ use lib.ListN.{length, getD, set, take, drop, replicate, drop-of-length-le, leng
 use lib.Seq.{drop-cons, getD-take, length-take-le, take-suc-set, drop-set-lt, drop-drop}
 use Rattle.automata.specs.Lists.{All, consBoth}
 use Rattle.automata.specs.Automaton.{Symbol, Arc, labelOn}
-use Rattle.automata.specs.TapePair.{reading, reading-is, limited}
+use Rattle.automata.specs.TapePair.{reading, limited, map-reading}
 use Rattle.automata.specs.Leftover as automata
 use Rattle.automata.specs.Config.{advanceAll}
 use Rattle.automata.proofs.ListFacts.{map-append}
@@ -42,10 +42,6 @@ label-length at tape xs l e h = rw e h
 pub pair-advances : (at : ℕ) (arcs : List ℕ) (p : Pair) (l : Leftover) (x y : Label) (r : Advanced) → x ≡ labelAt at (p .first) arcs → y ≡ labelAt at (p .second) arcs
     → Advances (automata.advance (leftoverAs l) (labelOf x) (labelOf y)) r → Advances (pairAfter at arcs p l) r
 pair-advances at arcs p l x y r e f t = rw (← e, ← f) t
-
-map-reading : (x : List Symbol) → map reading x ≡ x
-map-reading [] = refl
-map-reading (c ∷ x) = λ i. reading-is c i ∷ map-reading x i
 
 module _ (arcs : List ℕ) (at tapes : ℕ) (a : Arc ℕ) (r : Reads arcs at tapes a) where
   -- the label that is compared is the one in the record

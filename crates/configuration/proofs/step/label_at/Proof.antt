@@ -1,6 +1,6 @@
 -- `configuration::step::label_at` meets its contract. Assumes nothing.
 use Rattle.configuration.proofs.StepLaws.{label-loaded}
-use Rattle.configuration.proofs.RecordLaws.{array-of}
+use Rattle.memory.proofs.RecordLaws.{array-of}
 use native.Mathlib.Omega.{arith}
 use denote.Ref.{now}
 use borrow.Author.Needs.{needs}
