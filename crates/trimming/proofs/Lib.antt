@@ -2,3 +2,4 @@
 pub mod RankLaws
 pub mod RowLaws
 pub mod ResultLaws
+pub mod StateModel

@@ -2,3 +2,4 @@
 pub mod Ranks
 pub mod Rows
 pub mod Result
+pub mod Model
