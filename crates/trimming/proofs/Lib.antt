@@ -3,3 +3,4 @@ pub mod RankLaws
 pub mod RowLaws
 pub mod ResultLaws
 pub mod StateModel
+pub mod ArcModel
