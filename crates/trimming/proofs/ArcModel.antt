@@ -5,7 +5,7 @@ use mathlib.Core.Bool.{Bool, true, false}
 use mathlib.Core.Option.{some}
 use mathlib.Core.List.{List, [], _∷_, _++_, map}
 use native.Mathlib.Omega.{arith}
-use lib.ListN.{length, getD, getElem?, take, drop, length-take}
+use lib.ListN.{length, getD, getElem?, take, drop}
 use lib.Seq.{getD-take, take-all}
 use Rattle.automata.specs.Lists.{if, and, filter, All}
 use Rattle.automata.specs.Records.{writeAll}
@@ -32,6 +32,7 @@ use Rattle.edges.proofs.MarkLaws.{mark-at}
 use Rattle.trimming.specs.Ranks.{Numbered}
 use Rattle.trimming.specs.Result.{bothMarks, arcBytes, keptArcs, ArcsWithin}
 use Rattle.trimming.specs.Model.{resultOf, EdgeOf}
+use Rattle.trimming.proofs.RowLaws.{front-fits}
 
 -- a property of every place is one of every element
 pub places-all : {X : Type 0} (P : X → Type 0) (xs : List X) → ((j : ℕ) (x : X) → getElem? xs j ≡ some x → P x) → All P xs
@@ -70,9 +71,6 @@ pub edges-joined : (A : Automaton ℕ) (n : ℕ) (es : List (Edge (ℕ × Arc �
 unfolding Joined
 edges-joined A n [] a = tt
 edges-joined A n (x ∷ es) a = ((a .0 .from, a .0 .to), edges-joined A n es (a .1))
-
-front-fits : (k : ℕ) (xs ys : List ℕ) → take k xs ≡ ys → length ys ≡ k → k ≤ length xs
-front-fits k xs ys e h = let l = length-take k xs in let m = ap length e in omega arith
 
 -- what stands behind the ends in the record of an arc
 abbrev behind : ℕ → Arc ℕ → List ℕ

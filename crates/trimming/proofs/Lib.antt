@@ -4,3 +4,4 @@ pub mod RowLaws
 pub mod ResultLaws
 pub mod StateModel
 pub mod ArcModel
+pub mod Meaning

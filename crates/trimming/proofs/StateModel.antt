@@ -1,13 +1,13 @@
 -- What the rows and their records mean: the marks of accepting configurations, and the states of the result.
 use Prim.Native.Nat.{ℕ, zero, suc, _+_, _-_, _*_, _<_, _≤_}
-use mathlib.Core.Path.{_≡_, refl, sym, ap, ap₂, _∙_, subst}
+use mathlib.Core.Path.{_≡_, refl, sym, ap, ap₂, _∙_}
 use mathlib.Core.Bool.{Bool, true, false}
 use mathlib.Core.Option.{Option, none, some}
 use mathlib.Core.List.{List, [], _∷_, _++_, map}
 use native.Mathlib.Omega.{arith}
 use lib.Dec.{eqb}
-use lib.ListN.{length, getD, getElem?, take, drop, length-take, length-map, length-append}
-use lib.Seq.{getD-take, getD-drop, take-at}
+use lib.ListN.{length, getD, getElem?, take, drop}
+use lib.Seq.{getD-take, getD-drop}
 use Rattle.automata.specs.Lists.{if, and, all, All, guard, isSome, bind}
 use Rattle.automata.specs.Records.{writeAll}
 use Rattle.automata.specs.Automaton.{State, Arc, Automaton, initialOf, finalOf}
@@ -24,11 +24,11 @@ use Rattle.automata.proofs.MemoryLaws.{state-field, length-encodeStates}
 use Rattle.memory.specs.Region.{part}
 use Rattle.memory.specs.Endian.{le, toLe}
 use Rattle.memory.proofs.EndianLaws.{le-toLe}
-use Rattle.edges.specs.Marked.{bit, isMark, bits, bools, Bits}
-use Rattle.edges.proofs.MarkLaws.{bools-bits, bits-are}
+use Rattle.edges.specs.Marked.{bit, isMark, bits, bools}
 use Rattle.trimming.specs.Rows.{rowState, plainFrom, rowPlain, finalByte, Within, RowOf, RowsOf}
 use Rattle.trimming.specs.Result.{rowRecord, keptStates}
 use Rattle.trimming.specs.Model.{resultOf}
+use Rattle.trimming.proofs.RowLaws.{front-fits}
 
 -- ---- a row and its configuration
 
@@ -82,10 +82,6 @@ whole-record none none = refl
 whole-record none (some w) = refl
 whole-record (some v) none = refl
 whole-record (some v) (some w) = refl
-
--- a front of so many elements is there
-front-fits : (k : ℕ) (xs ys : List ℕ) → take k xs ≡ ys → length ys ≡ k → k ≤ length xs
-front-fits k xs ys e h = let l = length-take k xs in let m = ap length e in omega arith
 
 module _ (m : Memory) (s : Sound m) where
   -- the table in memory
