@@ -169,3 +169,9 @@ pub coaccessible-held : (at room : ℕ) (es : List (Edge (ℕ × Arc ℕ))) (w :
     → coaccessible (recordGraph (edgesAt at (length es) w)) fs ≡ coaccessible (edgeGraph es) fs
 coaccessible-held at room es w fs h l =
     ap (λ (rs : List EdgeRecord). coaccessible (recordGraph rs) fs) (edges-held at room es w h l) ∙ rounds-records es (length fs) fs
+
+-- edges between configurations below n are edges between configurations below k
+pub joined-wider : (n k : ℕ) (rs : List EdgeRecord) → n ≤ k → Joined n rs → Joined k rs
+unfolding Joined
+joined-wider n k [] h j = tt
+joined-wider n k (e ∷ rs) h j = ((omega (arith, j .0 .0), omega (arith, j .0 .1)), joined-wider n k rs h (j .1))

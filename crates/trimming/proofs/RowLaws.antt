@@ -6,7 +6,7 @@ use mathlib.Core.Logic.{_≢_}
 use mathlib.Core.List.{List, [], _∷_, _++_, map}
 use native.Mathlib.Omega.{arith}
 use lib.Dec.{eqb, eqb-refl}
-use lib.ListN.{length, getD, set, drop, length-map}
+use lib.ListN.{length, getD, set, take, drop, length-take, length-map}
 use Rattle.automata.specs.Lists.{and, All}
 use Rattle.automata.proofs.TestFacts.{eqb-false}
 use Rattle.memory.specs.Region.{part, splice, rows}
@@ -15,6 +15,10 @@ use Rattle.memory.proofs.Laws.{getD-part, part-part, one-store, splice-append, 
 use Rattle.memory.proofs.RowLaws.{length-rows}
 use Rattle.edges.specs.Marked.{bit, isMark}
 use Rattle.trimming.specs.Rows.{rowState, rowPlain, finalByte, Within}
+
+-- a front of so many elements is there
+pub front-fits : (k : ℕ) (xs ys : List ℕ) → take k xs ≡ ys → length ys ≡ k → k ≤ length xs
+front-fits k xs ys e h = let l = length-take k xs in let m = ap length e in omega arith
 
 -- the row at a place, by its bytes: no leftover, or one of four
 pub plain-all : (at : ℕ) (w : List ℕ) → getD w (at + 3) 0 ≡ 0 → getD w (at + 77) 0 ≡ 0 → getD w (at + 151) 0 ≡ 0

@@ -1,3 +1,5 @@
 -- What the contracts over the kept configurations cite.
 pub mod Ranks
 pub mod Rows
+pub mod Result
+pub mod Model
