@@ -18,7 +18,7 @@ use Rattle.memory.specs.declared.pair.Pair as memory
 use Rattle.memory.specs.declared.pair.PairList.{PairList}
 use Rattle.memory.specs.Pairs.{pairAs, pairsAs, noPair, Within, Named}
 use Rattle.pairs.specs.PairBytes.{pairsOf, pairAt}
-use Rattle.pairs.specs.Judgement.{Between, Sided, Moved, movedAt}
+use Rattle.pairs.specs.Judgement.{Between, Sided, Movable, Moved, movedAt}
 
 -- ---- the pairs of a list of bytes
 -- half as many as there are bytes
@@ -139,6 +139,10 @@ named-sided n ps s =
       each = λ h j. let b = s .each h j in record { first-from = b .first-from; first-to = b .first-to; second-from = b .second-from; second-to = b .second-to } }
 
 -- ---- the second tapes moved
+-- what a join's pairs are, where all tapes together fit a byte
+pub movable : (n m : ℕ) (ps : PairList) → Sided n m ps → n + m ≤ 255 → Movable n ps
+movable n m ps s w = record { used-fit = s .used-fit; each = λ h k. let t = s .each h k .second-to in omega (arith, t) }
+
 module _ (by : ℕ) (ps : PairList) (a b c d : memory.Pair) (u : ps .used ≤ 4) (ea : a ≡ movedAt by ps 0) (eb : b ≡ movedAt by ps 1) (ec : c ≡ movedAt by ps 2) (ed : d ≡ movedAt by ps 3) where
   moved-each : (h : ℕ) → h < ps .used
       → getD (a ∷ b ∷ c ∷ d ∷ []) h noPair ≡ record { first = getD (ps .pairs) h noPair .first; second = by + getD (ps .pairs) h noPair .second }
