@@ -6,7 +6,7 @@ use mathlib.Core.List.{List, [], _∷_, _++_, map}
 use native.Mathlib.Omega.{arith}
 use lib.Dec.{leb}
 use lib.ListN.{length, getD, take}
-use borrow.Author.Tests.{le-leb, lt-leb}
+use borrow.Author.Tests.{le-leb, lt-leb, leb-true}
 use Rattle.automata.specs.Limits.{maxPairs, maxDelay}
 use Rattle.automata.specs.Refusal as refusal
 use Rattle.automata.specs.Lists.{and, all}
@@ -14,7 +14,8 @@ use Rattle.automata.specs.Answer.{Answer, ok, refused, judge}
 use Rattle.automata.specs.TapePair.{Pair}
 use Rattle.automata.specs.Projection.{isTape}
 use Rattle.automata.specs.IntersectCall.{distinct, named}
-use Rattle.automata.specs.Join.{within}
+use Rattle.automata.specs.Join.{within, separate}
+use Rattle.automata.proofs.TestFacts.{and-true}
 use Rattle.memory.specs.declared.answer.Refusal.{Refusal}
 use Rattle.memory.specs.declared.answer.Refusal.the-variants.{Tape, Pairs, Limit}
 use Rattle.memory.specs.declared.answer.Judged.{Judged}
@@ -24,38 +25,9 @@ use Rattle.memory.specs.Answers.{judgedAs, refusalNumber}
 use Rattle.memory.specs.Pairs.{pairsAs}
 use Rattle.pairs.specs.declared.PairsJudged.{PairsJudged}
 use Rattle.pairs.specs.PairBytes.{pairsOf}
-use Rattle.pairs.specs.PairTests.{pairsAnswer, joinPairsAnswer}
-use Rattle.pairs.specs.Judgement.{Sided, ListJudged}
+use Rattle.pairs.specs.PairTests.{tests, pairsAnswer, joinPairsAnswer}
+use Rattle.pairs.specs.Judgement.{Sided, Settled, KeepJudged, JoinJudged}
 use Rattle.pairs.proofs.PairLaws.{pairs-count, sided, named-sided}
-
--- ---- the tests in their order, whatever they ask
-unfoldable pub tests : Bool → ℕ → Bool → ℕ → Answer (Unit {0})
-tests inside count once limit =
-    judge inside refusal.tape (judge (and (leb count maxPairs) once) refusal.pairs (judge (leb limit maxDelay) refusal.limit (ok tt)))
-
-module _ (inside : Bool) (count : ℕ) (once : Bool) (limit : ℕ) where
-  tests-tape : inside ≡ false → tests inside count once limit ≡ refused refusal.tape
-  unfolding tests
-  tests-tape e = rw e
-
-  module _ (i : inside ≡ true) where
-    tests-many : 4 < count → tests inside count once limit ≡ refused refusal.pairs
-    unfolding tests
-    tests-many h = rw (i, lt-leb count 4 h)
-
-    module _ (c : count ≤ 4) where
-      tests-twice : once ≡ false → tests inside count once limit ≡ refused refusal.pairs
-      unfolding tests
-      tests-twice e = rw (i, le-leb count 4 c, e)
-
-      module _ (o : once ≡ true) where
-        tests-limit : 64 < limit → tests inside count once limit ≡ refused refusal.limit
-        unfolding tests
-        tests-limit h = rw (i, le-leb count 4 c, o, lt-leb limit 64 h)
-
-        tests-fine : limit ≤ 64 → tests inside count once limit ≡ ok tt
-        unfolding tests
-        tests-fine h = rw (i, le-leb count 4 c, o, le-leb limit 64 h)
 
 -- ---- both tapes of each pair are among n: the same as every tape that is named
 all-append : (p : ℕ → Bool) (xs ys : List ℕ) → all p (xs ++ ys) ≡ and (all p xs) (all p ys)
@@ -80,59 +52,75 @@ within-named n (p ∷ ps) =
     go true false true d = refl
     go true false false d = refl
 
-pub keep-is : (tapes limit : ℕ) (ps : List Pair) → pairsAnswer tapes limit ps ≡ tests (within tapes tapes ps) (length ps) (distinct (named ps)) limit
-unfolding pairsAnswer tests
-keep-is tapes limit ps = rw (within-named tapes ps)
+-- ---- test 6, by the number of pairs
+module _ (bs : List ℕ) (once : Bool) where
+  pub many : 4 < length bs / 2 → and (leb (length (pairsOf bs)) maxPairs) once ≡ false
+  many h = let k = pairs-count bs in rw (lt-leb (length (pairsOf bs)) 4 (omega (arith, k)))
 
-pub join-is : (n m limit : ℕ) (ps : List Pair)
-    → joinPairsAnswer n m limit ps ≡ tests (within n m ps) (length ps) (and (distinct (map (λ p. p .first) ps)) (distinct (map (λ p. p .second) ps))) limit
-unfolding joinPairsAnswer tests
-join-is n m limit ps = refl
+  pub few : length bs / 2 ≤ 4 → and (leb (length (pairsOf bs)) maxPairs) once ≡ once
+  few h = let k = pairs-count bs in rw (le-leb (length (pairsOf bs)) 4 (omega (arith, k)))
 
--- ---- the judgement, by the first test that fails
+  pub once-few : (r : Bool) → r ≡ and (leb (length (pairsOf bs)) maxPairs) once → r ≡ true → length bs / 2 ≤ 4
+  once-few r e t =
+      let h = leb-true (length (pairsOf bs)) 4 (and-true (leb (length (pairsOf bs)) maxPairs) once (sym e ∙ t) .0) in
+      let k = pairs-count bs in
+      omega (arith, h, k)
+
+-- ---- the tests settled
 refused-not-fine : {A : Type 0} (j : Judged) (why : Refusal) → j ≡ Refused why → j ≡ Fine → A
 refused-not-fine j why e f = let z : _≡_ {A = ℕ} 0 1 = cc in absurd (omega arith)
 
-module _ (bs : List ℕ) (n m limit : ℕ) (once : Bool) (expected : Answer (Unit {0})) (Tapes : PairList → Type 0) (r : PairsJudged)
-    (is : expected ≡ tests (within n m (pairsOf bs)) (length (pairsOf bs)) once limit) where
-  abbrev inside : Bool
-  inside = within n m (pairsOf bs)
-
-  abbrev count : ℕ
-  count = length (pairsOf bs)
-
-  judged-refused : (why : Refusal) → r .judged ≡ Refused why → tests (within n m (pairsOf bs)) (length (pairsOf bs)) once limit ≡ refused (refusalNumber why)
-      → ListJudged bs limit expected Tapes r
-  judged-refused why e t =
+module _ (bs : List ℕ) (inside once : Bool) (limit : ℕ) (r : PairsJudged) where
+  settled-refused : (why : Refusal) → r .judged ≡ Refused why → tests inside once limit ≡ refused (refusalNumber why) → Settled bs inside once limit r
+  settled-refused why e t =
       record {
-        answer = ap judgedAs e ∙ sym (is ∙ t);
+        answer = ap judgedAs e ∙ sym t;
         pairs = λ f. refused-not-fine (r .judged) why e f;
-        tapes-named = λ f. refused-not-fine (r .judged) why e f;
+        used-fit = λ f. refused-not-fine (r .judged) why e f;
+        four = λ f. refused-not-fine (r .judged) why e f;
+        all-inside = λ f. refused-not-fine (r .judged) why e f;
         limit-fits = λ f. refused-not-fine (r .judged) why e f }
 
-  pub judged-tape : within n m (pairsOf bs) ≡ false → r .judged ≡ Refused Tape → ListJudged bs limit expected Tapes r
-  judged-tape i e = judged-refused Tape e (tests-tape inside count once limit i)
+  pub settled-tape : inside ≡ false → r .judged ≡ Refused Tape → Settled bs inside once limit r
+  settled-tape i e = settled-refused Tape e (rw i)
 
-  module _ (i : within n m (pairsOf bs) ≡ true) where
-    pub judged-many : 4 < length bs / 2 → r .judged ≡ Refused Pairs → ListJudged bs limit expected Tapes r
-    judged-many h e = let k = pairs-count bs in judged-refused Pairs e (tests-many inside count once limit i (omega (arith, k)))
+  pub settled-pairs : inside ≡ true → once ≡ false → r .judged ≡ Refused Pairs → Settled bs inside once limit r
+  settled-pairs i o e = settled-refused Pairs e (rw (i, o))
 
-    module _ (c : length bs / 2 ≤ 4) where
-      pub few : length (pairsOf bs) ≤ 4
-      few = let k = pairs-count bs in omega (arith, k)
+  pub settled-limit : inside ≡ true → once ≡ true → 64 < limit → r .judged ≡ Refused Limit → Settled bs inside once limit r
+  settled-limit i o l e = settled-refused Limit e (rw (i, o, lt-leb limit 64 l))
 
-      pub judged-twice : once ≡ false → r .judged ≡ Refused Pairs → ListJudged bs limit expected Tapes r
-      judged-twice o e = judged-refused Pairs e (tests-twice inside count once limit i few o)
+  pub settled-fine : inside ≡ true → once ≡ true → limit ≤ 64 → r .judged ≡ Fine → pairsAs (r .pairs) ≡ pairsOf bs → r .pairs .used ≤ 4 → length (r .pairs .pairs) ≡ 4
+      → Settled bs inside once limit r
+  settled-fine i o l e p u f =
+      record {
+        answer = ap judgedAs e ∙ sym (rw (i, o, le-leb limit 64 l) refl);
+        pairs = λ g. p;
+        used-fit = λ g. u;
+        four = λ g. f;
+        all-inside = λ g. i;
+        limit-fits = λ g. l }
 
-      module _ (o : once ≡ true) where
-        pub judged-limit : 64 < limit → r .judged ≡ Refused Limit → ListJudged bs limit expected Tapes r
-        judged-limit h e = judged-refused Limit e (tests-limit inside count once limit i few o h)
+-- ---- the two judgements
+module _ (bs : List ℕ) (limit : ℕ) (inside once : Bool) (r : PairsJudged) (s : Settled bs inside once limit r) where
+  tapes-sided : (n m : ℕ) → inside ≡ within n m (pairsOf bs) → r .judged ≡ Fine → Sided n m (r .pairs)
+  tapes-sided n m i f = sided n m (r .pairs) (s .four f) (s .used-fit f) (ap (within n m) (s .pairs f) ∙ sym i ∙ s .all-inside f)
 
-        pub judged-fine : limit ≤ 64 → r .judged ≡ Fine → pairsAs (r .pairs) ≡ pairsOf bs → r .pairs .used ≡ length bs / 2 → length (r .pairs .pairs) ≡ 4
-            → (Sided n m (r .pairs) → Tapes (r .pairs)) → ListJudged bs limit expected Tapes r
-        judged-fine h e p u l t =
-            record {
-              answer = ap judgedAs e ∙ sym (is ∙ tests-fine inside count once limit i few o h);
-              pairs = λ f. p;
-              tapes-named = λ f. t (sided n m (r .pairs) l (omega arith) (ap (within n m) p ∙ i));
-              limit-fits = λ f. h }
+  pub keep-judged : (tapes : ℕ) → inside ≡ within tapes tapes (pairsOf bs) → once ≡ and (leb (length (pairsOf bs)) maxPairs) (distinct (named (pairsOf bs)))
+      → KeepJudged bs tapes limit r
+  unfolding pairsAnswer
+  keep-judged tapes i o =
+      record {
+        answer = s .answer ∙ rw (i, o, within-named tapes (pairsOf bs)) refl;
+        pairs = s .pairs;
+        tapes-named = λ f. named-sided tapes (r .pairs) (tapes-sided tapes tapes i f);
+        limit-fits = s .limit-fits }
+
+  pub join-judged : (n m : ℕ) → inside ≡ within n m (pairsOf bs) → once ≡ separate (pairsOf bs) → JoinJudged bs n m limit r
+  unfolding joinPairsAnswer
+  join-judged n m i o =
+      record {
+        answer = s .answer ∙ rw (i, o) refl;
+        pairs = s .pairs;
+        tapes-named = λ f. tapes-sided n m i f;
+        limit-fits = s .limit-fits }

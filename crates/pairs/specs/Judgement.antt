@@ -1,8 +1,9 @@
 -- What the two judgements of a lent list promise, and the pairs of a join by value.
 use Prim.Native.Nat.{ℕ, _+_, _≤_, _<_}
 use mathlib.Core.Path.{_≡_}
+use mathlib.Core.Bool.{Bool, true}
 use mathlib.Core.List.{List}
-use lib.ListN.{getD}
+use lib.ListN.{length, getD}
 use lib.Dec.{ltb}
 use Rattle.automata.specs.Limits.{maxDelay}
 use Rattle.automata.specs.Lists.{if}
@@ -15,7 +16,7 @@ use Rattle.memory.specs.Answers.{judgedAs}
 use Rattle.memory.specs.Pairs.{pairsAs, noPair, Named}
 use Rattle.pairs.specs.declared.PairsJudged.{PairsJudged}
 use Rattle.pairs.specs.PairBytes.{pairsOf}
-use Rattle.pairs.specs.PairTests.{pairsAnswer, joinPairsAnswer}
+use Rattle.pairs.specs.PairTests.{tests, pairsAnswer, joinPairsAnswer}
 
 -- the first tape of a pair is among n, the second among m, counted from 1
 pub record Between (n m : ℕ) (p : Pair) : Type 0 where
@@ -28,6 +29,15 @@ pub record Between (n m : ℕ) (p : Pair) : Type 0 where
 pub record Sided (n m : ℕ) (ps : PairList) : Type 0 where
   pub used-fit : ps .used ≤ 4
   pub each : (h : ℕ) → h < ps .used → Between n m (getD (ps .pairs) h noPair)
+
+-- The tests settled in their order, and where none fails the pairs by value.
+pub record Settled (bytes : List ℕ) (inside once : Bool) (limit : ℕ) (r : PairsJudged) : Type 0 where
+  pub answer : judgedAs (r .judged) ≡ tests inside once limit
+  pub pairs : r .judged ≡ Fine → pairsAs (r .pairs) ≡ pairsOf bytes
+  pub used-fit : r .judged ≡ Fine → r .pairs .used ≤ 4
+  pub four : r .judged ≡ Fine → length (r .pairs .pairs) ≡ 4
+  pub all-inside : r .judged ≡ Fine → inside ≡ true
+  pub limit-fits : r .judged ≡ Fine → limit ≤ maxDelay
 
 -- A list of pairs judged: the answer that is called for, and where there is no refusal the pairs by value, what holds of their tapes, and the limit.
 pub record ListJudged (bytes : List ℕ) (limit : ℕ) (expected : Answer (Unit {0})) (Tapes : PairList → Type 0) (r : PairsJudged) : Type 0 where

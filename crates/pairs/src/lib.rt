@@ -5,18 +5,20 @@ use memory::bytes::copy_into;
 use memory::pair::Pair;
 use memory::pair::PairList;
 ghost use mathlib.Core.Path.{_≡_};
+ghost use mathlib.Core.Bool.{true};
 ghost use mathlib.Core.List.{_++_, map};
 ghost use Prim.Native.Nat.{_+_, _*_, _/_, _≤_, _<_};
-ghost use lib.Dec.{eqb};
+ghost use lib.Dec.{eqb, leb};
 ghost use lib.ListN.{length, getD, take};
+ghost use Rattle.automata.specs.Limits.{maxPairs};
 ghost use Rattle.automata.specs.Lists.{and, any};
 ghost use Rattle.automata.specs.IntersectCall.{distinct, named};
 ghost use Rattle.automata.specs.Projection.{isTape};
-ghost use Rattle.automata.specs.Join.{within};
+ghost use Rattle.automata.specs.Join.{within, separate};
 ghost use Rattle.memory.specs.declared.answer.Judged.the-variants as judged;
 ghost use Rattle.memory.specs.Pairs.{pairsAs, noPair};
 ghost use Rattle.pairs.specs.PairBytes.{pairsOf, pairAt};
-ghost use Rattle.pairs.specs.Judgement.{KeepJudged, JoinJudged, Movable, Moved, movedAt};
+ghost use Rattle.pairs.specs.Judgement.{Settled, KeepJudged, JoinJudged, Movable, Moved, movedAt};
 
 // Whether a number stands in a list.
 fn occurs(numbers: &[u8], k: u8) -> bool
@@ -161,6 +163,30 @@ fn sides_once(pairs: PairList) -> bool
     all_distinct(&seconds[..used])
 }
 
+// Test 6 of an auto-intersection: at most four pairs, and no tape named twice.
+fn keep_once(bytes: &[u8]) -> bool
+    ensures { λ r. ⌜ r ≡ and (leb (length (pairsOf (now (bytes .entry)))) maxPairs) (distinct (named (pairsOf (now (bytes .entry))))) ⌝ }
+{
+    let count = bytes.len() / 2;
+    if 4 < count {
+        return false;
+    }
+    let pairs = read_pairs(bytes);
+    named_once(pairs)
+}
+
+// Test 6 of a join: at most four pairs, and no tape twice on one side.
+fn join_once(bytes: &[u8]) -> bool
+    ensures { λ r. ⌜ r ≡ separate (pairsOf (now (bytes .entry))) ⌝ }
+{
+    let number = bytes.len() / 2;
+    if 4 < number {
+        return false;
+    }
+    let pairs = read_pairs(bytes);
+    sides_once(pairs)
+}
+
 // A judgement of a list of pairs, and the pairs by value where there is no refusal.
 pub struct PairsJudged {
     pub judged: Judged,
@@ -185,50 +211,43 @@ fn refused(why: Refusal) -> PairsJudged
     }
 }
 
-// The pairs of an auto-intersection of a table: 5 over the whole list, then 6, then 7.
-pub fn judge_pairs(bytes: &[u8], tapes: usize, limit: usize) -> PairsJudged
-    ensures { λ r. ⌜ KeepJudged (now (bytes .entry)) tapes limit r ⌝ }
+// The tests in their order: 5 where a tape is not there, 6 where a tape stands twice or there are too many pairs, 7 by the limit.
+fn settled(bytes: &[u8], inside: bool, once: bool, limit: usize) -> PairsJudged
+    requires { ⌜ (once ≡ true → length (now bytes) / 2 ≤ 4) ⌝ }
+    ensures { λ r. ⌜ Settled (now (bytes .entry)) inside once limit r ⌝ }
 {
-    if !all_within(bytes, tapes, tapes) {
+    if !inside {
         return refused(Refusal::Tape);
     }
-    if 4 < bytes.len() / 2 {
-        return refused(Refusal::Pairs);
-    }
-    let pairs = read_pairs(bytes);
-    if !named_once(pairs) {
+    if !once {
         return refused(Refusal::Pairs);
     }
     if 64 < limit {
         return refused(Refusal::Limit);
     }
+    let pairs = read_pairs(bytes);
     PairsJudged {
         judged: Judged::Fine,
         pairs,
     }
 }
 
+// The pairs of an auto-intersection of a table: 5 over the whole list, then 6, then 7.
+pub fn judge_pairs(bytes: &[u8], tapes: usize, limit: usize) -> PairsJudged
+    ensures { λ r. ⌜ KeepJudged (now (bytes .entry)) tapes limit r ⌝ }
+{
+    let inside = all_within(bytes, tapes, tapes);
+    let once = keep_once(bytes);
+    settled(bytes, inside, once, limit)
+}
+
 // The pairs of a join of tables with n and m tapes: 5 over the whole list, then 6, then 7.
 pub fn judge_join_pairs(bytes: &[u8], n: usize, m: usize, limit: usize) -> PairsJudged
     ensures { λ r. ⌜ JoinJudged (now (bytes .entry)) n m limit r ⌝ }
 {
-    if !all_within(bytes, n, m) {
-        return refused(Refusal::Tape);
-    }
-    if 4 < bytes.len() / 2 {
-        return refused(Refusal::Pairs);
-    }
-    let pairs = read_pairs(bytes);
-    if !sides_once(pairs) {
-        return refused(Refusal::Pairs);
-    }
-    if 64 < limit {
-        return refused(Refusal::Limit);
-    }
-    PairsJudged {
-        judged: Judged::Fine,
-        pairs,
-    }
+    let inside = all_within(bytes, n, m);
+    let once = join_once(bytes);
+    settled(bytes, inside, once, limit)
 }
 
 // One of four pairs with its second tape moved, if it is used.

@@ -1,73 +1,26 @@
 -- `pairs::judge_join_pairs` meets its contract. Assumes nothing.
-use mathlib.Core.Path.{refl, sym, ap, _∙_}
-use mathlib.Core.List.{List, map}
-use denote.Ref.{now}
-use Rattle.automata.specs.TapePair.{Pair}
-use Rattle.automata.specs.Lists.{and}
-use Rattle.automata.specs.IntersectCall.{distinct}
-use Rattle.pairs.specs.PairBytes.{pairsOf}
-use Rattle.pairs.proofs.TestLaws.{join-is, judged-tape, judged-many, judged-twice, judged-limit, judged-fine}
-use Rattle.pairs.proofs.ListLaws.{length-made}
-use borrow.Author.Tests.{not-true, not-false}
+use Rattle.pairs.proofs.TestLaws.{once-few, join-judged}
 use borrow.Author.Needs.{needs}
 use Rattle.pairs.proofs.judge_join_pairs.Statement.{statement}
 use Rattle.pairs.proofs.judge_join_pairs.Tie as tie
 use Rattle.pairs.proofs.judge_join_pairs.Reads as reads
 use Rattle.pairs.proofs.judge_join_pairs.Lts as lts
 use Rattle.pairs.proofs.all_within.Reads as all-within-reads
-use Rattle.pairs.proofs.read_pairs.Reads as read-pairs-reads
-use Rattle.pairs.proofs.refused.Reads as refused-reads
-use Rattle.pairs.proofs.sides_once.Reads as sides-once-reads
+use Rattle.pairs.proofs.join_once.Reads as join-once-reads
+use Rattle.pairs.proofs.settled.Reads as settled-reads
 
 all-within-requires : tie.Need-all-within-requires
 all-within-requires c κs = search needs
 
-refused-requires : tie.Need-refused-requires
-refused-requires c κs = search needs
+join-once-requires : tie.Need-join-once-requires
+join-once-requires c κs = search needs
+
+settled-requires : tie.Need-settled-requires
+settled-requires c κs = once-few _ _ _ (c .join-once .ensures)
 
 returns : tie.Need-returns
-returns c = let s = c .before .before .before .before in judged-tape _ _ _ _ _ _ _ _ (join-is (s .args .n) (s .args .m) (s .args .limit) (pairsOf (now (s .args .bytes)))) (sym (c .before .before .all-within .ensures) ∙ not-true _ (c .before .if1 .taken)) (c .refused .ensures)
-
-refused-requires-2 : tie.Need-refused-requires-2
-refused-requires-2 c κs = search needs
-
-returns-2 : tie.Need-returns-2
-returns-2 c = let s = c .before .before .before .before .before in judged-many _ _ _ _ _ _ _ _ (join-is (s .args .n) (s .args .m) (s .args .limit) (pairsOf (now (s .args .bytes)))) (sym (c .before .before .before .all-within .ensures) ∙ not-false _ (c .before .before .if1 .left)) (c .before .if2 .taken) (c .refused2 .ensures)
-
-read-pairs-requires : tie.Need-read-pairs-requires
-read-pairs-requires c κs = search needs
-
-sides-once-requires : tie.Need-sides-once-requires
-sides-once-requires c κs = search needs
-
-refused-requires-3 : tie.Need-refused-requires-3
-refused-requires-3 c κs = search needs
-
-returns-3 : tie.Need-returns-3
-returns-3 c = let s = c .before .before .before .before .before .before .before .before in judged-twice _ _ _ _ _ _ _ _ (join-is (s .args .n) (s .args .m) (s .args .limit) (pairsOf (now (s .args .bytes)))) (sym (c .before .before .before .before .before .before .all-within .ensures) ∙ not-false _ (c .before .before .before .before .before .if1 .left)) (c .before .before .before .before .if2 .left) (sym (c .before .before .sides-once .ensures ∙ ap (λ (ps : List Pair). and (distinct (map (λ (p : Pair). p .first) ps)) (distinct (map (λ (p : Pair). p .second) ps))) (c .before .before .before .read-pairs .ensures .0)) ∙ not-true _ (c .before .if3 .taken)) (c .refused3 .ensures)
-
-refused-requires-4 : tie.Need-refused-requires-4
-refused-requires-4 c κs = search needs
-
-returns-4 : tie.Need-returns-4
-returns-4 c = let s = c .before .before .before .before .before .before .before .before .before in judged-limit _ _ _ _ _ _ _ _ (join-is (s .args .n) (s .args .m) (s .args .limit) (pairsOf (now (s .args .bytes)))) (sym (c .before .before .before .before .before .before .before .all-within .ensures) ∙ not-false _ (c .before .before .before .before .before .before .if1 .left)) (c .before .before .before .before .before .if2 .left) (sym (c .before .before .before .sides-once .ensures ∙ ap (λ (ps : List Pair). and (distinct (map (λ (p : Pair). p .first) ps)) (distinct (map (λ (p : Pair). p .second) ps))) (c .before .before .before .before .read-pairs .ensures .0)) ∙ not-false _ (c .before .before .if3 .left)) (c .before .if4 .taken) (c .refused4 .ensures)
-
-returns-5 : tie.Need-returns-5
-returns-5 c = let s = c .before .before .before .before .before .before .before .before in judged-fine _ _ _ _ _ _ _ _ (join-is (s .args .n) (s .args .m) (s .args .limit) (pairsOf (now (s .args .bytes)))) (sym (c .before .before .before .before .before .before .all-within .ensures) ∙ not-false _ (c .before .before .before .before .before .if1 .left)) (c .before .before .before .before .if2 .left) (sym (c .before .before .sides-once .ensures ∙ ap (λ (ps : List Pair). and (distinct (map (λ (p : Pair). p .first) ps)) (distinct (map (λ (p : Pair). p .second) ps))) (c .before .before .before .read-pairs .ensures .0)) ∙ not-false _ (c .before .if3 .left)) (c .if4 .left) refl (c .before .before .before .read-pairs .ensures .0) (c .before .before .before .read-pairs .ensures .1) (search (needs, length-made)) (λ t. t)
+returns c = let s = c .before .before .before .before in join-judged _ _ _ _ _ (c .settled .ensures) (s .args .n) (s .args .m) (c .before .before .all-within .ensures) (c .before .join-once .ensures)
 
 pub judge-join-pairs-spec : {M : Type 1} → statement M
 judge-join-pairs-spec =
-    tie.close
-    (tie.spec
-    all-within-requires
-    refused-requires
-    returns
-    refused-requires-2
-    returns-2
-    read-pairs-requires
-    sides-once-requires
-    refused-requires-3
-    returns-3
-    refused-requires-4
-    returns-4
-    returns-5)
+    tie.close (tie.spec all-within-requires join-once-requires settled-requires returns)
