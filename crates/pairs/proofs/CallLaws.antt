@@ -3,7 +3,7 @@
 use Prim.Native.Nat.{ℕ, _+_, _≤_}
 use mathlib.Core.Path.{_≡_, refl, sym, ap, _∙_}
 use mathlib.Core.Bool.{Bool, true, false}
-use mathlib.Core.List.{List, map}
+use mathlib.Core.List.{List}
 use lib.Dec.{leb}
 use lib.ListN.{length}
 use borrow.Author.Tests.{le-leb}
@@ -62,12 +62,12 @@ module _ (S : OrderedSum) (fits : S .W → Bool) (lent : Lent) (ps : List Pair) 
   unfolding join joinPairsAnswer
   join-then =
       rw (← e, ← f)
-      (rw (ap₂-sum ∙ le-leb (n + m) maxTapes w)
+      (rw (same-width ∙ le-leb (n + m) maxTapes w)
       (three-then (within (A .tapes) (B .tapes) ps) (separate ps) (leb (lent .delay) maxDelay) refusal.tape refusal.pairs refusal.limit
       (judge (lent .enough) refusal.space (joinSteps S fits lent ps A B))))
     where
-      ap₂-sum : leb (A .tapes + B .tapes) maxTapes ≡ leb (n + m) maxTapes
-      ap₂-sum = rw (e, f)
+      same-width : leb (A .tapes + B .tapes) maxTapes ≡ leb (n + m) maxTapes
+      same-width = rw (e, f)
 
   pub join-refused : (k : ℕ) → joinPairsAnswer n m (lent .delay) ps ≡ refused k → join S fits lent ps A B ≡ refused k
   join-refused k r = join-then ∙ rw r

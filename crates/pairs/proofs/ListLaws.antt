@@ -1,7 +1,7 @@
 -- Laws of lists of numbers in a loop: what the rest of a list says of the whole.
 use Prim.Native.Nat.{ℕ, zero, suc, _+_, _-_, _≤_, _<_}
-use mathlib.Core.Path.{_≡_, refl, sym, ap, _∙_}
-use mathlib.Core.Bool.{Bool, true, false, not}
+use mathlib.Core.Path.{_≡_, sym, ap, _∙_}
+use mathlib.Core.Bool.{Bool, true, false}
 use mathlib.Core.List.{List, [], _∷_, _++_, map}
 use native.Mathlib.Omega.{arith}
 use native.Mathlib.Numerals.{add-one}
@@ -9,7 +9,7 @@ use lib.Dec.{eqb}
 use lib.ListN.{length, getD, take, drop, replicate, drop-of-length-le, length-drop, length-replicate}
 use lib.Seq.{drop-cons, take-all}
 use borrow.Author.Tests.{eq-eqb, ne-eqb}
-use Rattle.automata.specs.Lists.{and, any, all}
+use Rattle.automata.specs.Lists.{and, any}
 use Rattle.automata.specs.IntersectCall.{distinct}
 use Rattle.memory.specs.Region.{splice}
 use Rattle.memory.proofs.Laws.{take-splice-in, length-splice, splice-front}

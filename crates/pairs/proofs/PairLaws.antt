@@ -1,14 +1,12 @@
 -- Laws of lists of pairs: in bytes, by value, and in a loop over them.
-use Prim.Native.Nat.{ℕ, zero, suc, _+_, _-_, _*_, _/_, _≤_, _<_}
+use Prim.Native.Nat.{ℕ, zero, suc, _+_, _-_, _/_, _≤_, _<_}
 use mathlib.Core.Path.{_≡_, refl, sym, ap, ap₂, _∙_}
-use mathlib.Core.Bool.{Bool, true, false}
-use mathlib.Core.List.{List, [], _∷_, _++_, map}
+use mathlib.Core.Bool.{true, false}
+use mathlib.Core.List.{List, [], _∷_, map}
 use native.Mathlib.Omega.{arith}
-use lib.Dec.{leb}
-use lib.ListN.{length, getD, take, drop, length-drop}
-use lib.Seq.{drop-cons}
+use lib.ListN.{length, getD, take, drop}
 use borrow.Author.Tests.{leb-true, lt-ltb}
-use Rattle.automata.specs.Lists.{and, all}
+use Rattle.automata.specs.Lists.{and}
 use Rattle.automata.specs.TapePair.{Pair}
 use Rattle.automata.specs.Projection.{isTape}
 use Rattle.automata.specs.Join.{within}
@@ -136,7 +134,8 @@ pub named-sided : (n : ℕ) (ps : PairList) → Sided n n ps → Named n ps
 named-sided n ps s =
     record {
       used-fit = s .used-fit;
-      each = λ h j. let b = s .each h j in record { first-from = b .first-from; first-to = b .first-to; second-from = b .second-from; second-to = b .second-to } }
+      each = λ h j. let b = s .each h j in record { first-from = b .first-from; first-to = b .first-to; second-from = b .second-from; second-to = b .second-to };
+    }
 
 -- ---- the second tapes moved
 -- what a join's pairs are, where all tapes together fit a byte
@@ -164,7 +163,8 @@ module _ (by : ℕ) (ps : PairList) (a b c d : memory.Pair) (u : ps .used ≤ 4)
   moved-is l =
       record {
         pairs = moved-front (ps .used) (a ∷ b ∷ c ∷ d ∷ []) (ps .pairs) u (omega arith) (λ h k. moved-each h k);
-        tapes-named = λ m s. record { used-fit = u; each = λ h k. moved-within m h s k } }
+        tapes-named = λ m s. record { used-fit = u; each = λ h k. moved-within m h s k };
+      }
     where
       -- so many of two lists, where each element of the first is that of the second moved
       moved-front : (n : ℕ) (xs ys : List memory.Pair) → n ≤ length xs → n ≤ length ys

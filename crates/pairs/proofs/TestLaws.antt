@@ -5,12 +5,12 @@ use mathlib.Core.Bool.{Bool, true, false}
 use mathlib.Core.List.{List, [], _∷_, _++_, map}
 use native.Mathlib.Omega.{arith}
 use lib.Dec.{leb}
-use lib.ListN.{length, getD, take}
+use lib.ListN.{length}
 use borrow.Author.Tests.{le-leb, lt-leb, leb-true}
-use Rattle.automata.specs.Limits.{maxPairs, maxDelay}
+use Rattle.automata.specs.Limits.{maxPairs}
 use Rattle.automata.specs.Refusal as refusal
 use Rattle.automata.specs.Lists.{and, all}
-use Rattle.automata.specs.Answer.{Answer, ok, refused, judge}
+use Rattle.automata.specs.Answer.{refused}
 use Rattle.automata.specs.TapePair.{Pair}
 use Rattle.automata.specs.Projection.{isTape}
 use Rattle.automata.specs.IntersectCall.{distinct, named}
@@ -20,7 +20,6 @@ use Rattle.memory.specs.declared.answer.Refusal.{Refusal}
 use Rattle.memory.specs.declared.answer.Refusal.the-variants.{Tape, Pairs, Limit}
 use Rattle.memory.specs.declared.answer.Judged.{Judged}
 use Rattle.memory.specs.declared.answer.Judged.the-variants.{Fine, Refused}
-use Rattle.memory.specs.declared.pair.PairList.{PairList}
 use Rattle.memory.specs.Answers.{judgedAs, refusalNumber}
 use Rattle.memory.specs.Pairs.{pairsAs}
 use Rattle.pairs.specs.declared.PairsJudged.{PairsJudged}
@@ -79,7 +78,8 @@ module _ (bs : List ℕ) (inside once : Bool) (limit : ℕ) (r : PairsJudged) wh
         used-fit = λ f. refused-not-fine (r .judged) why e f;
         four = λ f. refused-not-fine (r .judged) why e f;
         all-inside = λ f. refused-not-fine (r .judged) why e f;
-        limit-fits = λ f. refused-not-fine (r .judged) why e f }
+        limit-fits = λ f. refused-not-fine (r .judged) why e f;
+      }
 
   pub settled-tape : inside ≡ false → r .judged ≡ Refused Tape → Settled bs inside once limit r
   settled-tape i e = settled-refused Tape e (rw i)
@@ -99,7 +99,8 @@ module _ (bs : List ℕ) (inside once : Bool) (limit : ℕ) (r : PairsJudged) wh
         used-fit = λ g. u;
         four = λ g. f;
         all-inside = λ g. i;
-        limit-fits = λ g. l }
+        limit-fits = λ g. l;
+      }
 
 -- ---- the two judgements
 module _ (bs : List ℕ) (limit : ℕ) (inside once : Bool) (r : PairsJudged) (s : Settled bs inside once limit r) where
@@ -114,7 +115,8 @@ module _ (bs : List ℕ) (limit : ℕ) (inside once : Bool) (r : PairsJudged) (s
         answer = s .answer ∙ rw (i, o, within-named tapes (pairsOf bs)) refl;
         pairs = s .pairs;
         tapes-named = λ f. named-sided tapes (r .pairs) (tapes-sided tapes tapes i f);
-        limit-fits = s .limit-fits }
+        limit-fits = s .limit-fits;
+      }
 
   pub join-judged : (n m : ℕ) → inside ≡ within n m (pairsOf bs) → once ≡ separate (pairsOf bs) → JoinJudged bs n m limit r
   unfolding joinPairsAnswer
@@ -123,4 +125,5 @@ module _ (bs : List ℕ) (limit : ℕ) (inside once : Bool) (r : PairsJudged) (s
         answer = s .answer ∙ rw (i, o) refl;
         pairs = s .pairs;
         tapes-named = λ f. tapes-sided n m i f;
-        limit-fits = s .limit-fits }
+        limit-fits = s .limit-fits;
+      }

@@ -1,7 +1,7 @@
 // Lists of pairs, judged for an auto-intersection and for a join: each line is an answer with the pairs by value, for a join also as they are
 // named in the product. Beside each list stands the answer that document 01 calls for.
-use memory::answer::refusal_number;
 use memory::answer::Judged;
+use memory::answer::refusal_number;
 use memory::pair::PairList;
 use pairs::judge_join_pairs;
 use pairs::judge_pairs;

@@ -1,5 +1,4 @@
 -- `pairs::sides_once` meets its contract. Assumes nothing.
-use native.Mathlib.Omega.{arith}
 use Rattle.memory.proofs.Laws.{prefix-length}
 use Rattle.pairs.proofs.ListLaws.{first-twice, second-distinct}
 use borrow.Author.Tests.{not-true, not-false}

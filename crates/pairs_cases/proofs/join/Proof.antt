@@ -1,3 +1,5 @@
+-- `pairs_cases::join` meets its contract. Assumes nothing.
+use Rattle.pairs.proofs.PairLaws.{movable}
 use borrow.Author.Needs.{needs}
 use Rattle.pairs_cases.proofs.join.Statement.{statement}
 use Rattle.pairs_cases.proofs.join.Tie as tie
@@ -10,71 +12,54 @@ use Rattle.pairs.proofs.moved_pairs.Reads as moved-pairs-reads
 use Rattle.pairs_cases.proofs.digit.Reads as digit-reads
 use Rattle.pairs_cases.proofs.show_pairs.Reads as show-pairs-reads
 
--- src/main.rt:67:9
 judge-join-pairs-requires : tie.Need-judge-join-pairs-requires
 judge-join-pairs-requires c κs = search needs
 
--- src/main.rt:71:30
 enum-told : tie.Need-enum-told
 enum-told c = search needs
 
--- src/main.rt:71:30
 slice-aggregate-write-all : tie.Need-slice-aggregate-write-all
 slice-aggregate-write-all c = search needs
 
--- src/main.rt:71:13
 write-all-requires : tie.Need-write-all-requires
 write-all-requires c κs = search needs
 
--- src/main.rt:72:13
 show-pairs-requires : tie.Need-show-pairs-requires
 show-pairs-requires c κs = search needs
 
--- src/main.rt:73:30
 slice-aggregate-write-all-2 : tie.Need-slice-aggregate-write-all-2
 slice-aggregate-write-all-2 c = search needs
 
--- src/main.rt:73:13
 write-all-requires-2 : tie.Need-write-all-requires-2
 write-all-requires-2 c κs = search needs
 
--- src/main.rt:74:24
 moved-pairs-requires : tie.Need-moved-pairs-requires
-moved-pairs-requires c κs = ?
+moved-pairs-requires c κs = let s = c .before .before .before .before .before .before .before .before .before in movable (s .args .n) (s .args .m) _ (c .before .before .before .before .before .before .before .judge-join-pairs .ensures .tapes-named (c .before .before .before .before .before .enum-told .given .1)) (s .pre)
 
--- src/main.rt:74:13
 show-pairs-requires-2 : tie.Need-show-pairs-requires-2
 show-pairs-requires-2 c κs = search needs
 
--- src/main.rt:76:25
 enum-known-answer : tie.Need-enum-known-answer
 enum-known-answer c = search needs
 
--- src/main.rt:77:30
 slice-aggregate-write-all-3 : tie.Need-slice-aggregate-write-all-3
 slice-aggregate-write-all-3 c = search needs
 
--- src/main.rt:77:13
 write-all-requires-3 : tie.Need-write-all-requires-3
 write-all-requires-3 c κs = search needs
 
--- src/main.rt:78:19
 refusal-number-requires : tie.Need-refusal-number-requires
 refusal-number-requires c κs = search needs
 
--- src/main.rt:78:13
 digit-requires : tie.Need-digit-requires
 digit-requires c κs = search needs
 
--- src/main.rt:81:22
 slice-aggregate-write-all-4 : tie.Need-slice-aggregate-write-all-4
 slice-aggregate-write-all-4 c = search needs
 
--- src/main.rt:81:5
 write-all-requires-4 : tie.Need-write-all-requires-4
 write-all-requires-4 c κs = search needs
 
--- src/main.rt:64:1
 returns : tie.Need-returns
 returns c = search needs
 
