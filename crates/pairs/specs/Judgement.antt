@@ -1,0 +1,71 @@
+-- What the two judgements of a lent list promise, and the pairs of a join by value.
+use Prim.Native.Nat.{ℕ, _+_, _≤_, _<_}
+use mathlib.Core.Path.{_≡_}
+use mathlib.Core.Bool.{Bool, true}
+use mathlib.Core.List.{List}
+use lib.ListN.{length, getD}
+use lib.Dec.{ltb}
+use Rattle.automata.specs.Limits.{maxDelay}
+use Rattle.automata.specs.Lists.{if}
+use Rattle.automata.specs.Answer.{Answer}
+use Rattle.automata.specs.Tapes.{moved}
+use Rattle.memory.specs.declared.answer.Judged.the-variants.{Fine}
+use Rattle.memory.specs.declared.pair.Pair.{Pair}
+use Rattle.memory.specs.declared.pair.PairList.{PairList}
+use Rattle.memory.specs.Answers.{judgedAs}
+use Rattle.memory.specs.Pairs.{pairsAs, noPair, Named}
+use Rattle.pairs.specs.declared.PairsJudged.{PairsJudged}
+use Rattle.pairs.specs.PairBytes.{pairsOf}
+use Rattle.pairs.specs.PairTests.{tests, pairsAnswer, joinPairsAnswer}
+
+-- the first tape of a pair is among n, the second among m, counted from 1
+pub record Between (n m : ℕ) (p : Pair) : Type 0 where
+  pub first-from : 1 ≤ p .first
+  pub first-to : p .first ≤ n
+  pub second-from : 1 ≤ p .second
+  pub second-to : p .second ≤ m
+
+-- at most four pairs are used, and each names a tape of a first table with n and one of a second table with m
+pub record Sided (n m : ℕ) (ps : PairList) : Type 0 where
+  pub used-fit : ps .used ≤ 4
+  pub each : (h : ℕ) → h < ps .used → Between n m (getD (ps .pairs) h noPair)
+
+-- The tests settled in their order, and where none fails the pairs by value.
+pub record Settled (bytes : List ℕ) (inside once : Bool) (limit : ℕ) (r : PairsJudged) : Type 0 where
+  pub answer : judgedAs (r .judged) ≡ tests inside once limit
+  pub pairs : r .judged ≡ Fine → pairsAs (r .pairs) ≡ pairsOf bytes
+  pub used-fit : r .judged ≡ Fine → r .pairs .used ≤ 4
+  pub four : r .judged ≡ Fine → length (r .pairs .pairs) ≡ 4
+  pub all-inside : r .judged ≡ Fine → inside ≡ true
+  pub limit-fits : r .judged ≡ Fine → limit ≤ maxDelay
+
+-- A list of pairs judged: the answer that is called for, and where there is no refusal the pairs by value, what holds of their tapes, and the limit.
+pub record ListJudged (bytes : List ℕ) (limit : ℕ) (expected : Answer (Unit {0})) (Tapes : PairList → Type 0) (r : PairsJudged) : Type 0 where
+  pub answer : judgedAs (r .judged) ≡ expected
+  pub pairs : r .judged ≡ Fine → pairsAs (r .pairs) ≡ pairsOf bytes
+  pub tapes-named : r .judged ≡ Fine → Tapes (r .pairs)
+  pub limit-fits : r .judged ≡ Fine → limit ≤ maxDelay
+
+-- for an auto-intersection of a table with so many tapes
+abbrev pub KeepJudged : List ℕ → ℕ → ℕ → PairsJudged → Type 0
+KeepJudged bytes tapes limit r = ListJudged bytes limit (pairsAnswer tapes limit (pairsOf bytes)) (Named tapes) r
+
+-- for a join of tables with n and m tapes
+abbrev pub JoinJudged : List ℕ → ℕ → ℕ → ℕ → PairsJudged → Type 0
+JoinJudged bytes n m limit r = ListJudged bytes limit (joinPairsAnswer n m limit (pairsOf bytes)) (Sided n m) r
+
+-- at most four pairs are used, and each second tape fits a byte once it is moved
+pub record Movable (by : ℕ) (ps : PairList) : Type 0 where
+  pub used-fit : ps .used ≤ 4
+  pub each : (h : ℕ) → h < ps .used → by + getD (ps .pairs) h noPair .second ≤ 255
+
+-- the pair at a place, its second tape moved if it is used
+abbrev pub movedAt : ℕ → PairList → ℕ → Pair
+movedAt by ps at =
+    let p = getD (ps .pairs) at noPair in
+    if (ltb at (ps .used)) (record { first = p .first; second = by + p .second }) p
+
+-- The pairs of a join as pairs of the product: the second tapes moved behind the tapes of the first table.
+pub record Moved (by : ℕ) (ps : PairList) (r : PairList) : Type 0 where
+  pub pairs : pairsAs r ≡ moved (λ j. by + j) (pairsAs ps)
+  pub tapes-named : (m : ℕ) → Sided by m ps → Named (by + m) r

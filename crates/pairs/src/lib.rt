@@ -1,0 +1,282 @@
+// Lists of pairs of tapes as they are lent, two bytes a pair: judged over the whole list, and read into an array of four by value.
+use memory::answer::Judged;
+use memory::answer::Refusal;
+use memory::bytes::copy_into;
+use memory::pair::Pair;
+use memory::pair::PairList;
+ghost use mathlib.Core.Path.{_≡_};
+ghost use mathlib.Core.Bool.{true};
+ghost use mathlib.Core.List.{map};
+ghost use Prim.Native.Nat.{_+_, _/_, _≤_, _<_};
+ghost use lib.Dec.{eqb, leb};
+ghost use lib.ListN.{length, getD, take};
+ghost use Rattle.automata.specs.Limits.{maxPairs};
+ghost use Rattle.automata.specs.Lists.{and, any};
+ghost use Rattle.automata.specs.IntersectCall.{distinct, named};
+ghost use Rattle.automata.specs.Projection.{isTape};
+ghost use Rattle.automata.specs.Join.{within, separate};
+ghost use Rattle.memory.specs.declared.answer.Judged.the-variants as judged;
+ghost use Rattle.memory.specs.Pairs.{pairsAs};
+ghost use Rattle.pairs.specs.PairBytes.{pairsOf, pairAt};
+ghost use Rattle.pairs.specs.Judgement.{Settled, KeepJudged, JoinJudged, Movable, Moved, movedAt};
+
+// Whether a number stands in a list.
+fn occurs(numbers: &[u8], k: u8) -> bool
+    ensures { λ r. ⌜ r ≡ any (eqb k) (now (numbers .entry)) ⌝ }
+{
+    let mut i = 0;
+    while i < numbers.len() {
+        if numbers[i] == k {
+            return true;
+        }
+        i += 1;
+    }
+    false
+}
+
+// Whether no number stands twice in a list.
+pub fn all_distinct(numbers: &[u8]) -> bool
+    ensures { λ r. ⌜ r ≡ distinct (now (numbers .entry)) ⌝ }
+{
+    let mut i = 0;
+    while i < numbers.len() {
+        let k = numbers[i];
+        i += 1;
+        if occurs(&numbers[i..], k) {
+            return false;
+        }
+    }
+    true
+}
+
+// Whether j is one of n tapes, counted from 1.
+fn is_tape(n: usize, j: u8) -> bool
+    ensures { λ r. ⌜ r ≡ isTape n j ⌝ }
+{
+    let tape = j as usize;
+    1 <= tape && tape <= n
+}
+
+// Whether every pair of the list has its first tape among n and its second among m.
+fn all_within(bytes: &[u8], n: usize, m: usize) -> bool
+    ensures { λ r. ⌜ r ≡ within n m (pairsOf (now (bytes .entry))) ⌝ }
+{
+    let mut at = 0;
+    while 2 <= bytes.len() - at {
+        if !is_tape(n, bytes[at]) {
+            return false;
+        }
+        if !is_tape(m, bytes[at + 1]) {
+            return false;
+        }
+        at += 2;
+    }
+    true
+}
+
+// The byte at a place, 0 where the list has ended.
+fn byte_at(bytes: &[u8], at: usize) -> u8
+    ensures { λ r. ⌜ r ≡ getD (now (bytes .entry)) at 0 ⌝ }
+{
+    if at < bytes.len() {
+        return bytes[at];
+    }
+    0
+}
+
+// The pair in the two bytes at a place.
+fn pair_at(bytes: &[u8], at: usize) -> Pair
+    requires { ⌜ at < 8 ⌝ }
+    ensures { λ r. ⌜ r ≡ pairAt (now (bytes .entry)) at ⌝ }
+{
+    Pair {
+        first: byte_at(bytes, at),
+        second: byte_at(bytes, at + 1),
+    }
+}
+
+// At most four pairs by value.
+fn read_pairs(bytes: &[u8]) -> PairList
+    requires { ⌜ length (now bytes) / 2 ≤ 4 ⌝ }
+    ensures { λ r. ⌜ (pairsAs r ≡ pairsOf (now (bytes .entry))) × (r .used ≡ length (now (bytes .entry)) / 2) ⌝ }
+{
+    let a = pair_at(bytes, 0);
+    let b = pair_at(bytes, 2);
+    let c = pair_at(bytes, 4);
+    let d = pair_at(bytes, 6);
+    PairList {
+        pairs: [a, b, c, d],
+        used: bytes.len() / 2,
+    }
+}
+
+// The first tapes.
+fn firsts_of(pairs: PairList) -> [u8; 4]
+    ensures { λ r. ⌜ take (pairs .used) r ≡ map (λ p. p .first) (pairsAs pairs) ⌝ }
+{
+    let list = pairs.pairs;
+    let a = list[0];
+    let b = list[1];
+    let c = list[2];
+    let d = list[3];
+    [a.first, b.first, c.first, d.first]
+}
+
+// The second tapes.
+fn seconds_of(pairs: PairList) -> [u8; 4]
+    ensures { λ r. ⌜ take (pairs .used) r ≡ map (λ p. p .second) (pairsAs pairs) ⌝ }
+{
+    let list = pairs.pairs;
+    let a = list[0];
+    let b = list[1];
+    let c = list[2];
+    let d = list[3];
+    [a.second, b.second, c.second, d.second]
+}
+
+// Whether all tapes that the pairs name differ.
+fn named_once(pairs: PairList) -> bool
+    requires { ⌜ pairs .used ≤ 4 ⌝ }
+    ensures { λ r. ⌜ r ≡ distinct (named (pairsAs pairs)) ⌝ }
+{
+    let used = pairs.used;
+    let firsts = firsts_of(pairs);
+    let seconds = seconds_of(pairs);
+    let mut tapes = [0u8; 8];
+    copy_into(&mut tapes, 0, &firsts);
+    copy_into(&mut tapes, used, &seconds);
+    let total = used + used;
+    all_distinct(&tapes[..total])
+}
+
+// Whether the first tapes differ and the second tapes differ.
+fn sides_once(pairs: PairList) -> bool
+    requires { ⌜ pairs .used ≤ 4 ⌝ }
+    ensures { λ r. ⌜ r ≡ and (distinct (map (λ p. p .first) (pairsAs pairs))) (distinct (map (λ p. p .second) (pairsAs pairs))) ⌝ }
+{
+    let used = pairs.used;
+    let firsts = firsts_of(pairs);
+    if !all_distinct(&firsts[..used]) {
+        return false;
+    }
+    let seconds = seconds_of(pairs);
+    all_distinct(&seconds[..used])
+}
+
+// Test 6 of an auto-intersection: at most four pairs, and no tape named twice.
+fn keep_once(bytes: &[u8]) -> bool
+    ensures { λ r. ⌜ r ≡ and (leb (length (pairsOf (now (bytes .entry)))) maxPairs) (distinct (named (pairsOf (now (bytes .entry))))) ⌝ }
+{
+    let count = bytes.len() / 2;
+    if 4 < count {
+        return false;
+    }
+    let pairs = read_pairs(bytes);
+    named_once(pairs)
+}
+
+// Test 6 of a join: at most four pairs, and no tape twice on one side.
+fn join_once(bytes: &[u8]) -> bool
+    ensures { λ r. ⌜ r ≡ separate (pairsOf (now (bytes .entry))) ⌝ }
+{
+    let number = bytes.len() / 2;
+    if 4 < number {
+        return false;
+    }
+    let pairs = read_pairs(bytes);
+    sides_once(pairs)
+}
+
+// A judgement of a list of pairs, and the pairs by value where there is no refusal.
+pub struct PairsJudged {
+    pub judged: Judged,
+    pub pairs: PairList,
+}
+
+// A refusal, with no pairs.
+fn refused(why: Refusal) -> PairsJudged
+    ensures { λ r. ⌜ r .judged ≡ judged.Refused why ⌝ }
+{
+    let none = Pair {
+        first: 0,
+        second: 0,
+    };
+    let pairs = PairList {
+        pairs: [none; 4],
+        used: 0,
+    };
+    PairsJudged {
+        judged: Judged::Refused(why),
+        pairs,
+    }
+}
+
+// The tests in their order: 5 where a tape is not there, 6 where a tape stands twice or there are too many pairs, 7 by the limit.
+fn settled(bytes: &[u8], inside: bool, once: bool, limit: usize) -> PairsJudged
+    requires { ⌜ (once ≡ true → length (now bytes) / 2 ≤ 4) ⌝ }
+    ensures { λ r. ⌜ Settled (now (bytes .entry)) inside once limit r ⌝ }
+{
+    if !inside {
+        return refused(Refusal::Tape);
+    }
+    if !once {
+        return refused(Refusal::Pairs);
+    }
+    if 64 < limit {
+        return refused(Refusal::Limit);
+    }
+    let pairs = read_pairs(bytes);
+    PairsJudged {
+        judged: Judged::Fine,
+        pairs,
+    }
+}
+
+// The pairs of an auto-intersection of a table: 5 over the whole list, then 6, then 7.
+pub fn judge_pairs(bytes: &[u8], tapes: usize, limit: usize) -> PairsJudged
+    ensures { λ r. ⌜ KeepJudged (now (bytes .entry)) tapes limit r ⌝ }
+{
+    let inside = all_within(bytes, tapes, tapes);
+    let once = keep_once(bytes);
+    settled(bytes, inside, once, limit)
+}
+
+// The pairs of a join of tables with n and m tapes: 5 over the whole list, then 6, then 7.
+pub fn judge_join_pairs(bytes: &[u8], n: usize, m: usize, limit: usize) -> PairsJudged
+    ensures { λ r. ⌜ JoinJudged (now (bytes .entry)) n m limit r ⌝ }
+{
+    let inside = all_within(bytes, n, m);
+    let once = join_once(bytes);
+    settled(bytes, inside, once, limit)
+}
+
+// One of four pairs with its second tape moved, if it is used.
+fn moved_pair(pairs: PairList, at: usize, by: usize) -> Pair
+    requires { ⌜ (at < 4) × Movable by pairs ⌝ }
+    ensures { λ r. ⌜ r ≡ movedAt by pairs at ⌝ }
+{
+    let p = pairs.pairs[at];
+    if at < pairs.used {
+        let second = by + p.second as usize;
+        return Pair {
+            first: p.first,
+            second: second as u8,
+        };
+    }
+    p
+}
+
+// The pairs of a join as pairs of the product: the second tapes moved behind the tapes of the first table.
+pub fn moved_pairs(pairs: PairList, by: usize) -> PairList
+    requires { ⌜ Movable by pairs ⌝ }
+    ensures { λ r. ⌜ Moved by pairs r ⌝ }
+{
+    let a = moved_pair(pairs, 0, by);
+    let b = moved_pair(pairs, 1, by);
+    let c = moved_pair(pairs, 2, by);
+    let d = moved_pair(pairs, 3, by);
+    PairList {
+        pairs: [a, b, c, d],
+        used: pairs.used,
+    }
+}
