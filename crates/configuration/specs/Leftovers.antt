@@ -52,6 +52,7 @@ abbrev pub flag : Bool → ℕ
 flag true = 1
 flag false = 0
 
+-- the bytes of a leftover
 unfoldable pub leftoverBytes : Leftover → List ℕ
 leftoverBytes l = flag (l .second) ∷ (l .len ∷ l .symbols)
 
