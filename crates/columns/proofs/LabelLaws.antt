@@ -60,7 +60,9 @@ module _ (x : List ℕ) (i : ℕ) where
   all-end h = let d : drop i x ≡ [] = drop-of-length-le x h in rw d
 
 -- ---- a label
-after-blanks : (x : List ℕ) → afterBlanks x ≡ drop (blankCount x) x
+
+-- what follows the blanks is what stands behind as many places
+pub after-blanks : (x : List ℕ) → afterBlanks x ≡ drop (blankCount x) x
 unfolding blankCount
 after-blanks [] = refl
 after-blanks (c ∷ x) = go (eqb c 32) (after-blanks x)

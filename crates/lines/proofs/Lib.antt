@@ -4,3 +4,4 @@ pub mod ArcLaws
 pub mod SequenceLaws
 pub mod HeaderLaws
 pub mod BodyLaws
+pub mod TableLaws

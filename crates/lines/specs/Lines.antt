@@ -2,12 +2,13 @@
 use mathlib.Core.Option.{none}
 use mathlib.Core.List.{List}
 use Prim.Native.Nat.{ℕ}
+use lib.ListN.{length}
 use Rattle.automata.specs.Automaton.{State}
 use Rattle.automata.specs.Answer.{_>>=_, Answer, ok, refused, require, beside, forget}
 use Rattle.automata.specs.Refusal.{size, form}
 use Rattle.automata.specs.Table.{countsFit}
 use Rattle.automata.specs.Sequence.{readFirst, readMany}
-use Rattle.automata.specs.TableText.{isEmpty, headerLine, stateLine, arcLine}
+use Rattle.automata.specs.TableText.{isEmpty, headerLine, stateLine, arcLine, readTable}
 use Rattle.memory.specs.Answers.{refusalNumber}
 use Rattle.memory.specs.Records.{stateAs}
 use Rattle.lines.specs.declared.state.StateLine.{StateLine}
@@ -92,3 +93,7 @@ arcsJudged tapes states n x = forget (readMany (arcLine tapes states) n x)
 -- what follows the header: n states, m arcs, and nothing more
 unfoldable pub bodyJudged : ℕ → ℕ → ℕ → List ℕ → Answer (Unit {0})
 bodyJudged tapes n m x = readMany stateLine n x >>= λ states. readMany (arcLine tapes n) m (states .1) >>= λ arcs. require (isEmpty (arcs .1)) form
+
+-- the counts of the table that a text describes, or its first refusal, where so many states and arcs are lent
+unfoldable pub readCounts : ℕ → ℕ → List ℕ → Answer (ℕ × (ℕ × ℕ))
+readCounts states arcs x = readTable states arcs x >>= λ t. ok (t .tapes, (length (t .states), length (t .arcs)))

@@ -3,3 +3,4 @@ pub mod state;
 pub mod arc;
 pub mod header;
 pub mod body;
+pub mod table;
