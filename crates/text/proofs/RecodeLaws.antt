@@ -14,6 +14,7 @@ use Rattle.automata.proofs.AnswerFacts.{bind-ok, beside-ok}
 use Rattle.automata.proofs.SequenceFacts.{first-ok}
 use Rattle.memory.specs.Region.{splice}
 use Rattle.memory.proofs.Laws.{splice-none, splice-append}
+use Rattle.lines.proofs.LineLaws.{drop-take}
 use Rattle.text.specs.Recode.{recoded}
 
 -- a product of which one factor falls by one
@@ -55,6 +56,14 @@ module _ (recode : List ℕ → List ℕ) (w sz : ℕ) (sized : (y : List ℕ) �
 pub recode-done : (recode : List ℕ → List ℕ) (w : ℕ) (x out : List ℕ) (to left : ℕ) → left ≡ 0 → splice to (recoded recode w left x) out ≡ out
 unfolding recoded
 recode-done recode w x out to left e = rw e (splice-none to out)
+
+-- what stands past the parts does not matter
+pub recoded-take : (recode : List ℕ → List ℕ) (w n : ℕ) (x : List ℕ) → recoded recode w n (take (n * w) x) ≡ recoded recode w n x
+unfolding recoded
+recoded-take recode w zero x = refl
+recoded-take recode w (suc n) x =
+    let e : suc n * w ≡ w + n * w = suc-mul n w ∙ add-comm (n * w) w in
+    rw (e, take-take w (w + n * w) x (omega arith), drop-take w (n * w) x, recoded-take recode w n (drop w x))
 
 -- a format whose values are written by `write` is recoded so: of each part that is read
 module _ {A : Type 0} (f : Format ℕ A) (write : A → List ℕ) (recode : List ℕ → List ℕ)
