@@ -1,4 +1,4 @@
--- Laws of symbols and labels, and of the number of a state.
+-- Laws of labels, and of the number of a state.
 use mathlib.Core.Path.{_≡_, refl, sym, ap, ap₂, _∙_}
 use mathlib.Core.Bool.{Bool, true, false}
 use mathlib.Core.List.{List, [], _∷_, _++_}
@@ -37,27 +37,6 @@ module _ (states : ℕ) (x : List ℕ) (l : length x ≡ 6) where
 
   pub number-within : (r : Number) (n : ℕ) → numberAs r ≡ readDecimal x → r ≡ Value n → n < states → ok n ≡ readStateNumber states x
   number-within r n e f h = sym (number-is ∙ rw (← e, f, lt-ltb n states h))
-
--- ---- symbols
-pub symbol-digit : (c : ℕ) → c < 65 → isDigit c ≡ isSymbol c
-symbol-digit c h = rw (lt-leb 65 c h)
-
-pub symbol-letter : (c : ℕ) → 65 ≤ c → leb c 90 ≡ isSymbol c
-symbol-letter c h = rw (le-leb 65 c h, le-leb 48 c (omega arith), lt-leb c 57 (omega arith)) (go (leb c 90))
-  where
-    go : (b : Bool) → b ≡ or b false
-    go true = refl
-    go false = refl
-
-module _ (x : List ℕ) (i : ℕ) where
-  pub all-stop : i < length x → isSymbol (getD x i 0) ≡ false → false ≡ all isSymbol (drop i x)
-  all-stop h e = rw (drop-cons x i 0 h, e)
-
-  pub all-turn : i < length x → isSymbol (getD x i 0) ≡ true → all isSymbol (drop (i + 1) x) ≡ all isSymbol (drop i x)
-  all-turn h e = rw (drop-cons x i 0 h, e, add-one i)
-
-  pub all-end : length x ≤ i → true ≡ all isSymbol (drop i x)
-  all-end h = let d : drop i x ≡ [] = drop-of-length-le x h in rw d
 
 -- ---- a label
 

@@ -25,7 +25,7 @@ fn wide(b: u8) -> usize
 }
 
 // Whether a byte is one of 0 to 9.
-pub fn is_digit(c: u8) -> bool
+fn is_digit(c: u8) -> bool
     ensures { λ r. ⌜ r ≡ isDigit c ⌝ }
 {
     if c < 48 {

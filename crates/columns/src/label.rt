@@ -1,43 +1,17 @@
 // Labels in nine columns, the first of them blank: blanks, then up to eight symbols.
-use crate::decimal::is_digit;
 use crate::weight::leading_blanks;
 use memory::answer::both;
 use memory::answer::Judged;
 use memory::answer::Refusal;
+use memory::judge::all_symbols;
 ghost use mathlib.Core.Path.{_≡_};
 ghost use Prim.Native.Nat.{_*_};
 ghost use lib.ListN.{length};
 ghost use lib.Dec.{eqb};
 ghost use Rattle.automata.specs.Answer.{forget, require};
 ghost use Rattle.automata.specs.Refusal.{form};
-ghost use Rattle.automata.specs.Lists.{all};
-ghost use Rattle.automata.specs.Symbols.{isSymbol};
 ghost use Rattle.memory.specs.Answers.{judgedAs};
 ghost use Rattle.columns.specs.Columns.{readLabel, labelsRead};
-
-// Whether a byte is one of A to Z or 0 to 9.
-fn is_symbol(c: u8) -> bool
-    ensures { λ r. ⌜ r ≡ isSymbol c ⌝ }
-{
-    if c < 65 {
-        return is_digit(c);
-    }
-    c <= 90
-}
-
-// Whether every byte is a symbol.
-fn all_symbols(symbols: &[u8]) -> bool
-    ensures { λ r. ⌜ r ≡ all isSymbol (now (symbols .entry)) ⌝ }
-{
-    let mut i = 0;
-    while i < symbols.len() {
-        if !is_symbol(symbols[i]) {
-            return false;
-        }
-        i += 1;
-    }
-    true
-}
 
 // The columns of a label: a blank, blanks, symbols.
 fn judge_label(column: &[u8]) -> Judged

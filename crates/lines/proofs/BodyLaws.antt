@@ -18,7 +18,8 @@ use Rattle.lines.specs.Lines.{statesJudged, arcsJudged, bodyJudged}
 use Rattle.memory.specs.declared.answer.Refusal.{Refusal}
 use Rattle.memory.specs.declared.answer.Judged.{Judged}
 use Rattle.memory.specs.declared.answer.Judged.the-variants.{Fine, Refused}
-use Rattle.lines.proofs.SequenceLaws.{first-rest, first-fits, many-turn}
+use Rattle.memory.proofs.SequenceLaws.{first-fits, many-next}
+use Rattle.lines.proofs.SequenceLaws.{first-rest}
 
 -- lines that are not refused leave what is behind them
 abbrev Rest : {A : Type 0} → Format ℕ A → ℕ → List ℕ → Type 0
@@ -40,7 +41,7 @@ many-rest {A} f (suc n) x e = go (readFirst f x) refl (λ y. many-rest f n y)
         let r = first-rest f x g in
         let k = first-fits f x g in
         let s : suc n - 1 ≡ n = omega arith in
-        let t : forget (readMany f n (drop w x)) ≡ ok tt = ap (λ (m : ℕ). forget (readMany f m (drop w x))) (sym s) ∙ many-turn f x (suc n) (omega arith) g ∙ e in
+        let t : forget (readMany f n (drop w x)) ≡ ok tt = ap (λ (m : ℕ). forget (readMany f m (drop w x))) (sym s) ∙ many-next f x (suc n) (omega arith) g ∙ e in
         let i = ih (drop w x) t in
         (r .0 ∷ i .0, many-step f n x (r .0) (i .0) (r .1) (i .1), omega (arith, suc-mul n w, length-drop w x, i .2, k))
 

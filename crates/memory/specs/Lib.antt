@@ -3,3 +3,5 @@ pub mod Region
 pub mod Endian
 pub mod Answers
 pub mod Records
+pub mod Symbols
+pub mod Judging

@@ -12,10 +12,18 @@ fn wide16(b: u8) -> u16
     b as u16
 }
 
+// The same, for four bytes.
 fn wide32(b: u8) -> u32
     ensures { λ r. ⌜ (r ≡ b) × (r < 256) ⌝ }
 {
     b as u32
+}
+
+// A half of a longer number, as a longer number.
+fn wide64(half: u32) -> u64
+    ensures { λ r. ⌜ (r ≡ half) × (r < 4294967296) ⌝ }
+{
+    half as u64
 }
 
 // The u16 in the two bytes at `at`.
@@ -40,6 +48,16 @@ pub fn get32(bytes: &[u8], at: usize) -> u32
     b0 + 256 * (b1 + 256 * (b2 + 256 * b3))
 }
 
+// The u64 in the eight bytes at `at`.
+pub fn get64(bytes: &[u8], at: usize) -> u64
+    requires { ⌜ at + 8 ≤ length (now bytes) ⌝ }
+    ensures { λ r. ⌜ r ≡ le (part at 8 (now (bytes .entry))) ⌝ }
+{
+    let low = wide64(get32(bytes, at));
+    let high = wide64(get32(bytes, at + 4));
+    low + 4294967296 * high
+}
+
 // The two bytes of `v` written at `at`.
 pub fn put16(bytes: &mut [u8], at: usize, v: u16)
     requires { ⌜ at + 2 ≤ length (now bytes) ⌝ }
@@ -58,6 +76,15 @@ pub fn put32(bytes: &mut [u8], at: usize, v: u32)
     bytes[at + 1] = (v / 256 % 256) as u8;
     bytes[at + 2] = (v / 256 / 256 % 256) as u8;
     bytes[at + 3] = (v / 256 / 256 / 256 % 256) as u8;
+}
+
+// The eight bytes of `v` written at `at`.
+pub fn put64(bytes: &mut [u8], at: usize, v: u64)
+    requires { ⌜ at + 8 ≤ length (now bytes) ⌝ }
+    ensures { λ _. ⌜ now (bytes .exit) ≡ splice at (toLe 8 v) (now (bytes .entry)) ⌝ }
+{
+    put32(bytes, at, (v % 4294967296) as u32);
+    put32(bytes, at + 4, (v / 4294967296) as u32);
 }
 
 // Every byte of `work` set to zero.

@@ -2,4 +2,6 @@
 // Bad input never traps and never reads past a slice: every function is proved safe for all bytes that its contract admits.
 pub mod answer;
 pub mod bytes;
+pub mod judge;
 pub mod record;
+pub mod symbol;

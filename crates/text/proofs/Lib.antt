@@ -2,3 +2,5 @@
 pub mod RecodeLaws
 pub mod StoredLaws
 pub mod ReadLaws
+pub mod PrintedLaws
+pub mod WrittenLaws

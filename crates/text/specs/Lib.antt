@@ -2,3 +2,4 @@
 pub mod Recode
 pub mod Stored
 pub mod Answers
+pub mod Printed

@@ -1,4 +1,5 @@
 // The text of a table: read into the records of a table in memory, and written from them.
+pub mod print;
 pub mod store;
 use crate::store::store_arcs;
 use crate::store::store_states;

@@ -9,7 +9,7 @@ use Rattle.columns.proofs.label.judge_label.Statement.{statement}
 use Rattle.columns.proofs.label.judge_label.Tie as tie
 use Rattle.columns.proofs.label.judge_label.Reads as reads
 use Rattle.columns.proofs.label.judge_label.Lts as lts
-use Rattle.columns.proofs.label.all_symbols.Reads as all-symbols-reads
+use Rattle.memory.proofs.judge.all_symbols.Reads as all-symbols-reads
 use Rattle.columns.proofs.weight.leading_blanks.Reads as leading-blanks-reads
 
 shared-slice-read-if1 : tie.Need-shared-slice-read-if1

@@ -2,11 +2,11 @@
 use lib.Seq.{take-length}
 use Rattle.memory.proofs.Laws.{splice-none, splice-more}
 use mathlib.Core.Path.{sym}
-use mathlib.Core.Path.{_≡_, _∙_, ap, refl}
-use Prim.Native.Nat.{ℕ, _+_, _-_, _≤_, _<_}
+use mathlib.Core.Path.{_≡_, _∙_}
+use Prim.Native.Nat.{_+_, _-_, _≤_, _<_}
 use native.Mathlib.Omega.{arith}
 use denote.Ref.{now}
-use lib.ListN.{length, take, set, length-set}
+use lib.ListN.{length, take, length-set}
 use Rattle.memory.specs.Region.{splice}
 use borrow.Author.Needs.{needs}
 use Rattle.memory.proofs.bytes.copy_into.Statement.{statement}

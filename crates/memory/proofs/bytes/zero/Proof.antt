@@ -1,11 +1,11 @@
 -- `memory::bytes::zero` meets its contract. Assumes nothing.
 use Rattle.memory.proofs.Laws.{fill-all}
-use mathlib.Core.Path.{_≡_, _∙_, ap, refl}
+use mathlib.Core.Path.{_≡_, _∙_, ap}
 use mathlib.Core.List.{List, _++_}
 use Prim.Native.Nat.{ℕ, _+_, _-_, _≤_, _<_}
 use native.Mathlib.Omega.{arith}
 use denote.Ref.{now}
-use lib.ListN.{length, drop, set, replicate, length-set}
+use lib.ListN.{length, drop, set, replicate}
 use borrow.Author.Fill.{fill-none, fill-more}
 use borrow.Author.Needs.{needs}
 use Rattle.memory.proofs.bytes.zero.Statement.{statement}

@@ -1,6 +1,4 @@
 -- `memory::record::store_state` meets its contract. Assumes nothing.
-use mathlib.Core.Path.{_≡_, refl, sym, ap, _∙_}
-use native.Mathlib.Omega.{arith}
 use denote.Ref.{now}
 use Rattle.memory.proofs.RecordLaws.{stored-state}
 use borrow.Author.Needs.{needs}

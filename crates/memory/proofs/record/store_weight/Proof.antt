@@ -1,7 +1,4 @@
 -- `memory::record::store_weight` meets its contract. Assumes nothing.
-use mathlib.Core.Path.{_≡_, refl, sym, ap, _∙_}
-use native.Mathlib.Omega.{arith}
-use denote.Ref.{now}
 use Rattle.memory.proofs.RecordLaws.{stored-absent, stored-present}
 use borrow.Author.Needs.{needs}
 use Rattle.memory.proofs.record.store_weight.Statement.{statement}
