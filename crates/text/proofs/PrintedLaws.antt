@@ -24,13 +24,19 @@ use Rattle.text.proofs.RecodeLaws.{length-recoded}
 
 -- ---- a weight
 
-pub weight-absent : (x : List ℕ) → getD x 0 0 ≡ 0 → absent ≡ weightOfRecord x
+weight-absent : (x : List ℕ) → getD x 0 0 ≡ 0 → absent ≡ weightOfRecord x
 unfolding weightOfRecord
 weight-absent x e = ap (λ (b : Bool). weightColumns .write (if b none (some (le (part 1 4 x))))) (sym (eq-eqb (getD x 0 0) 0 e))
 
-pub weight-present : (x : List ℕ) → (getD x 0 0 ≡ 0 → ⊥) → decimalText 10 (le (part 1 4 x)) ≡ weightOfRecord x
+weight-present : (x : List ℕ) → (getD x 0 0 ≡ 0 → ⊥) → decimalText 10 (le (part 1 4 x)) ≡ weightOfRecord x
 unfolding weightOfRecord decimalText
 weight-present x e = ap (λ (b : Bool). weightColumns .write (if b none (some (le (part 1 4 x))))) (sym (ne-eqb (getD x 0 0) 0 e))
+
+pub absent-printed : (at : ℕ) (x xs us : List ℕ) → getD x 0 0 ≡ 0 → us ≡ splice at absent xs → us ≡ splice at (weightOfRecord x) xs
+absent-printed at x xs us e f = f ∙ ap (λ (z : List ℕ). splice at z xs) (weight-absent x e)
+
+pub present-printed : (at v : ℕ) (x xs us : List ℕ) → (getD x 0 0 ≡ 0 → ⊥) → v ≡ le (part 1 4 x) → us ≡ splice at (decimalText 10 v) xs → us ≡ splice at (weightOfRecord x) xs
+present-printed at v x xs us e g f = f ∙ ap (λ (z : List ℕ). splice at z xs) (ap (decimalText 10) g ∙ weight-present x e)
 
 -- ten columns, whatever the weight is
 weight-ten : (o : Option ℕ) → length (weightColumns .write o) ≡ 10
@@ -162,6 +168,14 @@ module _ (tapes : ℕ) (x : List ℕ) (h : length x ≡ 80) (k : tapes ≤ 8) wh
       snoc-behind at (at + (22 + tapes * 9)) (numbersOfRecord x ++ r) xs vs 10 w (omega (arith, before-end)) (omega (arith, before-end))
 
 -- ---- the header
+
+three-fields : (a b d : List ℕ) → length a ≡ 3 → length b ≡ 6 → length d ≡ 6 → length ((a ++ (b ++ d)) ++ (10 ∷ [])) ≡ 16
+three-fields a b d p q r = simp length-append (omega arith)
+
+pub length-header : (c : Counts) → length (headerLine .write (c .tapes, (c .states, c .arcs))) ≡ 16
+unfolding decimalText
+length-header c =
+    three-fields (decimalText 3 (c .tapes)) (decimalText 6 (c .states)) (decimalText 6 (c .arcs)) (length-decimal 3 (c .tapes)) (length-decimal 6 (c .states)) (length-decimal 6 (c .arcs))
 
 pub header-printed : (c : Counts) (xs us vs ws : List ℕ) → 16 ≤ length xs → us ≡ splice 0 (decimalText 3 (c .tapes)) xs → vs ≡ splice 3 (decimalText 6 (c .states)) us
     → ws ≡ splice 9 (decimalText 6 (c .arcs)) vs → set ws 15 10 ≡ splice 0 (headerOf c) xs

@@ -4,31 +4,46 @@ use mathlib.Core.Option.{Option, none, some}
 use mathlib.Core.List.{List, [], _∷_, _++_, append-assoc}
 use Prim.Native.Nat.{ℕ, zero, suc, _+_, _-_, _*_, _^_, _≤_, _<_}
 use native.Mathlib.Omega.{arith}
+use native.Mathlib.Nat.{mul-le-mul}
+use borrow.Author.Tests.{le-leb, lt-leb}
 use lib.ListN.{length, take, drop, getD, length-append, length-drop}
 use lib.Seq.{take-at, length-take-le}
 use Rattle.automata.specs.Lists.{Each}
 use Rattle.automata.specs.Automaton.{State, Arc, Automaton}
-use Rattle.automata.specs.Answer.{_>>=_, Answer, ok, refused, beside}
+use Rattle.automata.specs.Answer.{_>>=_, Answer, ok, refused, beside, forget}
 use Rattle.automata.specs.Refusal.{size}
 use Rattle.automata.specs.Records.{writeAll}
 use Rattle.automata.specs.Sequence.{readAll}
 use Rattle.automata.specs.Table.{Weight, WellFormedArc, countsFit}
 use Rattle.automata.specs.TableText.{labelColumns, weightColumns, headerLine, stateLine, arcLine, writeTable}
 use Rattle.automata.specs.Memory.{Memory, Sound, tableOf, decodeTable, weightRecord, stateRecord, labelRecord, arcRecord, zeros}
-use Rattle.automata.proofs.AnswerFacts.{bind-ok, beside-ok, require-ok}
+use Rattle.automata.specs.Calls.Outcome.{overwrite, print}
+use Rattle.automata.specs.Calls.Write.{writeAnswer, writeOutcome}
+use Rattle.automata.proofs.AnswerFacts.{refused≢ok, bind-ok, beside-ok, require-ok}
 use Rattle.automata.proofs.FormatLaws.{copies-lawful}
 use Rattle.automata.proofs.SequenceFacts.{readAll-only}
 use Rattle.automata.proofs.MemoryLaws.{weightRecord-lawful, stateRecord-lawful, labelRecord-lawful, arcRecord-lawful, arcRecord-width}
-use Rattle.automata.proofs.SoundFacts.{sound-decoded}
-use Rattle.memory.specs.Region.{part}
+use Rattle.automata.proofs.SoundFacts.{sound, sound-decoded, sound-holds, sound-well-formed}
+use Rattle.automata.proofs.TextLaws.{length-writeTable}
+use Rattle.memory.specs.Region.{part, splice}
+use Rattle.memory.specs.Answers.{refusalNumber, judgedAs, lent}
+use Rattle.memory.specs.declared.answer.Counts.{Counts}
+use Rattle.memory.specs.declared.answer.Refusal.{Refusal}
+use Rattle.memory.specs.declared.answer.Judged.{Judged}
+use Rattle.memory.specs.declared.answer.Judged.the-variants as judged
+use Rattle.memory.proofs.Laws.{splice-behind, splice-front}
+use Rattle.lines.proofs.ArcLaws.{forget-ok}
+use Rattle.text.specs.declared.WriteAnswer.{WriteAnswer}
+use Rattle.text.specs.Answers.{writtenAs, refusedBy, writtenOf}
+use Rattle.text.proofs.PrintedLaws.{state-sized, arc-sized, length-header}
 use Rattle.memory.specs.Endian.{le, toLe}
 use Rattle.memory.proofs.EndianLaws.{le-toLe}
 use Rattle.memory.proofs.LoadedLaws.{label-bytes}
-use Rattle.memory.proofs.SoundLaws.{few-tapes, few-states}
+use Rattle.memory.proofs.SoundLaws.{few-tapes, few-states, states-lent, arcs-lent}
 use Rattle.columns.specs.Columns.{decimalText}
 use Rattle.text.specs.Recode.{recoded}
-use Rattle.text.specs.Printed.{weightOfRecord, lineOfState, columnsOfLabel, numbersOfRecord, lineOfArc}
-use Rattle.text.proofs.RecodeLaws.{recoded-take, recoded-all, recoded-copies}
+use Rattle.text.specs.Printed.{weightOfRecord, lineOfState, columnsOfLabel, numbersOfRecord, lineOfArc, headerOf}
+use Rattle.text.proofs.RecodeLaws.{length-recoded, recoded-take, recoded-all, recoded-copies}
 
 -- ---- each record is printed as the line of what it holds
 
@@ -95,17 +110,17 @@ arc-each t n few y a h r =
 -- ---- the whole table
 
 -- the lines of n states and m arcs that are read from bytes
-module _ (t n m : ℕ) (ss as : List ℕ) (p : List (State ℕ)) (q : List (Arc ℕ)) (tapes : t ≤ 8) (few : n ≤ 1024)
-    (s : readAll stateRecord n ss ≡ ok p) (a : readAll (arcRecord t n) m as ≡ ok q) where
-  records-written : headerLine .write (t, (n, m)) ++ (recoded lineOfState 10 n ss ++ recoded (lineOfArc t) 80 m as) ≡ writeTable (record { tapes = t; states = p; arcs = q })
+module _ (t n m : ℕ) (ss bs : List ℕ) (p : List (State ℕ)) (q : List (Arc ℕ)) (tapes : t ≤ 8) (few : n ≤ 1024)
+    (s : readAll stateRecord n ss ≡ ok p) (a : readAll (arcRecord t n) m bs ≡ ok q) where
+  records-written : headerLine .write (t, (n, m)) ++ (recoded lineOfState 10 n ss ++ recoded (lineOfArc t) 80 m bs) ≡ writeTable (record { tapes = t; states = p; arcs = q })
   unfolding writeTable
   records-written =
       let w : arcRecord t n .width ≡ 80 = arcRecord-width t n tapes in
       let ln : length p ≡ n = readAll-only stateRecord-lawful n ss p s .0 in
-      let lm : length q ≡ m = readAll-only (arcRecord-lawful t n few) m as q a .0 in
+      let lm : length q ≡ m = readAll-only (arcRecord-lawful t n few) m bs q a .0 in
       let us : recoded lineOfState 10 n ss ≡ writeAll (stateLine .write) p = recoded-all stateRecord (stateLine .write) lineOfState state-each n ss p s in
-      let ua : recoded (lineOfArc t) 80 m as ≡ writeAll (arcLine t n .write) q =
-      ap (λ (k : ℕ). recoded (lineOfArc t) k m as) (sym w) ∙ recoded-all (arcRecord t n) (arcLine t n .write) (lineOfArc t) (arc-each t n few) m as q a in
+      let ua : recoded (lineOfArc t) 80 m bs ≡ writeAll (arcLine t n .write) q =
+      ap (λ (k : ℕ). recoded (lineOfArc t) k m bs) (sym w) ∙ recoded-all (arcRecord t n) (arcLine t n .write) (lineOfArc t) (arc-each t n few) m bs q a in
       ap₂ (λ (x y : List ℕ). headerLine .write (t, (n, m)) ++ (x ++ y)) us ua
       ∙ ap₂ (λ (k j : ℕ). headerLine .write (t, (k, j)) ++ (writeAll (stateLine .write) p ++ writeAll (arcLine t k .write) q)) (sym ln) (sym lm)
 
@@ -120,3 +135,61 @@ module _ (m : Memory) (s : Sound m) where
       let q = bind-ok (readAll (arcRecord (m .tapes) (m .states)) (m .arcs) (m .arcBytes)) _ A (p .2) in
       let e : _≡_ {A = Automaton ℕ} (record { tapes = m .tapes; states = p .0; arcs = q .0 }) A = cc (q .2) in
       records-written (m .tapes) (m .states) (m .arcs) (m .stateBytes) (m .arcBytes) (p .0) (q .0) (few-tapes m s) (few-states m s) (p .1) (q .1) ∙ ap writeTable e
+
+-- ---- the call
+
+-- the length of n states and m arcs, of t tapes, in range
+pub text-fits : (t n m : ℕ) → t ≤ 8 → n ≤ 1024 → m ≤ 8192 → m * (23 + t * 9) ≤ 778240
+text-fits t n m ht hn hm = mul-le-mul hm (let k : 23 + t * 9 ≤ 95 = omega arith in k)
+
+refused-same : {A : Type 0} (r : Answer A) (k : ℕ) → forget r ≡ refused k → r ≡ refused k
+refused-same (ok a) k e = absurd (refused≢ok (sym e))
+refused-same (refused j) k e = let q : j ≡ k = cc in ap refused q
+
+-- a table that was judged and is fine
+pub judged-sound : (m : Memory) (j : Judged) → judgedAs j ≡ forget (decodeTable m) → j ≡ judged.Fine → Sound m
+judged-sound m j e f = let a = forget-ok (decodeTable m) (sym e ∙ ap judgedAs f) in sound m (a .0) (a .1)
+
+-- its text has the length that its counts say
+pub text-length : (m : Memory) → Sound m → length (writeTable (tableOf m)) ≡ 16 + m .states * 21 + m .arcs * (23 + m .tapes * 9)
+text-length m s =
+    let h = sound-holds m s in
+    length-writeTable (tableOf m) (sound-well-formed m s) ∙ rw (← h .tapes, ← h .states, ← h .arcs)
+
+module _ (m : Memory) (out : List ℕ) where
+  pub write-refused : (j : Judged) (k : Refusal) (a : WriteAnswer) → judgedAs j ≡ forget (decodeTable m) → j ≡ judged.Refused k → writtenAs a ≡ refusedBy (judgedAs j)
+      → writtenOf (writtenAs a) out ≡ writeOutcome m out
+  unfolding writeOutcome writeAnswer print
+  write-refused j k a e f g =
+      let d : decodeTable m ≡ refused (refusalNumber k) = refused-same (decodeTable m) (refusalNumber k) (sym e ∙ ap judgedAs f) in
+      rw (g, f, d)
+
+  module _ (s : Sound m) where
+    pub write-short : length out < 16 + m .states * 21 + m .arcs * (23 + m .tapes * 9) → writtenOf (refused 13) out ≡ writeOutcome m out
+    unfolding writeOutcome writeAnswer print
+    write-short h = rw (sound-decoded m s, lt-leb (length (writeTable (tableOf m))) (length out) (omega (arith, text-length m s)))
+
+    pub write-done : (n : ℕ) (us : List ℕ) → n ≡ 16 + m .states * 21 + m .arcs * (23 + m .tapes * 9) → n ≤ length out → us ≡ overwrite (writeTable (tableOf m)) out
+        → writtenOf (ok n) us ≡ writeOutcome m out
+    unfolding writeOutcome writeAnswer print
+    write-done n us e h f =
+        let l : n ≡ length (writeTable (tableOf m)) = e ∙ sym (text-length m s) in
+        rw (sound-decoded m s, le-leb (length (writeTable (tableOf m))) (length out) (omega arith)) (ap₂ writtenOf (ap ok l) f)
+
+-- the header, the states and the arcs, printed one behind the other
+pub table-printed : (c : Counts) (ss bs xs us vs ws : List ℕ) → Sound (lent c ss bs) → 16 + c .states * 21 + c .arcs * (23 + c .tapes * 9) ≤ length xs
+    → us ≡ splice 0 (headerOf c) xs → vs ≡ splice 16 (recoded lineOfState 10 (c .states) ss) us
+    → ws ≡ splice (16 + c .states * 21) (recoded (lineOfArc (c .tapes)) 80 (c .arcs) bs) vs → ws ≡ overwrite (writeTable (tableOf (lent c ss bs))) xs
+unfolding headerOf
+table-printed c ss bs xs us vs ws s h e f g =
+    let m = lent c ss bs in
+    let hd = headerLine .write (c .tapes, (c .states, c .arcs)) in
+    let st = recoded lineOfState 10 (c .states) ss in
+    let ar = recoded (lineOfArc (c .tapes)) 80 (c .arcs) bs in
+    let lh : length hd ≡ 16 = length-header c in
+    let ls : length st ≡ c .states * 21 = length-recoded lineOfState 10 21 state-sized (c .states) ss (omega (arith, states-lent m s)) in
+    let la : length ar ≡ c .arcs * (23 + c .tapes * 9) = length-recoded (lineOfArc (c .tapes)) 80 (23 + c .tapes * 9) (λ y k. arc-sized (c .tapes) y k (few-tapes m s)) (c .arcs) bs (omega (arith, arcs-lent m s)) in
+    let lt : length (hd ++ st) ≡ 16 + c .states * 21 = length-append hd st ∙ omega arith in
+    let p = splice-behind 0 16 hd st xs us vs e f (omega arith) (omega arith) in
+    let q = splice-behind 0 (16 + c .states * 21) (hd ++ st) ar xs vs ws p g (omega arith) (omega arith) in
+    q ∙ ap (λ (z : List ℕ). splice 0 z xs) (append-assoc hd st ar ∙ table-written m s) ∙ splice-front (writeTable (tableOf m)) xs

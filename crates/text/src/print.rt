@@ -7,6 +7,10 @@ use memory::bytes::get32;
 ghost use mathlib.Core.Path.{_≡_};
 ghost use Prim.Native.Nat.{_+_, _*_, _≤_, min};
 ghost use lib.ListN.{length};
+ghost use Rattle.automata.specs.Memory.{Sound, tableOf};
+ghost use Rattle.automata.specs.TableText.{writeTable};
+ghost use Rattle.automata.specs.Calls.Outcome.{overwrite};
+ghost use Rattle.memory.specs.Answers.{lent};
 ghost use Rattle.memory.specs.Region.{splice};
 ghost use Rattle.text.specs.Recode.{recoded};
 ghost use Rattle.text.specs.Printed.{weightOfRecord, lineOfState, columnsOfLabel, numbersOfRecord, lineOfArc, headerOf};
@@ -134,4 +138,14 @@ pub fn print_header(counts: Counts, out: &mut [u8])
     write_decimal(out, 3, 6, counts.states);
     write_decimal(out, 9, 6, counts.arcs);
     out[15] = 10;
+}
+
+// The text of a table that was judged, over the front of the output.
+pub fn write_table(counts: Counts, states: &[u8], arcs: &[u8], output: &mut [u8])
+    requires { ⌜ Sound (lent counts (now states) (now arcs)) × (16 + counts .states * 21 + counts .arcs * (23 + counts .tapes * 9) ≤ length (now output)) ⌝ }
+    ensures { λ _. ⌜ now (output .exit) ≡ overwrite (writeTable (tableOf (lent counts (now (states .entry)) (now (arcs .entry))))) (now (output .entry)) ⌝ }
+{
+    print_header(counts, output);
+    print_states(states, counts.states, output, 16);
+    print_arcs(arcs, counts.arcs, counts.tapes, output, 16 + counts.states * 21);
 }

@@ -1,3 +1,9 @@
+-- `text::print::print_numbers` meets its contract. Assumes nothing.
+use Rattle.text.proofs.PrintedLaws.{numbers-printed}
+use lib.ListN.{length-set}
+use denote.Ref.{now}
+use native.Mathlib.Omega.{arith}
+use mathlib.Core.Path.{_≡_, refl, sym, ap, _∙_}
 use borrow.Author.Needs.{needs}
 use Rattle.text.proofs.print.print_numbers.Statement.{statement}
 use Rattle.text.proofs.print.print_numbers.Tie as tie
@@ -7,57 +13,44 @@ use Rattle.columns.proofs.decimal.write_decimal.Reads as write-decimal-reads
 use Rattle.memory.proofs.bytes.get16.Reads as get16-reads
 use Rattle.memory.proofs.bytes.get32.Reads as get32-reads
 
--- src/print.rt:96:31
 get16-requires : tie.Need-get16-requires
 get16-requires c κs = search needs
 
--- src/print.rt:96:31
 cast-write-decimal : tie.Need-cast-write-decimal
 cast-write-decimal c = search needs
 
--- src/print.rt:96:5
 write-decimal-requires : tie.Need-write-decimal-requires
 write-decimal-requires c κs = search needs
 
--- src/print.rt:97:24
 add-write-decimal : tie.Need-add-write-decimal
 add-write-decimal c = search needs
 
--- src/print.rt:97:35
 get16-requires-2 : tie.Need-get16-requires-2
 get16-requires-2 c κs = search needs
 
--- src/print.rt:97:35
 cast-write-decimal-2 : tie.Need-cast-write-decimal-2
 cast-write-decimal-2 c = search needs
 
--- src/print.rt:97:5
 write-decimal-requires-2 : tie.Need-write-decimal-requires-2
 write-decimal-requires-2 c κs = search needs
 
--- src/print.rt:98:24
 add-write-decimal-2 : tie.Need-add-write-decimal-2
 add-write-decimal-2 c = search needs
 
--- src/print.rt:98:37
 get32-requires : tie.Need-get32-requires
 get32-requires c κs = search needs
 
--- src/print.rt:98:37
 cast-write-decimal-3 : tie.Need-cast-write-decimal-3
 cast-write-decimal-3 c = search needs
 
--- src/print.rt:98:5
 write-decimal-requires-3 : tie.Need-write-decimal-requires-3
 write-decimal-requires-3 c κs = search needs
 
--- src/print.rt:92:1
 same-length : tie.Need-same-length
 same-length c = search needs
 
--- src/print.rt:92:1
 returns : tie.Need-returns
-returns c = ?
+returns c = let s = c .before .before .before .before .before .before .before .before .before .before .before .before .before .before .before .before .before in numbers-printed (s .args .at) _ _ _ (now (s .args .bytes)) _ _ _ _ (s .pre .1) (c .before .before .before .before .before .before .before .before .before .before .before .before .before .get16 .ensures) (c .before .before .before .before .before .before .before .before .get162 .ensures) (c .before .before .before .get32 .ensures) (c .before .before .before .before .before .before .before .before .before .before .before .before .write-decimal .ensures) (c .before .before .before .before .before .before .before .write-decimal2 .ensures) (c .before .before .write-decimal3 .ensures)
 
 pub print-numbers-spec : {M : Type 1} → statement M
 print-numbers-spec =
