@@ -1,0 +1,102 @@
+-- Laws of what follows the header.
+use mathlib.Core.Path.{_≡_, refl, sym, ap, ap₂, _∙_}
+use mathlib.Core.Bool.{Bool, true, false}
+use mathlib.Core.List.{List, [], _∷_}
+use Prim.Native.Nat.{ℕ, zero, suc, _+_, _-_, _*_, _≤_, _<_}
+use native.Mathlib.Omega.{arith}
+use native.Mathlib.Nat.{zero-mul, suc-mul, add-comm}
+use lib.ListN.{length, take, drop, length-drop, drop-of-length-le}
+use lib.Seq.{drop-drop, drop-cons}
+use Rattle.automata.specs.Answer.{_>>=_, Answer, ok, refused, require, forget}
+use Rattle.automata.specs.Refusal.{form}
+use Rattle.automata.specs.Format.{Format}
+use Rattle.automata.specs.Sequence.{readFirst, readMany}
+use Rattle.automata.specs.TableText.{isEmpty, stateLine, arcLine}
+use Rattle.automata.proofs.AnswerFacts.{refused≢ok}
+use Rattle.memory.specs.Answers.{refusalNumber, judgedAs}
+use Rattle.lines.specs.Lines.{statesJudged, arcsJudged, bodyJudged}
+use Rattle.memory.specs.declared.answer.Refusal.{Refusal}
+use Rattle.memory.specs.declared.answer.Judged.{Judged}
+use Rattle.memory.specs.declared.answer.Judged.the-variants.{Fine, Refused}
+use Rattle.memory.proofs.SequenceLaws.{first-fits, many-next}
+use Rattle.lines.proofs.SequenceLaws.{first-rest}
+
+-- lines that are not refused leave what is behind them
+abbrev Rest : {A : Type 0} → Format ℕ A → ℕ → List ℕ → Type 0
+Rest {A} f n x = (v : List A) × (readMany f n x ≡ ok (v, drop (n * f .width) x)) × (n * f .width ≤ length x)
+
+many-step : {A : Type 0} (f : Format ℕ A) (n : ℕ) (x : List ℕ) (v : A) (us : List A) → readFirst f x ≡ ok (v, drop (f .width) x)
+    → readMany f n (drop (f .width) x) ≡ ok (us, drop (n * f .width) (drop (f .width) x)) → readMany f (suc n) x ≡ ok (v ∷ us, drop (suc n * f .width) x)
+many-step f n x v us e g = rw (e, g, drop-drop, suc-mul, add-comm (n * f .width))
+
+many-rest : {A : Type 0} (f : Format ℕ A) (n : ℕ) (x : List ℕ) → forget (readMany f n x) ≡ ok tt → Rest f n x
+many-rest f zero x e = ([], rw zero-mul refl, omega (arith, zero-mul (f .width)))
+many-rest {A} f (suc n) x e = go (readFirst f x) refl (λ y. many-rest f n y)
+  where
+    go : (a : Answer (A × List ℕ)) → readFirst f x ≡ a → ((y : List ℕ) → forget (readMany f n y) ≡ ok tt → Rest f n y) → Rest f (suc n) x
+    go (refused k) h ih = absurd (refused≢ok (sym (ap (λ (z : Answer (A × List ℕ)). forget {A = List A × List ℕ} (z >>= λ p. readMany f n (p .1) >>= λ q. ok (p .0 ∷ q .0, q .1))) h) ∙ e))
+    go (ok p) h ih =
+        let w = f .width in
+        let g : forget (readFirst f x) ≡ ok tt = ap forget h in
+        let r = first-rest f x g in
+        let k = first-fits f x g in
+        let s : suc n - 1 ≡ n = omega arith in
+        let t : forget (readMany f n (drop w x)) ≡ ok tt = ap (λ (m : ℕ). forget (readMany f m (drop w x))) (sym s) ∙ many-next f x (suc n) (omega arith) g ∙ e in
+        let i = ih (drop w x) t in
+        (r .0 ∷ i .0, many-step f n x (r .0) (i .0) (r .1) (i .1), omega (arith, suc-mul n w, length-drop w x, i .2, k))
+
+empty-none : (k : ℕ) (z : List ℕ) → length z ≤ k → isEmpty (drop k z) ≡ true
+empty-none k z h = let d : drop k z ≡ [] = drop-of-length-le z h in rw d
+
+empty-some : (k : ℕ) (z : List ℕ) → k < length z → isEmpty (drop k z) ≡ false
+empty-some k z h = rw (drop-cons z k 0 h)
+
+module _ (tapes n m : ℕ) (text : List ℕ) (h : 16 ≤ length text) (js : Judged) (es : judgedAs js ≡ statesJudged n (drop 16 text)) where
+  pub body-states : (k : Refusal) → js ≡ Refused k → judgedAs js ≡ bodyJudged tapes n m (drop 16 text)
+  unfolding statesJudged bodyJudged
+  body-states k f = ap judgedAs f ∙ go (readMany stateLine n (drop 16 text)) (sym es ∙ ap judgedAs f)
+    where
+      go : {A : Type 0} (a : Answer (A × List ℕ)) → forget a ≡ refused (refusalNumber k) → refused (refusalNumber k) ≡ (a >>= λ states. readMany (arcLine tapes n) m (states .1) >>= λ arcs. require (isEmpty (arcs .1)) form)
+      go (ok p) e = absurd (refused≢ok (sym e))
+      go (refused j) e = sym e
+
+  module _ (fs : js ≡ Fine) where
+    rest-of : Rest stateLine n (drop 16 text)
+    unfolding statesJudged
+    rest-of = many-rest stateLine n (drop 16 text) (sym es ∙ ap judgedAs fs)
+
+    pub body-room : 16 + n * 21 ≤ length text
+    body-room = omega (arith, rest-of .2, length-drop 16 text)
+
+    behind : bodyJudged tapes n m (drop 16 text) ≡ (readMany (arcLine tapes n) m (drop (16 + n * 21) text) >>= λ arcs. require (isEmpty (arcs .1)) form)
+    unfolding bodyJudged
+    behind = rw (rest-of .1, drop-drop (n * 21) 16 text)
+
+    module _ (ja : Judged) (ea : judgedAs ja ≡ arcsJudged tapes n m (drop (16 + n * 21) text)) where
+      pub body-arcs : (k : Refusal) → ja ≡ Refused k → judgedAs ja ≡ bodyJudged tapes n m (drop 16 text)
+      unfolding arcsJudged
+      body-arcs k f = ap judgedAs f ∙ go (readMany (arcLine tapes n) m (drop (16 + n * 21) text)) (sym ea ∙ ap judgedAs f) ∙ sym behind
+        where
+          go : {A : Type 0} (a : Answer (A × List ℕ)) → forget a ≡ refused (refusalNumber k) → refused (refusalNumber k) ≡ (a >>= λ arcs. require (isEmpty (arcs .1)) form)
+          go (ok p) e = absurd (refused≢ok (sym e))
+          go (refused j) e = sym e
+
+      module _ (fa : ja ≡ Fine) where
+        width-is : m * arcLine tapes n .width ≡ m * (23 + tapes * 9)
+        width-is = let w : arcLine tapes n .width ≡ 23 + tapes * 9 = omega arith in ap (λ (k : ℕ). m * k) w
+
+        arcs-rest : Rest (arcLine tapes n) m (drop (16 + n * 21) text)
+        unfolding arcsJudged
+        arcs-rest = many-rest (arcLine tapes n) m (drop (16 + n * 21) text) (sym ea ∙ ap judgedAs fa)
+
+        pub body-size : m * (23 + tapes * 9) ≤ length text - (16 + n * 21)
+        body-size = omega (arith, arcs-rest .2, width-is, length-drop (16 + n * 21) text)
+
+        at-end : bodyJudged tapes n m (drop 16 text) ≡ require (isEmpty (drop (m * (23 + tapes * 9)) (drop (16 + n * 21) text))) form
+        at-end = behind ∙ rw (arcs-rest .1) (ap (λ (k : ℕ). require (isEmpty (drop k (drop (16 + n * 21) text))) form) width-is)
+
+        pub body-more : m * (23 + tapes * 9) < length text - (16 + n * 21) → refused 2 ≡ bodyJudged tapes n m (drop 16 text)
+        body-more l = sym (at-end ∙ rw (empty-some (m * (23 + tapes * 9)) (drop (16 + n * 21) text) (rw (length-drop (16 + n * 21) text) l)))
+
+        pub body-done : length text - (16 + n * 21) ≤ m * (23 + tapes * 9) → ok tt ≡ bodyJudged tapes n m (drop 16 text)
+        body-done l = sym (at-end ∙ rw (empty-none (m * (23 + tapes * 9)) (drop (16 + n * 21) text) (rw (length-drop (16 + n * 21) text) l)))

@@ -1,0 +1,91 @@
+-- Laws of lines that are judged one after the other.
+use mathlib.Core.Path.{_≡_, refl, sym, ap, ap₂, _∙_}
+use mathlib.Core.Bool.{Bool, true, false}
+use mathlib.Core.List.{List, [], _∷_}
+use Prim.Native.Nat.{ℕ, zero, suc, _+_, _-_, _*_, _≤_, _<_}
+use native.Mathlib.Omega.{arith}
+use native.Mathlib.Nat.{zero-mul}
+use lib.Dec.{leb}
+use lib.ListN.{length, take, drop, length-drop}
+use lib.Seq.{drop-drop}
+use borrow.Author.Tests.{le-leb, lt-leb, leb-true}
+use Rattle.automata.specs.Answer.{_>>=_, Answer, ok, refused, require, forget}
+use Rattle.automata.specs.Refusal.{short}
+use Rattle.automata.specs.Format.{Format}
+use Rattle.automata.specs.Sequence.{readFirst, readMany}
+use Rattle.automata.specs.TableText.{stateLine, arcLine}
+use Rattle.automata.proofs.AnswerFacts.{refused≢ok, forget-map}
+use Rattle.memory.specs.Answers.{refusalNumber, judgedAs}
+use Rattle.memory.proofs.SequenceLaws.{many-stop, many-none, at-short, at-value, at-next}
+use Rattle.lines.specs.Lines.{readStateLine, readArcLine, firstState, statesJudged, firstArc, arcsJudged}
+use Rattle.memory.specs.declared.answer.Refusal.{Refusal}
+use Rattle.memory.specs.declared.answer.Judged.{Judged}
+use Rattle.memory.specs.declared.answer.Judged.the-variants.{Fine, Refused}
+
+-- a line that is not refused, and what follows it
+module _ {A : Type 0} (f : Format ℕ A) (x : List ℕ) where
+  pub first-rest : forget (readFirst f x) ≡ ok tt → (v : A) × (readFirst f x ≡ ok (v, drop (f .width) x))
+  first-rest e = go (leb (f .width) (length x)) (f .read (take (f .width) x)) e
+    where
+      go : (b : Bool) (a : Answer A) → forget {A = A × List ℕ} (require b short >>= λ t. a >>= λ v. ok (v, drop (f .width) x)) ≡ ok tt
+          → (v : A) × (_≡_ {A = Answer (A × List ℕ)} (require b short >>= λ t. a >>= λ v. ok (v, drop (f .width) x)) (ok (v, drop (f .width) x)))
+      go true (ok v) k = (v, refl)
+      go true (refused n) k = absurd (refused≢ok k)
+      go false a k = absurd (refused≢ok k)
+
+-- ---- state lines
+module _ (text : List ℕ) (at : ℕ) (h : at ≤ length text) where
+  pub state-short : length text - at < 21 → refused 1 ≡ firstState (drop at text)
+  unfolding firstState
+  state-short k = at-short stateLine 21 refl text at h k
+
+  pub state-judged : (j : Judged) → 21 ≤ length text - at → judgedAs j ≡ forget (readStateLine (take (at + 21 - at) (drop at text))) → judgedAs j ≡ firstState (drop at text)
+  unfolding firstState readStateLine
+  state-judged j k e =
+      let n : at + 21 - at ≡ 21 = omega arith in
+      e ∙ ap (λ (m : ℕ). forget (readStateLine (take m (drop at text)))) n ∙ at-value stateLine 21 refl text at h k
+
+  module _ (left : ℕ) (p : 0 < left) where
+    pub states-refused : (j : Judged) (k : Refusal) → judgedAs j ≡ firstState (drop at text) → j ≡ Refused k → judgedAs j ≡ statesJudged left (drop at text)
+    unfolding firstState statesJudged
+    states-refused j k e f = ap judgedAs f ∙ many-stop stateLine (drop at text) left (refusalNumber k) p (sym e ∙ ap judgedAs f)
+
+    pub states-turn : (j : Judged) → judgedAs j ≡ firstState (drop at text) → j ≡ Fine
+        → (at + 21 ≤ length text) × (statesJudged (left - 1) (drop (at + 21) text) ≡ statesJudged left (drop at text))
+    unfolding firstState statesJudged
+    states-turn j e f = at-next stateLine 21 refl text at h left p (sym e ∙ ap judgedAs f)
+
+pub states-done : (n : ℕ) (x : List ℕ) → n ≡ 0 → ok tt ≡ statesJudged n x
+unfolding statesJudged
+states-done n x e = many-none stateLine x n e
+
+-- ---- arc lines
+module _ (tapes states : ℕ) (text : List ℕ) (at : ℕ) (h : at ≤ length text) where
+  width-is : arcLine tapes states .width ≡ 23 + tapes * 9
+  width-is = omega arith
+
+  pub arc-short : length text - at < 23 + tapes * 9 → refused 1 ≡ firstArc tapes states (drop at text)
+  unfolding firstArc
+  arc-short k = at-short (arcLine tapes states) (23 + tapes * 9) width-is text at h k
+
+  pub arc-at-judged : (j : Judged) → 23 + tapes * 9 ≤ length text - at → judgedAs j ≡ forget (readArcLine tapes states (take (at + (23 + tapes * 9) - at) (drop at text)))
+      → judgedAs j ≡ firstArc tapes states (drop at text)
+  unfolding firstArc readArcLine
+  arc-at-judged j k e =
+      let n : at + (23 + tapes * 9) - at ≡ 23 + tapes * 9 = omega arith in
+      e ∙ forget-map (arcLine tapes states .read (take (at + (23 + tapes * 9) - at) (drop at text))) (λ a. (a .source, (a .target, a .weight)))
+      ∙ ap (λ (m : ℕ). forget (arcLine tapes states .read (take m (drop at text)))) n ∙ at-value (arcLine tapes states) (23 + tapes * 9) width-is text at h k
+
+  module _ (left : ℕ) (p : 0 < left) where
+    pub arcs-refused : (j : Judged) (k : Refusal) → judgedAs j ≡ firstArc tapes states (drop at text) → j ≡ Refused k → judgedAs j ≡ arcsJudged tapes states left (drop at text)
+    unfolding firstArc arcsJudged
+    arcs-refused j k e f = ap judgedAs f ∙ many-stop (arcLine tapes states) (drop at text) left (refusalNumber k) p (sym e ∙ ap judgedAs f)
+
+    pub arcs-turn : (j : Judged) → judgedAs j ≡ firstArc tapes states (drop at text) → j ≡ Fine
+        → (at + (23 + tapes * 9) ≤ length text) × (arcsJudged tapes states (left - 1) (drop (at + (23 + tapes * 9)) text) ≡ arcsJudged tapes states left (drop at text))
+    unfolding firstArc arcsJudged
+    arcs-turn j e f = at-next (arcLine tapes states) (23 + tapes * 9) width-is text at h left p (sym e ∙ ap judgedAs f)
+
+pub arcs-done : (tapes states n : ℕ) (x : List ℕ) → n ≡ 0 → ok tt ≡ arcsJudged tapes states n x
+unfolding arcsJudged
+arcs-done tapes states n x e = many-none (arcLine tapes states) x n e

@@ -1,0 +1,120 @@
+// Lines of arcs: source, target, weight, and a label on each tape.
+use columns::decimal::judge_number;
+use columns::decimal::number_of;
+use columns::decimal::Number;
+use columns::decimal::read_state_number;
+use columns::label::judge_labels;
+use columns::label::line_end;
+use columns::weight::read_present;
+use memory::answer::both;
+use memory::answer::Judged;
+use memory::answer::Refusal;
+ghost use mathlib.Core.Path.{_≡_};
+ghost use Prim.Native.Nat.{_+_, _*_, _≤_};
+ghost use lib.ListN.{length, drop};
+ghost use Rattle.automata.specs.Answer.{forget};
+ghost use Rattle.memory.specs.Answers.{judgedAs};
+ghost use Rattle.columns.specs.Columns.{numberAs};
+ghost use Rattle.lines.specs.Lines.{arcParts, arcLineAs, readArcLine, numbersOf, numbersOfLine, firstArc, arcsJudged};
+
+// The parts of an arc line side by side.
+fn judge_arc(source: Number, target: Number, weight: Number, labels: Judged, end: Judged) -> Judged
+    ensures { λ r. ⌜ judgedAs r ≡ forget (arcParts (numberAs source) (numberAs target) (numberAs weight) (judgedAs labels) (judgedAs end)) ⌝ }
+{
+    let from_weight = both(judge_number(weight), labels);
+    let from_target = both(judge_number(target), from_weight);
+    let from_source = both(judge_number(source), from_target);
+    both(from_source, end)
+}
+
+// The numbers of an arc.
+pub struct ArcNumbers {
+    pub source: u16,
+    pub target: u16,
+    pub weight: u32,
+}
+
+// The numbers of an arc read from its line, or the refusal of the line.
+pub enum ArcLine {
+    Arc(ArcNumbers),
+    Refused(Refusal),
+}
+
+// A line of an arc: source, target, weight, and a label on each tape.
+pub fn read_arc_line(line: &[u8], tapes: usize, states: usize) -> ArcLine
+    requires { ⌜ (length (now line) ≡ 23 + tapes * 9) × (states ≤ 1024) ⌝ }
+    ensures { λ r. ⌜ arcLineAs r ≡ readArcLine tapes states (now (line .entry)) ⌝ }
+{
+    let source = read_state_number(&line[0..6], states);
+    let target = read_state_number(&line[6..12], states);
+    let weight = read_present(&line[12..22]);
+    let end = line.len() - 1;
+    let labels = judge_labels(&line[22..end], tapes);
+    let judged = judge_arc(source, target, weight, labels, line_end(line[end]));
+    match judged {
+        Judged::Refused(k) => ArcLine::Refused(k),
+        Judged::Fine => {
+            let arc = ArcNumbers {
+                source: number_of(source) as u16,
+                target: number_of(target) as u16,
+                weight: number_of(weight) as u32,
+            };
+            ArcLine::Arc(arc)
+        }
+    }
+}
+
+// The refusal of a line, if it is refused.
+fn judge_arc_line(line: ArcLine) -> Judged
+    ensures { λ r. ⌜ judgedAs r ≡ forget (arcLineAs line) ⌝ }
+{
+    match line {
+        ArcLine::Arc(_) => Judged::Fine,
+        ArcLine::Refused(k) => Judged::Refused(k),
+    }
+}
+
+// The numbers of a line; 0 where the line is refused.
+pub fn numbers_of(line: ArcLine) -> ArcNumbers
+    ensures { λ r. ⌜ numbersOf r ≡ numbersOfLine (arcLineAs line) ⌝ }
+{
+    match line {
+        ArcLine::Arc(a) => a,
+        ArcLine::Refused(_) => ArcNumbers {
+            source: 0,
+            target: 0,
+            weight: 0,
+        },
+    }
+}
+
+// The arc line at a place of a text.
+fn judge_arc_at(text: &[u8], at: usize, tapes: usize, states: usize) -> Judged
+    requires { ⌜ (at ≤ length (now text)) × ((tapes ≤ 8) × (states ≤ 1024)) ⌝ }
+    ensures { λ r. ⌜ judgedAs r ≡ firstArc tapes states (drop at (now (text .entry))) ⌝ }
+{
+    let width = 23 + tapes * 9;
+    if text.len() - at < width {
+        return Judged::Refused(Refusal::Short);
+    }
+    judge_arc_line(read_arc_line(&text[at..at + width], tapes, states))
+}
+
+// So many arc lines from a place of a text. The first refusal counts.
+pub fn judge_arcs(text: &[u8], start: usize, count: usize, tapes: usize, states: usize) -> Judged
+    requires { ⌜ (start ≤ length (now text)) × ((tapes ≤ 8) × (states ≤ 1024)) ⌝ }
+    ensures { λ r. ⌜ judgedAs r ≡ arcsJudged tapes states count (drop start (now (text .entry))) ⌝ }
+{
+    let width = 23 + tapes * 9;
+    let mut left = count;
+    let mut at = start;
+    while 0 < left {
+        let judged = judge_arc_at(text, at, tapes, states);
+        let Judged::Fine = judged else {
+            return judged;
+        };
+        left -= 1;
+        at += width;
+    }
+    Judged::Fine
+}

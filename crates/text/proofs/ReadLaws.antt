@@ -1,0 +1,227 @@
+-- Laws of the call `read`: what was judged and stored is the outcome of its definition.
+use mathlib.Core.Path.{_≡_, refl, sym, ap, ap₂, subst, _∙_}
+use mathlib.Core.List.{List, [], _∷_, _++_, append-assoc}
+use Prim.Native.Nat.{ℕ, zero, suc, _+_, _-_, _*_, _/_, _≤_, _<_}
+use native.Mathlib.Omega.{arith}
+use lib.Dec.{leb}
+use lib.ListN.{length, take, drop, length-drop}
+use lib.Seq.{drop-drop, length-take-le}
+use Rattle.automata.specs.Lists.{all, sameList}
+use Rattle.automata.specs.Symbols.{isSymbol}
+use Rattle.automata.specs.Automaton.{State, Arc, Automaton}
+use Rattle.automata.specs.Answer.{_>>=_, Answer, ok, refused, beside, require, check}
+use Rattle.automata.specs.Refusal.{form, statesFull, arcsFull}
+use Rattle.automata.specs.Records.{writeAll}
+use Rattle.automata.specs.Format.{Format, pair, literal, copies, readCopies}
+use Rattle.automata.specs.Decimal.{decimal}
+use Rattle.automata.specs.TableFormat.{stateNumber, weightNumber, arcFormat}
+use Rattle.automata.specs.Sequence.{readFirst, readMany}
+use Rattle.automata.specs.TableText.{afterBlanks, labelColumns, isEmpty, headerLine, stateLine, arcLine, readTable}
+use Rattle.automata.specs.Memory.{labelRecord, stateRecord, arcRecord, zeros, encodeStates, encodeArcs}
+use Rattle.automata.specs.Calls.Outcome.{slicesOf, madeOf, overwrite, put, countsOf, TableCounts}
+use Rattle.automata.specs.Calls.Read.{readAnswer, readOutcome}
+use Rattle.automata.proofs.AnswerFacts.{refused≢ok, bind-ok, beside-ok, require-ok, check-ok}
+use Rattle.automata.proofs.SequenceFacts.{first-ok, many-rest, many-only}
+use Rattle.automata.proofs.TextLaws.{read-only, length-writeTable, headerLine-lawful, stateLine-lawful, arcLine-lawful}
+use Rattle.automata.proofs.CallFacts.{put-ok, put-refused}
+use Rattle.memory.specs.Region.{splice}
+use Rattle.memory.specs.Answers.{refusalNumber, tableAs}
+use Rattle.memory.proofs.Laws.{splice-front}
+use Rattle.memory.specs.declared.answer.Counts.{Counts}
+use Rattle.memory.specs.declared.answer.Refusal.{Refusal}
+use Rattle.memory.specs.declared.answer.TableAnswer.{TableAnswer}
+use Rattle.lines.specs.Lines.{headerAs, readCounts, readStateLine, readArcLine}
+use Rattle.lines.specs.declared.header.HeaderLine.{HeaderLine}
+use Rattle.lines.specs.declared.header.HeaderLine.the-variants as header
+use Rattle.lines.proofs.LineLaws.{drop-take}
+use Rattle.text.specs.Answers.{countsAnswer}
+use Rattle.text.specs.Recode.{recoded}
+use Rattle.text.specs.Stored.{stateOfLine, labelOfColumns, numberBytes, arcOfLine}
+use Rattle.text.proofs.RecodeLaws.{recoded-take, recoded-many, recoded-copies}
+
+-- the length of a text of t tapes, n states and m arcs, and the space that is lent for its records
+pub record Room (t n m l s a : ℕ) : Type 0 where
+  pub tapes : t ≤ 8
+  pub states : n ≤ 1024
+  pub arcs : m ≤ 8192
+  pub text : l ≡ 16 + n * 21 + m * (23 + t * 9)
+  pub stateSpace : n ≤ s / 10
+  pub arcSpace : m ≤ a / 80
+
+-- ---- each line that is read is stored as the record of what it is read as
+
+state-each : (y : List ℕ) (s : State ℕ) → length y ≡ 21 → stateLine .read y ≡ ok s → stateOfLine y ≡ stateRecord .write s
+unfolding stateOfLine readStateLine
+state-each y s l e = rw e
+
+label-each : (y l : List ℕ) → length y ≡ 9 → labelColumns .read y ≡ ok l → labelOfColumns y ≡ labelRecord .write l
+unfolding labelOfColumns
+label-each y l h r =
+    let a = afterBlanks (drop 1 y) in
+    let s = bind-ok (beside (require (sameList (take 1 y) (32 ∷ [])) form) (check (all isSymbol a) form a)) (λ p. ok (p .1)) l r in
+    let t = beside-ok (require (sameList (take 1 y) (32 ∷ [])) form) (check (all isSymbol a) form a) (s .0) (s .1) in
+    let q : s .0 .1 ≡ l = cc (s .2) in
+    ap (λ (z : List ℕ). labelRecord .write z) (check-ok (all isSymbol a) form a (s .0 .1) (t .1) .1 ∙ q)
+
+module _ (t n : ℕ) (y : List ℕ) (a : Arc ℕ) (h : length y ≡ arcLine t n .width) (r : arcLine t n .read y ≡ ok a) where
+  abbrev number : Format ℕ ℕ
+  number = stateNumber n (decimal 6)
+
+  abbrev weight : Format ℕ ℕ
+  weight = weightNumber (decimal 10)
+
+  abbrev labels : Format ℕ (List (List ℕ))
+  labels = copies labelColumns t
+
+  columns-at : drop 10 (drop 6 (drop 6 (take (6 + (6 + (10 + t * 9))) y))) ≡ take (t * 9) (drop 22 y)
+  columns-at =
+      let w : 6 + (6 + (10 + t * 9)) ≡ 22 + t * 9 = omega arith in
+      rw (w, drop-drop 6 6 (take (22 + t * 9) y), drop-drop 10 12 (take (22 + t * 9) y)) (drop-take 22 (t * 9) y)
+
+  -- the labels that a line is read as
+  labels-read : readCopies labelColumns t (take (t * 9) (drop 22 y)) ≡ ok (a .labels)
+  labels-read =
+      let f = arcFormat number weight labels in
+      let u = take (f .width) y in
+      let s = bind-ok (beside (f .read u) (literal (10 ∷ []) .read (drop (f .width) y))) (λ p. ok (p .0)) a r in
+      let p = beside-ok (f .read u) (literal (10 ∷ []) .read (drop (f .width) y)) (s .0) (s .1) in
+      let v = bind-ok (pair number (pair number (pair weight labels)) .read u) (λ p. ok (record { source = p .0; target = p .1 .0; weight = p .1 .1 .0; labels = p .1 .1 .1 })) (s .0 .0) (p .0) in
+      let b = beside-ok (number .read (take 6 u)) (pair number (pair weight labels) .read (drop 6 u)) (v .0) (v .1) in
+      let d = beside-ok (number .read (take 6 (drop 6 u))) (pair weight labels .read (drop 6 (drop 6 u))) (v .0 .1) (b .1) in
+      let g = beside-ok (weight .read (take 10 (drop 6 (drop 6 u)))) (labels .read (drop 10 (drop 6 (drop 6 u)))) (v .0 .1 .1) (d .1) in
+      let q : s .0 .0 ≡ a = cc (s .2) in
+      let k : _≡_ {A = Arc ℕ} (record { source = v .0 .0; target = v .0 .1 .0; weight = v .0 .1 .1 .0; labels = v .0 .1 .1 .1 }) (s .0 .0) = cc (v .2) in
+      ap (readCopies labelColumns t) (sym columns-at) ∙ g .1 ∙ ap (λ (z : Arc ℕ). ok (z .labels)) (k ∙ q)
+
+  labels-stored : recoded labelOfColumns 9 t (drop 22 y) ≡ writeAll (labelRecord .write) (a .labels)
+  labels-stored =
+      let l : length (take (t * 9) (drop 22 y)) ≡ t * 9 = length-take-le (t * 9) (drop 22 y) (rw (length-drop 22 y) (omega arith)) in
+      sym (recoded-take labelOfColumns 9 t (drop 22 y))
+      ∙ recoded-copies labelColumns (labelRecord .write) labelOfColumns label-each t (take (t * 9) (drop 22 y)) (a .labels) (omega arith) labels-read
+
+  arc-each : arcOfLine t n y ≡ arcRecord t n .write a
+  unfolding arcOfLine numberBytes readArcLine
+  arc-each = rw (r, labels-stored)
+
+-- ---- the whole table
+
+-- the counts of an automaton
+abbrev countsAt : Automaton ℕ → Answer (ℕ × (ℕ × ℕ))
+countsAt A = ok (A .tapes, (length (A .states), length (A .arcs)))
+
+-- without a table there are no counts
+counts-refused : (r : Answer (Automaton ℕ)) (k : ℕ) → (r >>= countsAt) ≡ refused k → r ≡ refused k
+counts-refused (ok A) k e = absurd (refused≢ok (sym e))
+counts-refused (refused j) k e = let q : j ≡ k = cc in ap refused q
+
+-- the lines of a text are stored as the records of A
+abbrev Stored : List ℕ → Automaton ℕ → Type 0
+Stored x A =
+    (recoded stateOfLine 21 (length (A .states)) (drop 16 x) ≡ encodeStates A)
+    × (recoded (arcOfLine (A .tapes) (length (A .states))) (23 + A .tapes * 9) (length (A .arcs)) (drop (16 + length (A .states) * 21) x) ≡ encodeArcs A)
+
+module _ (x : List ℕ) (t n m : ℕ) (rest : List ℕ) (p : List (State ℕ) × List ℕ) (q : List (Arc ℕ) × List ℕ)
+    (h : readFirst headerLine x ≡ ok ((t, (n, m)), rest)) (s : readMany stateLine n rest ≡ ok p) (a : readMany (arcLine t n) m (p .1) ≡ ok q) where
+  front : (16 ≤ length x) × (headerLine .read (take 16 x) ≡ ok (t, (n, m))) × (rest ≡ drop 16 x)
+  front = first-ok headerLine x ((t, (n, m)), rest) h
+
+  few : n ≤ 1024
+  few = headerLine-lawful .only (take 16 x) (t, (n, m)) (length-take-le 16 x (front .0)) (front .1) .0 .statesFit
+
+  states-many : length (p .0) ≡ n
+  states-many = many-only stateLine-lawful n rest p s .0
+
+  arcs-many : length (q .0) ≡ m
+  arcs-many = many-only (arcLine-lawful t n few) m (p .1) q a .0
+
+  states-stored : recoded stateOfLine 21 n (drop 16 x) ≡ writeAll (stateRecord .write) (p .0)
+  states-stored = ap (recoded stateOfLine 21 n) (sym (front .2)) ∙ recoded-many stateLine (stateRecord .write) stateOfLine state-each n rest p s
+
+  behind : p .1 ≡ drop (16 + n * 21) x
+  behind = many-rest stateLine n rest p s ∙ ap (drop (n * 21)) (front .2) ∙ drop-drop (n * 21) 16 x
+
+  arcs-stored : recoded (arcOfLine t n) (23 + t * 9) m (drop (16 + n * 21) x) ≡ writeAll (arcRecord t n .write) (q .0)
+  arcs-stored =
+      let w : arcLine t n .width ≡ 23 + t * 9 = omega arith in
+      ap₂ (λ (k : ℕ) (z : List ℕ). recoded (arcOfLine t n) k m z) (sym w) (sym behind) ∙ recoded-many (arcLine t n) (arcRecord t n .write) (arcOfLine t n) (arc-each t n) m (p .1) q a
+
+  lines-stored : Stored x (record { tapes = t; states = p .0; arcs = q .0 })
+  lines-stored = (
+    ap (λ (k : ℕ). recoded stateOfLine 21 k (drop 16 x)) states-many ∙ states-stored,
+    ap₂ (λ (k j : ℕ). recoded (arcOfLine t k) (23 + t * 9) j (drop (16 + k * 21) x)) states-many arcs-many ∙ arcs-stored
+        ∙ ap (λ (k : ℕ). writeAll (arcRecord t k .write) (q .0)) (sym states-many),
+  )
+
+-- what a text is read as is what its lines are stored as
+table-stored : (S T : ℕ) (x : List ℕ) (A : Automaton ℕ) → readTable S T x ≡ ok A → Stored x A
+unfolding readTable
+table-stored S T x A r =
+    let h = bind-ok (readFirst headerLine x) _ A r in
+    let s = require-ok (leb (h .0 .0 .1 .0) S) statesFull _ A (h .2) in
+    let a = require-ok (leb (h .0 .0 .1 .1) T) arcsFull _ A (s .1) in
+    let p = bind-ok (readMany stateLine (h .0 .0 .1 .0) (h .0 .1)) _ A (a .1) in
+    let q = bind-ok (readMany (arcLine (h .0 .0 .0) (h .0 .0 .1 .0)) (h .0 .0 .1 .1) (p .0 .1)) _ A (p .2) in
+    let e = require-ok (isEmpty (q .0 .1)) form _ A (q .2) in
+    let d : _≡_ {A = Automaton ℕ} (record { tapes = h .0 .0 .0; states = p .0 .0; arcs = q .0 .0 }) A = cc (e .1) in
+    subst (λ (u : Automaton ℕ). Stored x u) d (lines-stored x (h .0 .0 .0) (h .0 .0 .1 .0) (h .0 .0 .1 .1) (h .0 .1) (p .0) (q .0) (h .1) (p .1) (q .1))
+
+-- the slices after the lines of A's text were stored
+made-stored : (x xs ys us vs : List ℕ) (A : Automaton ℕ) → readTable (length xs / 10) (length ys / 80) x ≡ ok A
+    → us ≡ splice 0 (recoded stateOfLine 21 (length (A .states)) (drop 16 x)) xs
+    → vs ≡ splice 0 (recoded (arcOfLine (A .tapes) (length (A .states))) (23 + A .tapes * 9) (length (A .arcs)) (drop (16 + length (A .states) * 21) x)) ys
+    → madeOf (ok (countsOf A)) us vs ≡ readOutcome x (slicesOf xs ys)
+unfolding readOutcome readAnswer
+made-stored x xs ys us vs A r p q =
+    let w = table-stored (length xs / 10) (length ys / 80) x A r in
+    let u : us ≡ overwrite (encodeStates A) xs = p ∙ ap (λ (z : List ℕ). splice 0 z xs) (w .0) ∙ splice-front (encodeStates A) xs in
+    let v : vs ≡ overwrite (encodeArcs A) ys = q ∙ ap (λ (z : List ℕ). splice 0 z ys) (w .1) ∙ splice-front (encodeArcs A) ys in
+    ap₂ (λ (y z : List ℕ). madeOf (ok (countsOf A)) y z) u v ∙ sym (put-ok (slicesOf xs ys) A) ∙ ap (λ (z : Answer (Automaton ℕ)). put z (slicesOf xs ys)) (sym r)
+
+module _ (x xs ys : List ℕ) (h : HeaderLine) (e : headerAs h ≡ readCounts (length xs / 10) (length ys / 80) x)
+    (a : TableAnswer) (b : tableAs a ≡ countsAnswer (headerAs h)) where
+  pub read-refused : (k : Refusal) → h ≡ header.Refused k → madeOf (tableAs a) xs ys ≡ readOutcome x (slicesOf xs ys)
+  unfolding readOutcome readAnswer readCounts
+  read-refused k f =
+      let r = counts-refused (readTable (length xs / 10) (length ys / 80) x) (refusalNumber k) (sym e ∙ ap headerAs f) in
+      rw (b, f, r) (sym (put-refused (slicesOf xs ys) (refusalNumber k)))
+
+  module _ (c : Counts) (f : h ≡ header.Counts c) where
+    -- the table, by its counts
+    table-read : (A : Automaton ℕ) × (readTable (length xs / 10) (length ys / 80) x ≡ ok A) × (A .tapes ≡ c .tapes) × (length (A .states) ≡ c .states) × (length (A .arcs) ≡ c .arcs)
+    unfolding readCounts
+    table-read =
+        let r = bind-ok (readTable (length xs / 10) (length ys / 80) x) countsAt (c .tapes, (c .states, c .arcs)) (sym e ∙ ap headerAs f) in
+        let q : _≡_ {A = ℕ × (ℕ × ℕ)} (r .0 .tapes, (length (r .0 .states), length (r .0 .arcs))) (c .tapes, (c .states, c .arcs)) = cc (r .2) in
+        (r .0, r .1, ap (λ (p : ℕ × (ℕ × ℕ)). p .0) q, ap (λ (p : ℕ × (ℕ × ℕ)). p .1 .0) q, ap (λ (p : ℕ × (ℕ × ℕ)). p .1 .1) q)
+
+    -- what a text that is not refused has room for
+    pub read-room : Room (c .tapes) (c .states) (c .arcs) (length x) (length xs) (length ys)
+    read-room =
+        let t = table-read in
+        let A = t .0 in
+        let o = read-only (length xs / 10) (length ys / 80) x A (t .1) in
+        let l : length x ≡ 16 + length (A .states) * 21 + length (A .arcs) * (23 + A .tapes * 9) = ap length (o .1) ∙ length-writeTable A (o .0) in
+        let n = t .3 in
+        let m = t .4 in
+        let k : length x ≡ 16 + c .states * 21 + c .arcs * (23 + c .tapes * 9) = rw (t .2, n, m) at l in
+        record {
+          tapes = rw (t .2) at (o .0 .counts .tapesFit);
+          states = rw n at (o .0 .counts .statesFit);
+          arcs = rw m at (o .0 .counts .arcsFit);
+          text = k;
+          stateSpace = rw n at (o .2);
+          arcSpace = rw m at (o .3);
+        }
+
+    pub read-stored : (us vs : List ℕ) → us ≡ splice 0 (recoded stateOfLine 21 (c .states) (drop 16 x)) xs
+        → vs ≡ splice 0 (recoded (arcOfLine (c .tapes) (c .states)) (23 + c .tapes * 9) (c .arcs) (drop (16 + c .states * 21) x)) ys
+        → madeOf (tableAs a) us vs ≡ readOutcome x (slicesOf xs ys)
+    read-stored us vs p q =
+        let t = table-read in
+        let F : ℕ → ℕ → ℕ → List ℕ = λ k j i. splice 0 (recoded (arcOfLine k j) (23 + k * 9) i (drop (16 + j * 21) x)) ys in
+        let e : tableAs a ≡ ok (record { tapes = c .tapes; states = c .states; arcs = c .arcs }) = b ∙ ap (λ (z : HeaderLine). countsAnswer (headerAs z)) f in
+        let g : _≡_ {A = Answer TableCounts} (ok (record { tapes = c .tapes; states = c .states; arcs = c .arcs })) (ok (countsOf (t .0))) =
+        sym (ap₂ (λ (k : ℕ) (l : ℕ × ℕ). ok (record { tapes = k; states = l .0; arcs = l .1 })) (t .2) (ap₂ {C = ℕ × ℕ} (λ (k j : ℕ). (k, j)) (t .3) (t .4))) in
+        ap (λ (z : Answer TableCounts). madeOf z us vs) (e ∙ g)
+        ∙ made-stored x xs ys us vs (t .0) (t .1) (p ∙ ap (λ (k : ℕ). splice 0 (recoded stateOfLine 21 k (drop 16 x)) xs) (sym (t .3)))
+        (q ∙ ap₂ (λ (k j : ℕ). F k j (c .arcs)) (sym (t .2)) (sym (t .3)) ∙ ap (λ (i : ℕ). F (t .0 .tapes) (length (t .0 .states)) i) (sym (t .4)))

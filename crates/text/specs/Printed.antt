@@ -1,0 +1,37 @@
+-- The lines of what the records of a table hold.
+use mathlib.Core.Option.{none, some}
+use mathlib.Core.List.{List, [], _∷_, _++_}
+use Prim.Native.Nat.{ℕ}
+use lib.Dec.{eqb}
+use lib.ListN.{take, drop, getD}
+use Rattle.automata.specs.Lists.{if}
+use Rattle.automata.specs.TableText.{labelColumns, weightColumns, headerLine}
+use Rattle.memory.specs.Region.{part}
+use Rattle.memory.specs.Endian.{le}
+use Rattle.memory.specs.declared.answer.Counts.{Counts}
+use Rattle.columns.specs.Columns.{decimalText}
+use Rattle.text.specs.Recode.{recoded}
+
+-- the columns of the weight in a record of 5 bytes
+unfoldable pub weightOfRecord : List ℕ → List ℕ
+weightOfRecord x = weightColumns .write (if (eqb (getD x 0 0) 0) none (some (le (part 1 4 x))))
+
+-- the line of the state in a record of 10 bytes
+unfoldable pub lineOfState : List ℕ → List ℕ
+lineOfState x = (weightOfRecord (take 5 x) ++ weightOfRecord (drop 5 x)) ++ (10 ∷ [])
+
+-- the columns of the label in a record of 9 bytes
+unfoldable pub columnsOfLabel : List ℕ → List ℕ
+columnsOfLabel x = labelColumns .write (take (getD x 0 0) (drop 1 x))
+
+-- source, target and weight in a record of an arc
+unfoldable pub numbersOfRecord : List ℕ → List ℕ
+numbersOfRecord x = decimalText 6 (le (part 0 2 x)) ++ (decimalText 6 (le (part 2 2 x)) ++ decimalText 10 (le (part 4 4 x)))
+
+-- the line of the arc in a record of 80 bytes, of a table with so many tapes
+unfoldable pub lineOfArc : ℕ → List ℕ → List ℕ
+lineOfArc tapes x = (numbersOfRecord x ++ recoded columnsOfLabel 9 tapes (drop 8 x)) ++ (10 ∷ [])
+
+-- the header of a table
+unfoldable pub headerOf : Counts → List ℕ
+headerOf c = headerLine .write (c .tapes, (c .states, c .arcs))

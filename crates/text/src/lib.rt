@@ -1,0 +1,85 @@
+// The text of a table: read into the records of a table in memory, and written from them.
+pub mod print;
+pub mod store;
+use crate::print::write_table;
+use crate::store::store_arcs;
+use crate::store::store_states;
+use lines::header::HeaderLine;
+use lines::table::judge_text;
+use memory::answer::Counts;
+use memory::answer::Judged;
+use memory::answer::Refusal;
+use memory::answer::TableAnswer;
+use memory::judge::judge;
+ghost use mathlib.Core.Path.{_≡_};
+ghost use Prim.Native.Nat.{_+_, _*_, _≤_};
+ghost use Rattle.automata.specs.Calls.Outcome.{slicesOf, madeOf};
+ghost use Rattle.automata.specs.Calls.Read.{readOutcome};
+ghost use Rattle.automata.specs.Calls.Write.{writeOutcome};
+ghost use Rattle.memory.specs.Answers.{tableAs, judgedAs, lent};
+ghost use Rattle.lines.specs.Lines.{headerAs};
+ghost use Rattle.text.specs.Answers.{countsAnswer, writtenAs, refusedBy, writtenOf};
+
+// What is answered of a text that was judged.
+fn answer_of(header: HeaderLine) -> TableAnswer
+    ensures { λ r. ⌜ tableAs r ≡ countsAnswer (headerAs header) ⌝ }
+{
+    match header {
+        HeaderLine::Counts(c) => TableAnswer::Table(c),
+        HeaderLine::Refused(k) => TableAnswer::Refused(k),
+    }
+}
+
+// The call `read`: the table that a text describes, as records in the slices lent. The whole text is judged before a record is stored.
+pub fn read(text: &[u8], states: &mut [u8], arcs: &mut [u8]) -> TableAnswer
+    ensures { λ r. ⌜ madeOf (tableAs r) (now (states .exit)) (now (arcs .exit)) ≡ readOutcome (now (text .entry)) (slicesOf (now (states .entry)) (now (arcs .entry))) ⌝ }
+{
+    let judged = judge_text(text, states.len() / 10, arcs.len() / 80);
+    let answer = answer_of(judged);
+    let HeaderLine::Counts(c) = judged else {
+        return answer;
+    };
+    store_states(text, 16, c.states, states);
+    store_arcs(text, 16 + c.states * 21, c.arcs, c.tapes, c.states, arcs);
+    answer
+}
+
+// What the call `write` answers: the number of bytes written, or a refusal.
+pub enum WriteAnswer {
+    Bytes(usize),
+    Refused(Refusal),
+}
+
+// The refusal of a table that was judged; no bytes where it is fine.
+fn refused_by(judged: Judged) -> WriteAnswer
+    ensures { λ r. ⌜ writtenAs r ≡ refusedBy (judgedAs judged) ⌝ }
+{
+    match judged {
+        Judged::Fine => WriteAnswer::Bytes(0),
+        Judged::Refused(k) => WriteAnswer::Refused(k),
+    }
+}
+
+// How many bytes the text of a table has.
+fn text_length(counts: Counts) -> usize
+    requires { ⌜ (counts .tapes ≤ 8) × ((counts .states ≤ 1024) × (counts .arcs ≤ 8192)) ⌝ }
+    ensures { λ r. ⌜ r ≡ 16 + counts .states * 21 + counts .arcs * (23 + counts .tapes * 9) ⌝ }
+{
+    16 + counts.states * 21 + counts.arcs * (23 + counts.tapes * 9)
+}
+
+// The call `write`: the text of a table in memory, in the output lent. The table is judged first, then the room in the output.
+pub fn write(counts: Counts, states: &[u8], arcs: &[u8], output: &mut [u8]) -> WriteAnswer
+    ensures { λ r. ⌜ writtenOf (writtenAs r) (now (output .exit)) ≡ writeOutcome (lent counts (now (states .entry)) (now (arcs .entry))) (now (output .entry)) ⌝ }
+{
+    let judged = judge(counts, states, arcs);
+    let Judged::Fine = judged else {
+        return refused_by(judged);
+    };
+    let need = text_length(counts);
+    if output.len() < need {
+        return WriteAnswer::Refused(Refusal::Space);
+    }
+    write_table(counts, states, arcs, output);
+    WriteAnswer::Bytes(need)
+}
