@@ -12,13 +12,13 @@ use Rattle.automata.specs.Answer.{_>>=_, Answer, ok, refused, require, beside, 
 use Rattle.automata.specs.Refusal.{form}
 use Rattle.automata.specs.TableText.{arcLine}
 use Rattle.automata.proofs.AnswerFacts.{refused≢ok, beside-ok, forget-beside, forget-unit, forget-map, refused-map}
-use Rattle.columns.specs.declared.decimal.Number.{Number}
-use Rattle.columns.specs.declared.decimal.Number.the-variants.{Value, Refused}
+use Rattle.text_columns.specs.declared.decimal.Number.{Number}
+use Rattle.text_columns.specs.declared.decimal.Number.the-variants.{Value, Refused}
 use Rattle.memory.specs.declared.answer.Refusal.{Refusal}
 use Rattle.memory.specs.declared.answer.Judged.{Judged}
 use Rattle.memory.specs.declared.answer.Judged.the-variants as judged
 use Rattle.memory.specs.Answers.{refusalNumber, judgedAs}
-use Rattle.columns.specs.Columns.{numberAs, numberOf, readStateNumber, readPresent, labelsRead}
+use Rattle.text_columns.specs.Columns.{numberAs, numberOf, readStateNumber, readPresent, labelsRead}
 use Rattle.lines.specs.Lines.{arcParts, readArcLine}
 use Rattle.lines.proofs.LineLaws.{drop-take, line-end-is}
 

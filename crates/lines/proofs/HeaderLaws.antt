@@ -13,13 +13,13 @@ use Rattle.automata.specs.Refusal.{form, size}
 use Rattle.automata.specs.Decimal.{decimal}
 use Rattle.automata.specs.Table.{countsFit}
 use Rattle.automata.proofs.AnswerFacts.{refused≢ok, beside-ok, bind-ok, check-ok, forget-beside, refused-map}
-use Rattle.columns.specs.declared.decimal.Number.{Number}
-use Rattle.columns.specs.declared.decimal.Number.the-variants.{Value, Refused}
+use Rattle.text_columns.specs.declared.decimal.Number.{Number}
+use Rattle.text_columns.specs.declared.decimal.Number.the-variants.{Value, Refused}
 use Rattle.memory.specs.declared.answer.Refusal.{Refusal}
 use Rattle.memory.specs.declared.answer.Judged.{Judged}
 use Rattle.memory.specs.declared.answer.Judged.the-variants as judged
 use Rattle.memory.specs.Answers.{refusalNumber, judgedAs}
-use Rattle.columns.specs.Columns.{numberAs, numberOf, readDecimal}
+use Rattle.text_columns.specs.Columns.{numberAs, numberOf, readDecimal}
 use Rattle.lines.specs.Lines.{readHeader, countsJudged}
 use Rattle.lines.proofs.LineLaws.{drop-take, line-end-is}
 use Rattle.lines.proofs.ArcLaws.{forget-left, forget-ok}

@@ -18,11 +18,11 @@ use Rattle.memory.specs.declared.answer.Refusal.{Refusal}
 use Rattle.memory.specs.declared.answer.Judged.{Judged}
 use Rattle.memory.specs.declared.answer.Judged.the-variants.{Fine, Refused}
 use Rattle.memory.specs.declared.record.Weight.{Weight}
-use Rattle.columns.specs.declared.weight.WeightColumn.{WeightColumn}
-use Rattle.columns.specs.declared.weight.WeightColumn.the-variants as column
+use Rattle.text_columns.specs.declared.weight.WeightColumn.{WeightColumn}
+use Rattle.text_columns.specs.declared.weight.WeightColumn.the-variants as column
 use Rattle.memory.specs.Answers.{refusalNumber, judgedAs}
 use Rattle.memory.specs.Records.{stateAs}
-use Rattle.columns.specs.Columns.{weightAs, weightOf, readWeight}
+use Rattle.text_columns.specs.Columns.{weightAs, weightOf, readWeight}
 use Rattle.lines.specs.Lines.{readStateLine}
 
 -- ---- columns of a line

@@ -1,11 +1,11 @@
 // Lines of arcs: source, target, weight, and a label on each tape.
-use columns::decimal::judge_number;
-use columns::decimal::number_of;
-use columns::decimal::Number;
-use columns::decimal::read_state_number;
-use columns::label::judge_labels;
-use columns::label::line_end;
-use columns::weight::read_present;
+use text_columns::decimal::judge_number;
+use text_columns::decimal::number_of;
+use text_columns::decimal::Number;
+use text_columns::decimal::read_state_number;
+use text_columns::label::judge_labels;
+use text_columns::label::line_end;
+use text_columns::weight::read_present;
 use memory::answer::both;
 use memory::answer::Judged;
 use memory::answer::Refusal;
@@ -14,7 +14,7 @@ ghost use Prim.Native.Nat.{_+_, _*_, _≤_};
 ghost use lib.ListN.{length, drop};
 ghost use Rattle.automata.specs.Answer.{forget};
 ghost use Rattle.memory.specs.Answers.{judgedAs};
-ghost use Rattle.columns.specs.Columns.{numberAs};
+ghost use Rattle.text_columns.specs.Columns.{numberAs};
 ghost use Rattle.lines.specs.Lines.{arcParts, arcLineAs, readArcLine, numbersOf, numbersOfLine, firstArc, arcsJudged};
 
 // The parts of an arc line side by side.

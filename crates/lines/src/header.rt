@@ -1,8 +1,8 @@
 // The header of a table: how many tapes, states and arcs it has.
-use columns::decimal::judge_number;
-use columns::decimal::number_of;
-use columns::decimal::read_decimal;
-use columns::label::line_end;
+use text_columns::decimal::judge_number;
+use text_columns::decimal::number_of;
+use text_columns::decimal::read_decimal;
+use text_columns::label::line_end;
 use memory::answer::both;
 use memory::answer::Counts;
 use memory::answer::Judged;

@@ -1,8 +1,8 @@
 // Lines of states: the initial and the final weight.
-use columns::label::line_end;
-use columns::weight::judge_weight;
-use columns::weight::read_weight;
-use columns::weight::weight_of;
+use text_columns::label::line_end;
+use text_columns::weight::judge_weight;
+use text_columns::weight::read_weight;
+use text_columns::weight::weight_of;
 use memory::answer::both;
 use memory::answer::Judged;
 use memory::answer::Refusal;

@@ -16,8 +16,8 @@ use Rattle.memory.specs.Region.{part, splice}
 use Rattle.memory.specs.Endian.{le}
 use Rattle.memory.specs.declared.answer.Counts.{Counts}
 use Rattle.memory.proofs.Laws.{splice-behind, splice-snoc, length-splice, splice-append}
-use Rattle.columns.specs.Columns.{decimalText}
-use Rattle.columns.proofs.WriteLaws.{length-decimal}
+use Rattle.text_columns.specs.Columns.{decimalText}
+use Rattle.text_columns.proofs.WriteLaws.{length-decimal}
 use Rattle.text.specs.Recode.{recoded}
 use Rattle.text.specs.Printed.{weightOfRecord, lineOfState, columnsOfLabel, numbersOfRecord, lineOfArc, headerOf}
 use Rattle.text.proofs.RecodeLaws.{length-recoded}

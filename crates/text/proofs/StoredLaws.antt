@@ -17,8 +17,8 @@ use Rattle.memory.specs.Records.{stateAs, stateBytes}
 use Rattle.memory.specs.declared.record.State.{State}
 use Rattle.memory.proofs.Laws.{splice-append, splice-behind, splice-swap, splice-twice, length-splice}
 use Rattle.memory.proofs.EndianLaws.{length-toLe}
-use Rattle.columns.specs.Columns.{blankCount}
-use Rattle.columns.proofs.LabelLaws.{after-blanks}
+use Rattle.text_columns.specs.Columns.{blankCount}
+use Rattle.text_columns.proofs.LabelLaws.{after-blanks}
 use Rattle.lines.specs.Lines.{stateLineAs, stateLineOf, readStateLine, arcLineAs, numbersOfLine, readArcLine, numbersOf}
 use Rattle.lines.specs.declared.state.StateLine.{StateLine}
 use Rattle.lines.specs.declared.arc.ArcLine.{ArcLine}

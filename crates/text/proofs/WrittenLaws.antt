@@ -40,7 +40,7 @@ use Rattle.memory.specs.Endian.{le, toLe}
 use Rattle.memory.proofs.EndianLaws.{le-toLe}
 use Rattle.memory.proofs.LoadedLaws.{label-bytes}
 use Rattle.memory.proofs.SoundLaws.{few-tapes, few-states, states-lent, arcs-lent}
-use Rattle.columns.specs.Columns.{decimalText}
+use Rattle.text_columns.specs.Columns.{decimalText}
 use Rattle.text.specs.Recode.{recoded}
 use Rattle.text.specs.Printed.{weightOfRecord, lineOfState, columnsOfLabel, numbersOfRecord, lineOfArc, headerOf}
 use Rattle.text.proofs.RecodeLaws.{length-recoded, recoded-take, recoded-all, recoded-copies}

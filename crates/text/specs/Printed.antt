@@ -9,7 +9,7 @@ use Rattle.automata.specs.TableText.{labelColumns, weightColumns, headerLine}
 use Rattle.memory.specs.Region.{part}
 use Rattle.memory.specs.Endian.{le}
 use Rattle.memory.specs.declared.answer.Counts.{Counts}
-use Rattle.columns.specs.Columns.{decimalText}
+use Rattle.text_columns.specs.Columns.{decimalText}
 use Rattle.text.specs.Recode.{recoded}
 
 -- the columns of the weight in a record of 5 bytes

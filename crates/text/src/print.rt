@@ -1,5 +1,5 @@
 // The records of a table, written as the lines of its text.
-use columns::decimal::write_decimal;
+use text_columns::decimal::write_decimal;
 use memory::answer::Counts;
 use memory::bytes::copy_into;
 use memory::bytes::get16;

@@ -1,5 +1,5 @@
 // The lines of a text, stored as the records of a table.
-use columns::weight::leading_blanks;
+use text_columns::weight::leading_blanks;
 use lines::arc::ArcNumbers;
 use lines::arc::numbers_of;
 use lines::arc::read_arc_line;

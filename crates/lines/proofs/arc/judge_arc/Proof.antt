@@ -1,6 +1,6 @@
 -- `lines::arc::judge_arc` meets its contract. Assumes nothing.
 use mathlib.Core.Path.{_≡_, refl, sym, ap, _∙_}
-use Rattle.columns.specs.Columns.{numberAs}
+use Rattle.text_columns.specs.Columns.{numberAs}
 use native.Mathlib.Omega.{arith}
 use denote.Ref.{now}
 use Rattle.lines.proofs.ArcLaws.{arc-judged}
@@ -10,7 +10,7 @@ use Rattle.lines.proofs.arc.judge_arc.Tie as tie
 use Rattle.lines.proofs.arc.judge_arc.Reads as reads
 use Rattle.lines.proofs.arc.judge_arc.Lts as lts
 use Rattle.memory.proofs.answer.both.Reads as both-reads
-use Rattle.columns.proofs.decimal.judge_number.Reads as judge-number-reads
+use Rattle.text_columns.proofs.decimal.judge_number.Reads as judge-number-reads
 
 judge-number-requires : tie.Need-judge-number-requires
 judge-number-requires c κs = search needs

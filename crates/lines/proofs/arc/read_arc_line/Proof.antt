@@ -5,11 +5,11 @@ use Rattle.lines.proofs.arc.read_arc_line.Statement.{statement}
 use Rattle.lines.proofs.arc.read_arc_line.Tie as tie
 use Rattle.lines.proofs.arc.read_arc_line.Reads as reads
 use Rattle.lines.proofs.arc.read_arc_line.Lts as lts
-use Rattle.columns.proofs.decimal.number_of.Reads as number-of-reads
-use Rattle.columns.proofs.decimal.read_state_number.Reads as read-state-number-reads
-use Rattle.columns.proofs.label.judge_labels.Reads as judge-labels-reads
-use Rattle.columns.proofs.label.line_end.Reads as line-end-reads
-use Rattle.columns.proofs.weight.read_present.Reads as read-present-reads
+use Rattle.text_columns.proofs.decimal.number_of.Reads as number-of-reads
+use Rattle.text_columns.proofs.decimal.read_state_number.Reads as read-state-number-reads
+use Rattle.text_columns.proofs.label.judge_labels.Reads as judge-labels-reads
+use Rattle.text_columns.proofs.label.line_end.Reads as line-end-reads
+use Rattle.text_columns.proofs.weight.read_present.Reads as read-present-reads
 use Rattle.lines.proofs.arc.judge_arc.Reads as judge-arc-reads
 
 sub-read-state-number : tie.Need-sub-read-state-number

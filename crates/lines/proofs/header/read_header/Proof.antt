@@ -10,10 +10,10 @@ use Rattle.lines.proofs.header.read_header.Reads as reads
 use Rattle.lines.proofs.header.read_header.Lts as lts
 use Rattle.memory.proofs.answer.both.Reads as both-reads
 use Rattle.lines.proofs.header.judge_counts.Reads as judge-counts-reads
-use Rattle.columns.proofs.decimal.judge_number.Reads as judge-number-reads
-use Rattle.columns.proofs.label.line_end.Reads as line-end-reads
-use Rattle.columns.proofs.decimal.number_of.Reads as number-of-reads
-use Rattle.columns.proofs.decimal.read_decimal.Reads as read-decimal-reads
+use Rattle.text_columns.proofs.decimal.judge_number.Reads as judge-number-reads
+use Rattle.text_columns.proofs.label.line_end.Reads as line-end-reads
+use Rattle.text_columns.proofs.decimal.number_of.Reads as number-of-reads
+use Rattle.text_columns.proofs.decimal.read_decimal.Reads as read-decimal-reads
 
 sub-read-decimal : tie.Need-sub-read-decimal
 sub-read-decimal c = search needs

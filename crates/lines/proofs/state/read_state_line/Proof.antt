@@ -9,10 +9,10 @@ use Rattle.lines.proofs.state.read_state_line.Tie as tie
 use Rattle.lines.proofs.state.read_state_line.Reads as reads
 use Rattle.lines.proofs.state.read_state_line.Lts as lts
 use Rattle.memory.proofs.answer.both.Reads as both-reads
-use Rattle.columns.proofs.weight.judge_weight.Reads as judge-weight-reads
-use Rattle.columns.proofs.label.line_end.Reads as line-end-reads
-use Rattle.columns.proofs.weight.read_weight.Reads as read-weight-reads
-use Rattle.columns.proofs.weight.weight_of.Reads as weight-of-reads
+use Rattle.text_columns.proofs.weight.judge_weight.Reads as judge-weight-reads
+use Rattle.text_columns.proofs.label.line_end.Reads as line-end-reads
+use Rattle.text_columns.proofs.weight.read_weight.Reads as read-weight-reads
+use Rattle.text_columns.proofs.weight.weight_of.Reads as weight-of-reads
 
 sub-read-weight : tie.Need-sub-read-weight
 sub-read-weight c = search needs

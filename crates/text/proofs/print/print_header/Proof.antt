@@ -7,7 +7,7 @@ use Rattle.text.proofs.print.print_header.Statement.{statement}
 use Rattle.text.proofs.print.print_header.Tie as tie
 use Rattle.text.proofs.print.print_header.Reads as reads
 use Rattle.text.proofs.print.print_header.Lts as lts
-use Rattle.columns.proofs.decimal.write_decimal.Reads as write-decimal-reads
+use Rattle.text_columns.proofs.decimal.write_decimal.Reads as write-decimal-reads
 
 write-decimal-requires : tie.Need-write-decimal-requires
 write-decimal-requires c κs = search needs

@@ -9,7 +9,7 @@ use Rattle.text.proofs.print.print_numbers.Statement.{statement}
 use Rattle.text.proofs.print.print_numbers.Tie as tie
 use Rattle.text.proofs.print.print_numbers.Reads as reads
 use Rattle.text.proofs.print.print_numbers.Lts as lts
-use Rattle.columns.proofs.decimal.write_decimal.Reads as write-decimal-reads
+use Rattle.text_columns.proofs.decimal.write_decimal.Reads as write-decimal-reads
 use Rattle.memory.proofs.bytes.get16.Reads as get16-reads
 use Rattle.memory.proofs.bytes.get32.Reads as get32-reads
 

@@ -9,7 +9,7 @@ use Rattle.text.proofs.print.print_weight.Statement.{statement}
 use Rattle.text.proofs.print.print_weight.Tie as tie
 use Rattle.text.proofs.print.print_weight.Reads as reads
 use Rattle.text.proofs.print.print_weight.Lts as lts
-use Rattle.columns.proofs.decimal.write_decimal.Reads as write-decimal-reads
+use Rattle.text_columns.proofs.decimal.write_decimal.Reads as write-decimal-reads
 use Rattle.memory.proofs.bytes.copy_into.Reads as copy-into-reads
 use Rattle.memory.proofs.bytes.get32.Reads as get32-reads
 

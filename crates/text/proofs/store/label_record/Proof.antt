@@ -5,7 +5,7 @@ use Rattle.text.proofs.store.label_record.Statement.{statement}
 use Rattle.text.proofs.store.label_record.Tie as tie
 use Rattle.text.proofs.store.label_record.Reads as reads
 use Rattle.text.proofs.store.label_record.Lts as lts
-use Rattle.columns.proofs.weight.leading_blanks.Reads as leading-blanks-reads
+use Rattle.text_columns.proofs.weight.leading_blanks.Reads as leading-blanks-reads
 use Rattle.memory.proofs.bytes.copy_into.Reads as copy-into-reads
 
 sub-leading-blanks : tie.Need-sub-leading-blanks

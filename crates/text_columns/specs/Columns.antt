@@ -1,0 +1,95 @@
+-- What the answers of a column stand for, and what a list holds that is a column.
+use mathlib.Core.Bool.{Bool}
+use mathlib.Core.Option.{Option, none, some}
+use mathlib.Core.List.{List, [], _∷_}
+use Prim.Native.Nat.{ℕ, suc, _+_, _%_}
+use lib.Dec.{eqb}
+use lib.ListN.{length}
+use Rattle.automata.specs.Lists.{if, sameList}
+use Rattle.automata.specs.Answer.{Answer, ok, refused, check}
+use Rattle.automata.specs.Refusal.{form}
+use Rattle.automata.specs.Format.{readCopies}
+use Rattle.automata.specs.Symbols.{isDigit}
+use Rattle.automata.specs.Decimal.{blank, withDigit, decimal, leading}
+use Rattle.automata.specs.TableFormat.{weightNumber, stateNumber}
+use Rattle.automata.specs.TableText.{absent, weightColumns, labelColumns}
+use Rattle.memory.specs.Answers.{refusalNumber}
+use Rattle.memory.specs.Records.{optionOf}
+use Rattle.memory.specs.declared.record.Weight as WeightD
+use Rattle.memory.specs.declared.record.Weight.the-variants as weight
+use Rattle.text_columns.specs.declared.decimal.Number.{Number}
+use Rattle.text_columns.specs.declared.decimal.Number.the-variants.{Value, Refused}
+use Rattle.text_columns.specs.declared.weight.WeightColumn.{WeightColumn}
+use Rattle.text_columns.specs.declared.weight.WeightColumn.the-variants as column
+
+-- ---- decimal numbers
+
+-- a number, or a refusal
+abbrev pub numberAs : Number → Answer ℕ
+numberAs (Value n) = ok n
+numberAs (Refused r) = refused (refusalNumber r)
+
+-- the number alone, 0 where it is refused
+abbrev pub numberOf : Number → ℕ
+numberOf (Value n) = n
+numberOf (Refused r) = 0
+
+-- the last column of a decimal number
+abbrev pub lastColumn : ℕ → ℕ → Answer ℕ
+lastColumn n c = check (isDigit c) form (withDigit n c)
+
+-- the decimal number that fills a list
+unfoldable pub readDecimal : List ℕ → Answer ℕ
+readDecimal x = decimal (length x) .read x
+
+-- the number of a state, of so many, in the six places of a list
+unfoldable pub readStateNumber : ℕ → List ℕ → Answer ℕ
+readStateNumber states x = stateNumber states (decimal 6) .read x
+
+-- the bytes of a decimal number in w columns, and of what stands before its last digit
+unfoldable pub decimalText : ℕ → ℕ → List ℕ
+decimalText w n = decimal w .write n
+
+unfoldable pub leadingText : ℕ → ℕ → List ℕ
+leadingText w n = leading w .write n
+
+-- the byte of a column before the last
+abbrev pub leadingByte : ℕ → ℕ
+leadingByte n = if (eqb n 0) blank (48 + n % 10)
+
+-- ---- weights
+
+-- how many blanks a list starts with
+unfoldable pub blankCount : List ℕ → ℕ
+blankCount [] = 0
+blankCount (c ∷ x) = let r = suc (blankCount x) in if (eqb c blank) r 0
+
+-- a list is the mark of an absent weight
+unfoldable pub absentMark : List ℕ → Bool
+absentMark x = sameList x absent
+
+-- a weight that is there, and one that may be absent, in the ten places of a list
+unfoldable pub readPresent : List ℕ → Answer ℕ
+readPresent x = weightNumber (decimal 10) .read x
+
+unfoldable pub readWeight : List ℕ → Answer (Option ℕ)
+readWeight x = weightColumns .read x
+
+-- a weight that may be absent, or a refusal
+abbrev pub weightAs : WeightColumn → Answer (Option ℕ)
+weightAs (column.Weight w) = ok (optionOf w)
+weightAs (column.Refused r) = refused (refusalNumber r)
+
+-- the weight alone, absent where it is refused
+abbrev pub weightOf : WeightColumn → WeightD.Weight
+weightOf (column.Weight w) = w
+weightOf (column.Refused r) = weight.Absent
+
+-- ---- labels
+
+-- a label in the nine places of a list, and so many of them
+unfoldable pub readLabel : List ℕ → Answer (List ℕ)
+readLabel x = labelColumns .read x
+
+unfoldable pub labelsRead : ℕ → List ℕ → Answer (List (List ℕ))
+labelsRead tapes x = readCopies labelColumns tapes x

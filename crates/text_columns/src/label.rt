@@ -1,0 +1,55 @@
+// Labels in nine columns, the first of them blank: blanks, then up to eight symbols.
+use crate::weight::leading_blanks;
+use memory::answer::both;
+use memory::answer::Judged;
+use memory::answer::Refusal;
+use memory::judge::all_symbols;
+ghost use mathlib.Core.Path.{_≡_};
+ghost use Prim.Native.Nat.{_*_};
+ghost use lib.ListN.{length};
+ghost use lib.Dec.{eqb};
+ghost use Rattle.automata.specs.Answer.{forget, require};
+ghost use Rattle.automata.specs.Refusal.{form};
+ghost use Rattle.memory.specs.Answers.{judgedAs};
+ghost use Rattle.text_columns.specs.Columns.{readLabel, labelsRead};
+
+// The columns of a label: a blank, blanks, symbols.
+fn judge_label(column: &[u8]) -> Judged
+    requires { ⌜ length (now column) ≡ 9 ⌝ }
+    ensures { λ r. ⌜ judgedAs r ≡ forget (readLabel (now (column .entry))) ⌝ }
+{
+    if column[0] != 32 {
+        return Judged::Refused(Refusal::Form);
+    }
+    let blanks = leading_blanks(column);
+    if all_symbols(&column[blanks..]) {
+        return Judged::Fine;
+    }
+    Judged::Refused(Refusal::Form)
+}
+
+// The labels of an arc on so many tapes.
+pub fn judge_labels(labels: &[u8], tapes: usize) -> Judged
+    requires { ⌜ length (now labels) ≡ tapes * 9 ⌝ }
+    ensures { λ r. ⌜ judgedAs r ≡ forget (labelsRead tapes (now (labels .entry))) ⌝ }
+{
+    let mut judged = Judged::Fine;
+    let mut left = tapes;
+    let mut at = 0;
+    while 0 < left {
+        judged = both(judged, judge_label(&labels[at..at + 9]));
+        left -= 1;
+        at += 9;
+    }
+    judged
+}
+
+// The byte that ends a line.
+pub fn line_end(c: u8) -> Judged
+    ensures { λ r. ⌜ judgedAs r ≡ require (eqb c 10) form ⌝ }
+{
+    if c == 10 {
+        return Judged::Fine;
+    }
+    Judged::Refused(Refusal::Form)
+}
