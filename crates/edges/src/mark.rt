@@ -9,7 +9,7 @@ ghost use lib.ListN.{length, take, drop};
 ghost use Rattle.automata.specs.Lists.{sameList};
 ghost use Rattle.automata.specs.Marks.{coaccessible};
 ghost use Rattle.memory.specs.Region.{part, splice};
-ghost use Rattle.edges.specs.Edges.{edgesAt, recordGraph, Joined};
+ghost use Rattle.edges.specs.Edges.{edgesAt, recordGraph, Joins, Joined};
 ghost use Rattle.edges.specs.Marked.{bits, bools, Bits, visitedMarks, sweptMarks, RoundedMarks};
 
 // The first `count` marks, copied to `scratch`.
@@ -22,7 +22,7 @@ fn keep_marks(marks: &[u8], count: usize, scratch: &mut [u8])
 
 // One edge of a round: its source is marked where its target was before the round.
 fn mark_source(old: &[u8], new: &mut [u8], e: EdgeRecord)
-    requires { ⌜ (e .to .0 < length (now old)) × (e .from .0 < length (now new)) ⌝ }
+    requires { ⌜ Joins (length (now old)) e × Joins (length (now new)) e ⌝ }
     ensures { λ _. ⌜ now (new .exit) ≡ visitedMarks e (now (old .entry)) (now (new .entry)) ⌝ }
 {
     if old[e.to.0 as usize] != 1 {
@@ -79,11 +79,11 @@ pub fn mark_coaccessible(work: &[u8], base: usize, arcs: usize, count: usize, ma
     requires { ⌜ (base + 16 * arcs ≤ length (now work)) × (count ≤ length (now marks)) × (count ≤ length (now scratch)) × Joined count (edgesAt base arcs (now work)) × Bits (take count (now marks)) ⌝ }
     ensures { λ _. ⌜ now (marks .exit) ≡ bits (coaccessible (recordGraph (edgesAt base arcs (now (work .entry)))) (bools (take count (now (marks .entry))))) ++ drop count (now (marks .entry)) ⌝ }
 {
-    let mut left = count;
-    while 0 < left {
+    let mut rounds: usize = count;
+    while 0 < rounds {
         if round_marks(work, base, arcs, count, marks, scratch) {
             return;
         }
-        left -= 1;
+        rounds -= 1;
     }
 }
