@@ -1,6 +1,6 @@
 // Which configurations lead on to a final one: marks, bytes 0 and 1, in rounds over the edges.
-use crate::edge::load_edge;
 use crate::edge::EdgeRecord;
+use crate::edge::load_edge;
 use memory::bytes::copy_into;
 ghost use mathlib.Core.Path.{_≡_};
 ghost use mathlib.Core.List.{_++_};
@@ -64,7 +64,14 @@ fn same_marks(first: &[u8], second: &[u8], count: usize) -> bool
 }
 
 // A round over all edges. Tells whether it left every mark as it was.
-fn round_marks(work: &[u8], base: usize, arcs: usize, count: usize, marks: &mut [u8], scratch: &mut [u8]) -> bool
+fn round_marks(
+    work: &[u8],
+    base: usize,
+    arcs: usize,
+    count: usize,
+    marks: &mut [u8],
+    scratch: &mut [u8],
+) -> bool
     requires { ⌜ (base + 16 * arcs ≤ length (now work)) × (count ≤ length (now marks)) × (count ≤ length (now scratch)) × Joined count (edgesAt base arcs (now work)) ⌝ }
     ensures { λ r. ⌜ RoundedMarks (edgesAt base arcs (now (work .entry))) count r (now (marks .exit)) (now (marks .entry)) ⌝ }
 {
@@ -75,7 +82,14 @@ fn round_marks(work: &[u8], base: usize, arcs: usize, count: usize, marks: &mut 
 
 // The marks of the configurations from which a final one can be reached, from those of the final ones: as many rounds as there are
 // configurations, or until one changes nothing.
-pub fn mark_coaccessible(work: &[u8], base: usize, arcs: usize, count: usize, marks: &mut [u8], scratch: &mut [u8])
+pub fn mark_coaccessible(
+    work: &[u8],
+    base: usize,
+    arcs: usize,
+    count: usize,
+    marks: &mut [u8],
+    scratch: &mut [u8],
+)
     requires { ⌜ (base + 16 * arcs ≤ length (now work)) × (count ≤ length (now marks)) × (count ≤ length (now scratch)) × Joined count (edgesAt base arcs (now work)) × Bits (take count (now marks)) ⌝ }
     ensures { λ _. ⌜ now (marks .exit) ≡ bits (coaccessible (recordGraph (edgesAt base arcs (now (work .entry)))) (bools (take count (now (marks .entry))))) ++ drop count (now (marks .entry)) ⌝ }
 {
