@@ -33,9 +33,12 @@ edgesAt at (suc n) w = edgeAt at w ∷ edgesAt (at + 16) n w
 abbrev pub recordGraph : List EdgeRecord → Graph EdgeRecord
 recordGraph es = record { source = λ e. e .from .0; target = λ e. e .to .0; arcs = es }
 
--- the edges join configurations below n
+-- an edge joins configurations below n, and so do several
+abbrev pub Joins : ℕ → EdgeRecord → Type 0
+Joins n e = (e .from .0 < n) × (e .to .0 < n)
+
 unfoldable pub Joined : ℕ → List EdgeRecord → Type 0
-Joined n es = All (λ e. (e .from .0 < n) × (e .to .0 < n)) es
+Joined n es = All (Joins n) es
 
 -- the record of an edge by its ends and the number of its arc
 abbrev pub recordOf : Edge (ℕ × Arc ℕ) → EdgeRecord

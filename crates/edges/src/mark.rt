@@ -1,6 +1,6 @@
 // Which configurations lead on to a final one: marks, bytes 0 and 1, in rounds over the edges.
-use crate::edge::load_edge;
 use crate::edge::EdgeRecord;
+use crate::edge::load_edge;
 use memory::bytes::copy_into;
 ghost use mathlib.Core.Path.{_≡_};
 ghost use mathlib.Core.List.{_++_};
@@ -9,7 +9,7 @@ ghost use lib.ListN.{length, take, drop};
 ghost use Rattle.automata.specs.Lists.{sameList};
 ghost use Rattle.automata.specs.Marks.{coaccessible};
 ghost use Rattle.memory.specs.Region.{part, splice};
-ghost use Rattle.edges.specs.Edges.{edgesAt, recordGraph, Joined};
+ghost use Rattle.edges.specs.Edges.{edgesAt, recordGraph, Joins, Joined};
 ghost use Rattle.edges.specs.Marked.{bits, bools, Bits, visitedMarks, sweptMarks, RoundedMarks};
 
 // The first `count` marks, copied to `scratch`.
@@ -22,7 +22,7 @@ fn keep_marks(marks: &[u8], count: usize, scratch: &mut [u8])
 
 // One edge of a round: its source is marked where its target was before the round.
 fn mark_source(old: &[u8], new: &mut [u8], e: EdgeRecord)
-    requires { ⌜ (e .to .0 < length (now old)) × (e .from .0 < length (now new)) ⌝ }
+    requires { ⌜ Joins (length (now old)) e × Joins (length (now new)) e ⌝ }
     ensures { λ _. ⌜ now (new .exit) ≡ visitedMarks e (now (old .entry)) (now (new .entry)) ⌝ }
 {
     if old[e.to.0 as usize] != 1 {
@@ -64,7 +64,14 @@ fn same_marks(first: &[u8], second: &[u8], count: usize) -> bool
 }
 
 // A round over all edges. Tells whether it left every mark as it was.
-fn round_marks(work: &[u8], base: usize, arcs: usize, count: usize, marks: &mut [u8], scratch: &mut [u8]) -> bool
+fn round_marks(
+    work: &[u8],
+    base: usize,
+    arcs: usize,
+    count: usize,
+    marks: &mut [u8],
+    scratch: &mut [u8],
+) -> bool
     requires { ⌜ (base + 16 * arcs ≤ length (now work)) × (count ≤ length (now marks)) × (count ≤ length (now scratch)) × Joined count (edgesAt base arcs (now work)) ⌝ }
     ensures { λ r. ⌜ RoundedMarks (edgesAt base arcs (now (work .entry))) count r (now (marks .exit)) (now (marks .entry)) ⌝ }
 {
@@ -75,15 +82,22 @@ fn round_marks(work: &[u8], base: usize, arcs: usize, count: usize, marks: &mut 
 
 // The marks of the configurations from which a final one can be reached, from those of the final ones: as many rounds as there are
 // configurations, or until one changes nothing.
-pub fn mark_coaccessible(work: &[u8], base: usize, arcs: usize, count: usize, marks: &mut [u8], scratch: &mut [u8])
+pub fn mark_coaccessible(
+    work: &[u8],
+    base: usize,
+    arcs: usize,
+    count: usize,
+    marks: &mut [u8],
+    scratch: &mut [u8],
+)
     requires { ⌜ (base + 16 * arcs ≤ length (now work)) × (count ≤ length (now marks)) × (count ≤ length (now scratch)) × Joined count (edgesAt base arcs (now work)) × Bits (take count (now marks)) ⌝ }
     ensures { λ _. ⌜ now (marks .exit) ≡ bits (coaccessible (recordGraph (edgesAt base arcs (now (work .entry)))) (bools (take count (now (marks .entry))))) ++ drop count (now (marks .entry)) ⌝ }
 {
-    let mut left = count;
-    while 0 < left {
+    let mut rounds: usize = count;
+    while 0 < rounds {
         if round_marks(work, base, arcs, count, marks, scratch) {
             return;
         }
-        left -= 1;
+        rounds -= 1;
     }
 }

@@ -1,8 +1,8 @@
 // The records of the result: the states of the marked configurations, and the arcs between them.
 use crate::final_marks::record_place;
 use crate::final_marks::row_plain;
-use edges::edge::load_edge;
 use edges::edge::EdgeRecord;
+use edges::edge::load_edge;
 use memory::bytes::copy_into;
 use memory::bytes::put16;
 ghost use mathlib.Core.Path.{_≡_};
@@ -70,7 +70,14 @@ fn store_arc(e: EdgeRecord, ranks: &[u16], inputs: &[u8], out: &mut [u8], to: us
 }
 
 // The record of an arc if both its ends are marked. Answers how many were written.
-fn put_arc(e: EdgeRecord, marks: &[u8], ranks: &[u16], inputs: &[u8], out: &mut [u8], to: usize) -> usize
+fn put_arc(
+    e: EdgeRecord,
+    marks: &[u8],
+    ranks: &[u16],
+    inputs: &[u8],
+    out: &mut [u8],
+    to: usize,
+) -> usize
     requires { ⌜ (e .from .0 < length (now marks)) × (e .to .0 < length (now marks)) × (length (now marks) ≤ length (now ranks)) × (80 * e .arc + 80 ≤ length (now inputs)) × (to + length (markedArc (now marks) (now ranks) (now inputs) e) ≤ length (now out)) ⌝ }
     ensures { λ r. ⌜ (now (out .exit) ≡ splice to (markedArc (now (marks .entry)) (now (ranks .entry)) (now (inputs .entry)) e) (now (out .entry))) × (r ≡ bit (bothMarks (now (marks .entry)) e)) × (r < 2) ⌝ }
 {
@@ -85,7 +92,15 @@ fn put_arc(e: EdgeRecord, marks: &[u8], ranks: &[u16], inputs: &[u8], out: &mut 
 }
 
 // The arc records of the edges between marked configurations, in their order, over the front of `out`. Answers how many they are.
-pub fn write_arcs(work: &[u8], base: usize, arcs: usize, marks: &[u8], ranks: &[u16], inputs: &[u8], out: &mut [u8]) -> usize
+pub fn write_arcs(
+    work: &[u8],
+    base: usize,
+    arcs: usize,
+    marks: &[u8],
+    ranks: &[u16],
+    inputs: &[u8],
+    out: &mut [u8],
+) -> usize
     requires { ⌜ (base + 16 * arcs ≤ length (now work)) × (length (now marks) ≤ length (now ranks)) × Joined (length (now marks)) (edgesAt base arcs (now work)) × ArcsWithin (length (now inputs)) (edgesAt base arcs (now work)) × (length (keptArcs (now marks) (now ranks) (now inputs) (edgesAt base arcs (now work))) ≤ length (now out)) ⌝ }
     ensures { λ r. ⌜ ArcsWritten (now (marks .entry)) (now (ranks .entry)) (now (inputs .entry)) (edgesAt base arcs (now (work .entry))) r (now (out .exit)) (now (out .entry)) ⌝ }
 {

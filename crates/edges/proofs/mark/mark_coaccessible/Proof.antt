@@ -14,12 +14,12 @@ use Rattle.edges.proofs.mark.mark_coaccessible.Lts as lts
 use Rattle.edges.proofs.mark.round_marks.Reads as round-marks-reads
 
 abbrev Inv-loop : tie.InvT-loop
-Inv-loop work base arcs count marks₀ scratch₀ left₀ marks scratch left =
+Inv-loop work base arcs count marks₀ scratch₀ rounds₀ marks scratch rounds =
     (length marks ≡ length marks₀) × (length scratch ≡ length scratch₀) × (drop count marks ≡ drop count marks₀)
-    × (roundsBytes (edgesAt base arcs work) left (take count marks) ≡ roundsBytes (edgesAt base arcs work) count (take count marks₀))
+    × (roundsBytes (edgesAt base arcs work) rounds (take count marks) ≡ roundsBytes (edgesAt base arcs work) count (take count marks₀))
 
 abbrev μ-loop : tie.MeasureT-loop
-μ-loop work base arcs count marks₀ scratch₀ left₀ marks scratch left = left
+μ-loop work base arcs count marks₀ scratch₀ rounds₀ marks scratch rounds = rounds
 
 loop-holds : tie.Need-loop-holds Inv-loop μ-loop
 loop-holds c = (refl, refl, refl, refl)
@@ -41,10 +41,10 @@ returns c =
     let s = c .before .before .before .before .before .before .before .before .before .before .before .before .before in
     let a = s .args in
     let l = c .before .before .before .before .before .before .before .before .before .loop in
-    rounds-still (edgesAt (a .base) (a .arcs) (now (a .work))) (a .count) (l .left) _ _ _ (now (a .marks)) (c .if1 .taken) (c .before .before .before .before .before .round-marks .ensures) (s .pre .1) (s .pre .4) (l .inv .2) (l .inv .3)
+    rounds-still (edgesAt (a .base) (a .arcs) (now (a .work))) (a .count) (l .rounds) _ _ _ (now (a .marks)) (c .if1 .taken) (c .before .before .before .before .before .round-marks .ensures) (s .pre .1) (s .pre .4) (l .inv .2) (l .inv .3)
 
-sub-left : tie.Need-sub-left Inv-loop μ-loop
-sub-left c = search needs
+sub-rounds : tie.Need-sub-rounds Inv-loop μ-loop
+sub-rounds c = search needs
 
 loop-less : tie.Need-loop-less Inv-loop μ-loop
 loop-less c = search needs
@@ -57,7 +57,7 @@ loop-again c =
       r .kept .1 .1 .1 .1 .0 ∙ l .inv .0,
       r .kept .1 .1 .1 .1 .1 .0 ∙ l .inv .1,
       r .ensures .rest ∙ l .inv .2,
-      rounds-turn (edgesAt (a .base) (a .arcs) (now (a .work))) (a .count) (l .left) (l .left - 1) _ _ _ (now (a .marks)) (omega (arith, c .before .before .before .before .before .before .before .before .loop-test .taken)) (r .ensures) (l .inv .3),
+      rounds-turn (edgesAt (a .base) (a .arcs) (now (a .work))) (a .count) (l .rounds) (l .rounds - 1) _ _ _ (now (a .marks)) (omega (arith, c .before .before .before .before .before .before .before .before .loop-test .taken)) (r .ensures) (l .inv .3),
     )
 
 same-length-3 : tie.Need-same-length-3 Inv-loop μ-loop
@@ -71,7 +71,7 @@ returns-2 c =
     let s = c .before .before .before .before .before in
     let a = s .args in
     let l = c .before .loop in
-    rounds-end (edgesAt (a .base) (a .arcs) (now (a .work))) (a .count) (l .left) _ (now (a .marks)) (omega (arith, c .loop-test .left)) (s .pre .1) (s .pre .4) (l .inv .2) (l .inv .3)
+    rounds-end (edgesAt (a .base) (a .arcs) (now (a .work))) (a .count) (l .rounds) _ (now (a .marks)) (omega (arith, c .loop-test .left)) (s .pre .1) (s .pre .4) (l .inv .2) (l .inv .3)
 
 pub mark-coaccessible-spec : {M : Type 1} → statement M
 mark-coaccessible-spec =
@@ -84,7 +84,7 @@ mark-coaccessible-spec =
     same-length
     same-length-2
     returns
-    sub-left
+    sub-rounds
     loop-less
     loop-again
     same-length-3

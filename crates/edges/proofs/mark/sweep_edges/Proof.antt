@@ -33,7 +33,7 @@ mark-source-requires c κs =
     let l = c .before .before .before .loop in
     let j = joined-turn _ _ (l .left) (l .left - 1) _ _ (omega (arith, c .before .before .loop-test .taken)) (c .before .load-edge .ensures) (l .inv .2) in
     let p = c .before .before .before .before .before .before .before .pre in
-    (omega (arith, j .0 .1, p .1), omega (arith, j .0 .0, p .2, l .inv .1))
+    ((omega (arith, j .0 .0, p .1), omega (arith, j .0 .1, p .1)), (omega (arith, j .0 .0, p .2, l .inv .1), omega (arith, j .0 .1, p .2, l .inv .1)))
 
 add-from : tie.Need-add-from Inv-loop μ-loop
 add-from c = search needs
