@@ -11,6 +11,7 @@ use lib.Seq.{set-getD, take-set-lt, drop-set-lt, getD-take, take-at, length-take
 use Rattle.automata.specs.Lists.{if, or, sameList}
 use Rattle.automata.specs.Rounds.{visit, sweep, round, iterate}
 use Rattle.automata.specs.Marks.{mark, marked, coaccessible}
+use Rattle.automata.proofs.RoundFacts.{iterate-inner, iterate-still}
 use Rattle.automata.proofs.TestFacts.{eqb-false, T-true, sameList→eq}
 use Rattle.memory.specs.Region.{part, splice}
 use Rattle.memory.proofs.Laws.{part-suc, part-zero, splice-front, length-part}
@@ -128,16 +129,6 @@ pub same-end : (i left : ℕ) (xs ys : List ℕ) → left ≡ 0 → true ≡ sam
 same-end i left xs ys s = rw (s, part-zero i xs, part-zero i ys)
 
 -- ---- the rounds
-
--- f applied first, and then n times
-iterate-inner : {X : Type 0} (n : ℕ) (f : X → X) (x : X) → iterate (suc n) f x ≡ iterate n f (f x)
-iterate-inner zero f x = refl
-iterate-inner (suc n) f x = ap f (iterate-inner n f x)
-
--- f that changes nothing
-iterate-still : {X : Type 0} (n : ℕ) (f : X → X) (x : X) → f x ≡ x → iterate n f x ≡ x
-iterate-still zero f x e = refl
-iterate-still (suc n) f x e = ap f (iterate-still n f x e) ∙ e
 
 -- the first n bytes after k rounds
 abbrev pub roundsBytes : List EdgeRecord → ℕ → List ℕ → List ℕ
