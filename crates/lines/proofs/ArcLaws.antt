@@ -1,8 +1,7 @@
 -- Laws of the line of an arc.
-use mathlib.Core.Path.{_≡_, refl, sym, ap, ap₂, _∙_}
-use mathlib.Core.Bool.{Bool, true, false}
-use mathlib.Core.List.{List, [], _∷_, _++_}
-use Prim.Native.Nat.{ℕ, zero, suc, _+_, _-_, _*_, _≤_, _<_, min}
+use mathlib.Core.Path.{_≡_, refl, sym, ap, _∙_}
+use mathlib.Core.List.{List}
+use Prim.Native.Nat.{ℕ, _+_, _-_, _*_}
 use native.Mathlib.Omega.{arith}
 use lib.Dec.{eqb}
 use lib.ListN.{length, take, drop, getD}
@@ -10,7 +9,6 @@ use lib.Seq.{drop-drop, take-take}
 use Rattle.automata.specs.Automaton.{Arc}
 use Rattle.automata.specs.Answer.{_>>=_, Answer, ok, refused, require, beside, forget}
 use Rattle.automata.specs.Refusal.{form}
-use Rattle.automata.specs.TableText.{arcLine}
 use Rattle.automata.proofs.AnswerFacts.{refused≢ok, beside-ok, forget-beside, forget-unit, forget-map, refused-map}
 use Rattle.text_columns.specs.declared.decimal.Number.{Number}
 use Rattle.text_columns.specs.declared.decimal.Number.the-variants.{Value, Refused}

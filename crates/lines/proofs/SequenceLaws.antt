@@ -1,18 +1,15 @@
 -- Laws of lines that are judged one after the other.
-use mathlib.Core.Path.{_≡_, refl, sym, ap, ap₂, _∙_}
+use mathlib.Core.Path.{_≡_, refl, sym, ap, _∙_}
 use mathlib.Core.Bool.{Bool, true, false}
-use mathlib.Core.List.{List, [], _∷_}
-use Prim.Native.Nat.{ℕ, zero, suc, _+_, _-_, _*_, _≤_, _<_}
+use mathlib.Core.List.{List}
+use Prim.Native.Nat.{ℕ, _+_, _-_, _*_, _≤_, _<_}
 use native.Mathlib.Omega.{arith}
-use native.Mathlib.Nat.{zero-mul}
 use lib.Dec.{leb}
-use lib.ListN.{length, take, drop, length-drop}
-use lib.Seq.{drop-drop}
-use borrow.Author.Tests.{le-leb, lt-leb, leb-true}
+use lib.ListN.{length, take, drop}
 use Rattle.automata.specs.Answer.{_>>=_, Answer, ok, refused, require, forget}
 use Rattle.automata.specs.Refusal.{short}
 use Rattle.automata.specs.Format.{Format}
-use Rattle.automata.specs.Sequence.{readFirst, readMany}
+use Rattle.automata.specs.Sequence.{readFirst}
 use Rattle.automata.specs.TableText.{stateLine, arcLine}
 use Rattle.automata.proofs.AnswerFacts.{refused≢ok, forget-map}
 use Rattle.memory.specs.Answers.{refusalNumber, judgedAs}

@@ -1,21 +1,21 @@
 -- Laws of records that are written as lines.
 use mathlib.Core.Path.{_≡_, refl, sym, ap, ap₂, _∙_}
-use mathlib.Core.Bool.{Bool, true, false}
+use mathlib.Core.Bool.{Bool}
 use mathlib.Core.Option.{Option, none, some}
 use mathlib.Core.List.{List, [], _∷_, _++_, append-assoc, append-nil}
 use Prim.Native.Nat.{ℕ, zero, suc, _+_, _-_, _*_, _≤_, _<_, min}
 use native.Mathlib.Omega.{arith}
 use native.Mathlib.Nat.{zero-min, min-zero, suc-min-suc}
 use lib.Dec.{eqb}
-use lib.ListN.{length, take, drop, getD, set, replicate, length-append, length-drop, length-take, length-replicate, take-append-drop}
-use lib.Seq.{drop-drop, take-all, take-take, length-take-le, take-length}
+use lib.ListN.{length, take, drop, getD, set, replicate, length-append, length-drop, length-take, length-replicate}
+use lib.Seq.{take-all, length-take-le}
 use borrow.Author.Tests.{eq-eqb, ne-eqb}
 use Rattle.automata.specs.Lists.{if}
 use Rattle.automata.specs.TableText.{absent, blanks, labelColumns, weightColumns, headerLine}
 use Rattle.memory.specs.Region.{part, splice}
 use Rattle.memory.specs.Endian.{le}
 use Rattle.memory.specs.declared.answer.Counts.{Counts}
-use Rattle.memory.proofs.Laws.{splice-behind, splice-snoc, length-splice, splice-append}
+use Rattle.memory.proofs.Laws.{splice-behind, splice-snoc}
 use Rattle.text_columns.specs.Columns.{decimalText}
 use Rattle.text_columns.proofs.WriteLaws.{length-decimal}
 use Rattle.text.specs.Recode.{recoded}

@@ -1,7 +1,7 @@
 -- Laws of the call `read`: what was judged and stored is the outcome of its definition.
-use mathlib.Core.Path.{_≡_, refl, sym, ap, ap₂, subst, _∙_}
-use mathlib.Core.List.{List, [], _∷_, _++_, append-assoc}
-use Prim.Native.Nat.{ℕ, zero, suc, _+_, _-_, _*_, _/_, _≤_, _<_}
+use mathlib.Core.Path.{_≡_, sym, ap, ap₂, subst, _∙_}
+use mathlib.Core.List.{List, [], _∷_}
+use Prim.Native.Nat.{ℕ, _+_, _*_, _/_, _≤_}
 use native.Mathlib.Omega.{arith}
 use lib.Dec.{leb}
 use lib.ListN.{length, take, drop, length-drop}
@@ -17,7 +17,7 @@ use Rattle.automata.specs.Decimal.{decimal}
 use Rattle.automata.specs.TableFormat.{stateNumber, weightNumber, arcFormat}
 use Rattle.automata.specs.Sequence.{readFirst, readMany}
 use Rattle.automata.specs.TableText.{afterBlanks, labelColumns, isEmpty, headerLine, stateLine, arcLine, readTable}
-use Rattle.automata.specs.Memory.{labelRecord, stateRecord, arcRecord, zeros, encodeStates, encodeArcs}
+use Rattle.automata.specs.Memory.{labelRecord, stateRecord, arcRecord, encodeStates, encodeArcs}
 use Rattle.automata.specs.Calls.Outcome.{slicesOf, madeOf, overwrite, put, countsOf, TableCounts}
 use Rattle.automata.specs.Calls.Read.{readAnswer, readOutcome}
 use Rattle.automata.proofs.AnswerFacts.{refused≢ok, bind-ok, beside-ok, require-ok, check-ok}

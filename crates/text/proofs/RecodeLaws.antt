@@ -1,12 +1,12 @@
 -- Laws of parts that are written one after the other in another form.
 use mathlib.Core.Path.{_≡_, refl, sym, ap, ap₂, _∙_}
-use mathlib.Core.List.{List, [], _∷_, _++_, append-assoc}
+use mathlib.Core.List.{List, [], _∷_, _++_}
 use Prim.Native.Nat.{ℕ, zero, suc, _+_, _-_, _*_, _≤_, _<_}
 use native.Mathlib.Omega.{arith}
 use native.Mathlib.Nat.{zero-mul, suc-mul, add-comm}
-use lib.ListN.{length, take, drop, length-append, length-drop, drop-of-length-le}
+use lib.ListN.{length, take, drop, length-append, length-drop}
 use lib.Seq.{drop-drop, length-take-le, take-take}
-use Rattle.automata.specs.Answer.{_>>=_, Answer, ok, refused, beside}
+use Rattle.automata.specs.Answer.{_>>=_, ok, beside}
 use Rattle.automata.specs.Records.{writeAll}
 use Rattle.automata.specs.Format.{Format, readCopies}
 use Rattle.automata.specs.Sequence.{readFirst, readMany, readAll}

@@ -1,14 +1,12 @@
 -- Laws of lines that are stored as records.
 use mathlib.Core.Path.{_≡_, refl, sym, ap, ap₂, _∙_}
 use mathlib.Core.Option.{Option, none, some}
-use mathlib.Core.List.{List, [], _∷_, _++_, append-assoc}
-use Prim.Native.Nat.{ℕ, zero, suc, _+_, _-_, _*_, _≤_, _<_}
+use mathlib.Core.List.{List, _∷_, _++_}
+use Prim.Native.Nat.{ℕ, zero, suc, _+_, _-_, _*_, _≤_}
 use native.Mathlib.Omega.{arith}
-use native.Mathlib.Nat.{suc-add}
 use lib.ListN.{length, take, drop, set, replicate, length-append, length-drop, length-replicate, take-append-drop}
-use lib.Seq.{drop-drop, take-all, drop-nil, length-take-le}
+use lib.Seq.{drop-drop, take-all, length-take-le}
 use Rattle.automata.specs.Automaton as automata
-use Rattle.automata.specs.Records.{writeAll}
 use Rattle.automata.specs.Memory.{weightRecord, stateRecord, labelRecord, zeros}
 use Rattle.automata.specs.TableText.{afterBlanks}
 use Rattle.memory.specs.Region.{splice}
@@ -16,7 +14,7 @@ use Rattle.memory.specs.Endian.{toLe}
 use Rattle.memory.specs.Records.{stateAs, stateBytes}
 use Rattle.memory.specs.declared.record.State.{State}
 use Rattle.memory.proofs.Laws.{splice-append, splice-behind, splice-swap, splice-twice, length-splice}
-use Rattle.memory.proofs.EndianLaws.{length-toLe}
+use Rattle.memory.proofs.LoadedLaws.{label-bytes}
 use Rattle.text_columns.specs.Columns.{blankCount}
 use Rattle.text_columns.proofs.LabelLaws.{after-blanks}
 use Rattle.lines.specs.Lines.{stateLineAs, stateLineOf, readStateLine, arcLineAs, numbersOfLine, readArcLine, numbersOf}
@@ -46,22 +44,12 @@ state-sized x e = length-append (weightRecord .write (s .initial)) (weightRecord
     s : automata.State ℕ
     s = stateLineOf (readStateLine x)
 
-
 -- ---- a label
-
--- places written one by one
-places : (xs : List ℕ) → writeAll (λ (b : ℕ). b ∷ []) xs ≡ xs
-places [] = refl
-places (x ∷ xs) = ap (λ (l : List ℕ). x ∷ l) (places xs)
 
 drop-replicate : (k n v : ℕ) → drop k (replicate n v) ≡ replicate (n - k) v
 drop-replicate zero n v = let e : n - 0 ≡ n = omega arith in rw e
 drop-replicate (suc k) zero v = let e : 0 - suc k ≡ 0 = omega arith in rw e
 drop-replicate (suc k) (suc n) v = let e : suc n - suc k ≡ n - k = omega arith in rw e (drop-replicate k n v)
-
--- the record of a label: its length, its symbols, zeros
-label-bytes : (l : List ℕ) → labelRecord .write l ≡ length l ∷ (l ++ zeros (8 - length l))
-label-bytes l = ap (λ (y : List ℕ). length l ∷ y) (places (l ++ zeros (8 - length l)))
 
 module _ (x : List ℕ) (h : length x ≡ 9) (b : ℕ) (e : b ≡ blankCount (take 8 (drop 1 x))) (g : b ≤ length (take 8 (drop 1 x))) where
   columns-eight : length (drop 1 x) ≡ 8

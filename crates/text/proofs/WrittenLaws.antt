@@ -1,8 +1,8 @@
 -- Laws of the call `write`: the lines that were printed are the text of the table.
-use mathlib.Core.Path.{_≡_, refl, sym, ap, ap₂, subst, _∙_}
+use mathlib.Core.Path.{_≡_, refl, sym, ap, ap₂, _∙_}
 use mathlib.Core.Option.{Option, none, some}
 use mathlib.Core.List.{List, [], _∷_, _++_, append-assoc}
-use Prim.Native.Nat.{ℕ, zero, suc, _+_, _-_, _*_, _^_, _≤_, _<_}
+use Prim.Native.Nat.{ℕ, _+_, _-_, _*_, _≤_, _<_}
 use native.Mathlib.Omega.{arith}
 use native.Mathlib.Nat.{mul-le-mul}
 use borrow.Author.Tests.{le-leb, lt-leb}
@@ -10,7 +10,7 @@ use lib.ListN.{length, take, drop, getD, length-append, length-drop}
 use lib.Seq.{take-at, length-take-le}
 use Rattle.automata.specs.Lists.{Each}
 use Rattle.automata.specs.Automaton.{State, Arc, Automaton}
-use Rattle.automata.specs.Answer.{_>>=_, Answer, ok, refused, beside, forget}
+use Rattle.automata.specs.Answer.{Answer, ok, refused, beside, forget}
 use Rattle.automata.specs.Refusal.{size}
 use Rattle.automata.specs.Records.{writeAll}
 use Rattle.automata.specs.Sequence.{readAll}

@@ -1,6 +1,7 @@
 // The text of a table: read into the records of a table in memory, and written from them.
 pub mod print;
 pub mod store;
+
 use crate::print::write_table;
 use crate::store::store_arcs;
 use crate::store::store_states;

@@ -147,5 +147,11 @@ pub fn write_table(counts: Counts, states: &[u8], arcs: &[u8], output: &mut [u8]
 {
     print_header(counts, output);
     print_states(states, counts.states, output, 16);
-    print_arcs(arcs, counts.arcs, counts.tapes, output, 16 + counts.states * 21);
+    print_arcs(
+        arcs,
+        counts.arcs,
+        counts.tapes,
+        output,
+        16 + counts.states * 21,
+    );
 }

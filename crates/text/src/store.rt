@@ -102,7 +102,14 @@ fn store_arc_line(line: &[u8], tapes: usize, states: usize, arcs: &mut [u8], at:
 }
 
 // The records of so many arc lines from a place of a text.
-pub fn store_arcs(text: &[u8], start: usize, count: usize, tapes: usize, states: usize, arcs: &mut [u8])
+pub fn store_arcs(
+    text: &[u8],
+    start: usize,
+    count: usize,
+    tapes: usize,
+    states: usize,
+    arcs: &mut [u8],
+)
     requires { ⌜ ((start + count * (23 + tapes * 9) ≤ length (now text)) × (states ≤ 1024)) × ((tapes ≤ 8) × (count * 80 ≤ length (now arcs))) ⌝ }
     ensures { λ _. ⌜ now (arcs .exit) ≡ splice 0 (recoded (arcOfLine tapes states) (23 + tapes * 9) count (drop start (now (text .entry)))) (now (arcs .entry)) ⌝ }
 {

@@ -1,12 +1,13 @@
 // One case: a text that is read, or a table that is written, and the line that is printed of it.
 use memory::answer::Counts;
 use memory::answer::Refusal;
-use memory::answer::refusal_number;
 use memory::answer::TableAnswer;
+use memory::answer::refusal_number;
 use text::WriteAnswer;
 
 // Document 01's example.
-const EXAMPLE: [u8; 119] = *b"  2     1     2\n         0         5\n     0     0         2        A        A\n     0     0         3        B        C\n";
+const EXAMPLE: [u8; 119] =
+    *b"  2     1     2\n         0         5\n     0     0         2        A        A\n     0     0         3        B        C\n";
 
 // A blank and a number.
 fn print_number(n: usize) {

@@ -1,22 +1,21 @@
 -- Laws of the columns of a decimal number, read from the left.
-use mathlib.Core.Path.{_≡_, refl, sym, ap, ap₂, _∙_}
+use mathlib.Core.Path.{_≡_, refl, sym, ap, _∙_}
 use mathlib.Core.Bool.{Bool, true, false}
 use mathlib.Core.List.{List, [], _∷_, _++_}
-use Prim.Native.Nat.{ℕ, zero, suc, _+_, _-_, _*_, _^_, _≤_, _<_}
+use Prim.Native.Nat.{ℕ, zero, suc, _+_, _-_, _^_, _≤_, _<_}
 use native.Mathlib.Omega.{arith}
 use native.Mathlib.Numerals.{add-one}
 use native.Mathlib.Nat.{pow-le-pow-right}
-use lib.Dec.{T, leb, ltb, eqb, lit<}
-use lib.ListN.{length, take, drop, getD, length-take, length-drop, take-append-drop, drop-of-length-le}
-use lib.Seq.{drop-cons, take-suc, take-all, length-take-le, drop-length, take-take, take-length, getD-take}
-use borrow.Author.Tests.{eq-eqb, ne-eqb, le-leb, lt-leb, leb-true}
+use lib.Dec.{leb, eqb, lit<}
+use lib.ListN.{length, take, drop, getD, drop-of-length-le}
+use lib.Seq.{drop-cons, take-suc, take-all, length-take-le}
+use borrow.Author.Tests.{ne-eqb, le-leb, leb-true}
 use Rattle.automata.specs.Lists.{and, if}
 use Rattle.automata.specs.Answer.{_>>=_, Answer, ok, refused, check, beside}
 use Rattle.automata.specs.Refusal.{form}
-use Rattle.automata.specs.Format.{place}
 use Rattle.automata.specs.Symbols.{isDigit}
 use Rattle.automata.specs.Decimal.{withDigit, leadingColumn, leading, decimal}
-use Rattle.automata.proofs.TestFacts.{and-true, true-T}
+use Rattle.automata.proofs.TestFacts.{and-true}
 use Rattle.automata.proofs.NumberLaws.{leadingColumn-only}
 use Rattle.memory.specs.declared.answer.Refusal.{Refusal}
 use Rattle.text_columns.specs.declared.decimal.Number.{Number}

@@ -1,18 +1,16 @@
 -- Laws of labels, and of the number of a state.
-use mathlib.Core.Path.{_≡_, refl, sym, ap, ap₂, _∙_}
+use mathlib.Core.Path.{_≡_, refl, sym, ap, _∙_}
 use mathlib.Core.Bool.{Bool, true, false}
-use mathlib.Core.List.{List, [], _∷_, _++_}
-use Prim.Native.Nat.{ℕ, zero, suc, _+_, _-_, _*_, _≤_, _<_, min}
+use mathlib.Core.List.{List, [], _∷_}
+use Prim.Native.Nat.{ℕ, zero, suc, _+_, _-_, _≤_, _<_}
 use native.Mathlib.Omega.{arith}
-use native.Mathlib.Numerals.{add-one}
-use lib.Dec.{leb, ltb, eqb}
-use lib.ListN.{length, take, drop, getD, drop-of-length-le, length-drop}
-use lib.Seq.{take-all, drop-cons, drop-drop}
-use borrow.Author.Tests.{eq-eqb, ne-eqb, le-leb, lt-leb, lt-ltb, le-ltb}
-use Rattle.automata.specs.Lists.{and, or, if, all}
+use lib.Dec.{ltb, eqb}
+use lib.ListN.{length, take, drop, getD, length-drop}
+use lib.Seq.{take-all, drop-drop}
+use borrow.Author.Tests.{eq-eqb, ne-eqb, lt-ltb, le-ltb}
+use Rattle.automata.specs.Lists.{and, if, all}
 use Rattle.automata.specs.Answer.{_>>=_, Answer, ok, refused, check, require, beside, forget}
 use Rattle.automata.specs.Refusal.{form}
-use Rattle.automata.specs.Symbols.{isDigit}
 use Rattle.automata.specs.Decimal.{decimal}
 use Rattle.automata.specs.Symbols.{isSymbol}
 use Rattle.automata.specs.TableText.{afterBlanks}

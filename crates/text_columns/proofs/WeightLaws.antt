@@ -1,17 +1,17 @@
 -- Laws of the columns of a weight.
-use mathlib.Core.Path.{_≡_, refl, sym, ap, ap₂, subst, _∙_}
+use mathlib.Core.Path.{_≡_, refl, sym, ap, ap₂, _∙_}
 use mathlib.Core.Bool.{Bool, true, false}
-use mathlib.Core.Option.{Option, none, some}
+use mathlib.Core.Option.{none, some}
 use mathlib.Core.List.{List, [], _∷_, _++_}
-use Prim.Native.Nat.{ℕ, zero, suc, _+_, _-_, _≤_, _<_}
+use Prim.Native.Nat.{ℕ, suc, _+_, _≤_, _<_}
 use native.Mathlib.Omega.{arith}
 use native.Mathlib.Numerals.{add-one}
-use lib.Dec.{T, leb, eqb}
+use lib.Dec.{leb, eqb}
 use lib.ListN.{length, take, drop, getD, replicate, drop-of-length-le}
 use lib.Seq.{drop-cons}
 use borrow.Author.Tests.{eq-eqb, ne-eqb, le-leb, lt-leb, eqb-true}
-use Rattle.automata.specs.Lists.{and, if, sameList}
-use Rattle.automata.specs.Answer.{_>>=_, Answer, ok, refused, check}
+use Rattle.automata.specs.Lists.{if, sameList}
+use Rattle.automata.specs.Answer.{_>>=_, ok, refused, check}
 use Rattle.automata.specs.Decimal.{decimal}
 use Rattle.automata.specs.TableText.{absent}
 use Rattle.automata.proofs.TestFacts.{T-false, sameList→eq}
@@ -19,7 +19,7 @@ use Rattle.memory.specs.Answers.{refusalNumber}
 use Rattle.memory.specs.declared.answer.Refusal.{Refusal}
 use Rattle.text_columns.specs.declared.decimal.Number.{Number}
 use Rattle.text_columns.specs.declared.decimal.Number.the-variants.{Value, Refused}
-use Rattle.text_columns.specs.Columns.{numberAs, readDecimal, blankCount, absentMark, readPresent, readWeight, weightAs}
+use Rattle.text_columns.specs.Columns.{numberAs, readDecimal, blankCount, absentMark, readPresent, readWeight}
 use Rattle.text_columns.proofs.ColumnLaws.{snoc-of}
 
 -- ---- blanks, counted from the left

@@ -1,8 +1,8 @@
 // Labels in nine columns, the first of them blank: blanks, then up to eight symbols.
 use crate::weight::leading_blanks;
-use memory::answer::both;
 use memory::answer::Judged;
 use memory::answer::Refusal;
+use memory::answer::both;
 use memory::judge::all_symbols;
 ghost use mathlib.Core.Path.{_≡_};
 ghost use Prim.Native.Nat.{_*_};

@@ -29,27 +29,27 @@ refused-by-requires c κs = search needs
 
 returns : tie.Need-returns
 returns c = let s = c .before .before .before .before .before .before .before in
-    let m = lent (s .args .counts) (now (s .args .states)) (now (s .args .arcs)) in 
+    let m = lent (s .args .counts) (now (s .args .states)) (now (s .args .arcs)) in
     let j = c .before .before .before .judge in
     write-refused m _ (j .result) _ (c .refused-by .result) (j .ensures) (c .before .enum-told2 .given .1) (c .refused-by .ensures)
 
 text-length-requires : tie.Need-text-length-requires
 text-length-requires c κs = let s = c .before .before .before .before .before .before in
-    let m = lent (s .args .counts) (now (s .args .states)) (now (s .args .arcs)) in 
+    let m = lent (s .args .counts) (now (s .args .states)) (now (s .args .arcs)) in
     let j = c .before .before .judge in
     let d = judged-sound m (j .result) (j .ensures) (c .enum-told .given .1) in
     (few-tapes m d, (few-states m d, few-arcs m d))
 
 returns-2 : tie.Need-returns-2
 returns-2 c = let s = c .before .before .before .before .before .before .before .before in
-    let m = lent (s .args .counts) (now (s .args .states)) (now (s .args .arcs)) in 
+    let m = lent (s .args .counts) (now (s .args .states)) (now (s .args .arcs)) in
     let j = c .before .before .before .before .judge in
     let d = judged-sound m (j .result) (j .ensures) (c .before .before .enum-told .given .1) in
     write-short m _ d (omega (arith, c .if1 .taken, c .before .text-length .ensures))
 
 write-table-requires : tie.Need-write-table-requires
 write-table-requires c κs = let s = c .before .before .before .before .before .before .before .before .before in
-    let m = lent (s .args .counts) (now (s .args .states)) (now (s .args .arcs)) in 
+    let m = lent (s .args .counts) (now (s .args .states)) (now (s .args .arcs)) in
     let j = c .before .before .before .before .before .judge in
     let d = judged-sound m (j .result) (j .ensures) (c .before .before .before .enum-told .given .1) in
     (d, omega (arith, c .before .if1 .left, c .before .before .text-length .ensures))
@@ -59,7 +59,7 @@ same-length c = search needs
 
 returns-3 : tie.Need-returns-3
 returns-3 c = let s = c .before .before .before .before .before .before .before .before .before .before .before .before in
-    let m = lent (s .args .counts) (now (s .args .states)) (now (s .args .arcs)) in 
+    let m = lent (s .args .counts) (now (s .args .states)) (now (s .args .arcs)) in
     let j = c .before .before .before .before .before .before .before .before .judge in
     let d = judged-sound m (j .result) (j .ensures) (c .before .before .before .before .before .before .enum-told .given .1) in
     write-done m _ d _ _ (c .before .before .before .before .before .text-length .ensures) (c .before .before .before .before .if1 .left) (c .before .before .write-table .ensures)
