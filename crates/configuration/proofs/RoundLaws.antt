@@ -170,7 +170,7 @@ decided {s = s} {t = t} {x = x} {y = y} {u = u} {v = v} ds dt f b = go (s x y) (
     go false true e k = absurd (false≢true (sym e ∙ ap (s x) (sym (b (dt .sound u v k))) ∙ ds .complete x))
 
 module _ (used : ℕ) (c d : Config) (g : GoodConfig used c) (h : GoodConfig used d) where
-  all-leftovers : (e : Config) → GoodConfig used e → map leftoverOf (configAs used e .leftovers) ++ replicate (4 - used) blank ≡ e .leftovers
+  pub all-leftovers : (e : Config) → GoodConfig used e → map leftoverOf (configAs used e .leftovers) ++ replicate (4 - used) blank ≡ e .leftovers
   all-leftovers e k =
       ap₂ (λ (x y : List Leftover). x ++ y) (leftovers-form (take used (e .leftovers)) (All-take Good used (e .leftovers) (k .each))) (sym (k .blanks))
       ∙ take-append-drop used (e .leftovers)
