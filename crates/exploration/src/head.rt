@@ -6,20 +6,20 @@ ghost use Rattle.configuration.specs.Configs.{GoodConfig};
 ghost use Rattle.rows.specs.Find.{entry, enterOf};
 ghost use Rattle.exploration.specs.Searching.{rowBytes, keptEdge, counted, Arrivable, Arrives, Visitable, Visits, Takable, TakesUp};
 ghost use Rattle.exploration.specs.Starting.{Admittable, Admits, Startable, Enters};
+use crate::offer::Kind;
 use crate::offer::offer;
 use crate::offer::viable_config;
-use crate::offer::Kind;
 use crate::plan::Plan;
+use configuration::config::Config;
 use configuration::config::load_config;
 use configuration::config::start_config;
 use configuration::config::store_config;
-use configuration::config::Config;
-use edges::edge::store_edge;
 use edges::edge::EdgeRecord;
+use edges::edge::store_edge;
 use memory::record::InputState;
 use memory::record::ResultState;
-use rows::enter;
 use rows::Entered;
+use rows::enter;
 use workspace::room::Room;
 
 // How many configurations were taken up and how many reached, how many arcs there are between them, whether a step was too long, and whether

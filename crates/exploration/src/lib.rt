@@ -1,5 +1,5 @@
 // The search over the configurations of the auto-intersection that are reached, in work space.
-pub mod plan;
-pub mod offer;
-pub mod head;
 pub mod explore;
+pub mod head;
+pub mod offer;
+pub mod plan;
