@@ -1,0 +1,9 @@
+-- Laws that belong to no one function.
+pub mod FormLaws
+pub mod OfferLaws
+pub mod HeldLaws
+pub mod VisitLaws
+pub mod TurnLaws
+pub mod StartLaws
+pub mod BeginLaws
+pub mod RunLaws
