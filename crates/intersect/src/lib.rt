@@ -1,0 +1,4 @@
+// The auto-intersection as it is called.
+pub mod prepare;
+pub mod keep;
+pub mod finish;
