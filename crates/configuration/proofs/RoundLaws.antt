@@ -170,7 +170,7 @@ decided {s = s} {t = t} {x = x} {y = y} {u = u} {v = v} ds dt f b =
     same-truth (s x y) (t u v) (λ e. ap (t u) (sym (f (ds .sound x y e))) ∙ dt .complete u) (λ e. ap (s x) (sym (b (dt .sound u v e))) ∙ ds .complete x)
 
 module _ (used : ℕ) (c d : Config) (g : GoodConfig used c) (h : GoodConfig used d) where
-  all-leftovers : (e : Config) → GoodConfig used e → map leftoverOf (configAs used e .leftovers) ++ replicate (4 - used) blank ≡ e .leftovers
+  pub all-leftovers : (e : Config) → GoodConfig used e → map leftoverOf (configAs used e .leftovers) ++ replicate (4 - used) blank ≡ e .leftovers
   all-leftovers e k =
       ap₂ (λ (x y : List Leftover). x ++ y) (leftovers-form (take used (e .leftovers)) (All-take Good used (e .leftovers) (k .each))) (sym (k .blanks))
       ∙ take-append-drop used (e .leftovers)

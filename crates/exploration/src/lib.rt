@@ -1,0 +1,3 @@
+// The search over the configurations of the auto-intersection that are reached, in work space.
+pub mod plan;
+pub mod offer;
