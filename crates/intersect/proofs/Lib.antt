@@ -4,3 +4,4 @@ pub mod FinishLaws
 pub mod PrepareLaws
 pub mod CallLaws
 pub mod ConfigRows
+pub mod SearchLaws

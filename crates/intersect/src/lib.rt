@@ -2,3 +2,5 @@
 pub mod prepare;
 pub mod keep;
 pub mod finish;
+pub mod stub;
+pub mod call;
