@@ -1,3 +1,6 @@
 -- Laws that belong to no one function.
 pub mod FormLaws
 pub mod OfferLaws
+pub mod HeldLaws
+pub mod VisitLaws
+pub mod TurnLaws

@@ -2,3 +2,4 @@
 pub mod Held
 pub mod Plans
 pub mod Offers
+pub mod Searching

@@ -115,14 +115,15 @@ module _ {C : Type 0} (code : C → List ℕ) (same : C → C → Bool) where
     abbrev newEntry : Bool → Find.Entry
     newEntry b = if b (entry E.Full xs) (entry (E.New (record { 0 = length vs })) (splice (base + length vs * length (code v)) (code v) xs))
 
+    -- an entry that is new or refused is none that stood there already
+    not-at : (s : ResultState) (ys : List ℕ) (b : Bool) → entry (E.At s) ys ≡ newEntry b → ⊥
+    not-at s ys true e = let z : E.At s ≡ E.Full = ap (λ (r : Find.Entry). r .answer) e in let y : _≡_ {A = ℕ} 0 1 = cc in omega arith
+    not-at s ys false e = let z : E.At s ≡ E.New (record { 0 = length vs }) = ap (λ (r : Find.Entry). r .answer) e in let y : _≡_ {A = ℕ} 0 1 = cc in omega arith
+
     -- the number of a vertex that stood there already
     pub entered-at : (s : ResultState) (ys : List ℕ) → After (E.At s) ys → Inserted code same base room size vs v xs ys s
     entered-at s ys a = go (member same v vs) refl (a ∙ by-found)
       where
-        at : (b : Bool) → entry (E.At s) ys ≡ newEntry b → ⊥
-        at true e = let z : E.At s ≡ E.Full = ap (λ (r : Find.Entry). r .answer) e in let y : _≡_ {A = ℕ} 0 1 = cc in omega arith
-        at false e = let z : E.At s ≡ E.New (record { 0 = length vs }) = ap (λ (r : Find.Entry). r .answer) e in let y : _≡_ {A = ℕ} 0 1 = cc in omega arith
-
         go : (b : Bool) → member same v vs ≡ b → entry (E.At s) ys ≡ enterBy base (length vs) room (code v) xs (foundBy 0 b (indexOf same v vs))
             → Inserted code same base room size vs v xs ys s
         go true m e =
@@ -130,7 +131,25 @@ module _ {C : Type 0} (code : C → List ℕ) (same : C → C → Bool) where
             let p : s ≡ record { 0 = 0 + indexOf same v vs } = cc in
             let q : ys ≡ xs = ap (λ (r : Find.Entry). r .work) e in
             subst (λ (w : List ℕ). Inserted code same base room size vs v xs w s) (sym q) (old-one s (p ∙ ap (λ (n : ℕ). record { 0 = n }) (omega arith)) m)
-        go false m e = absurd (at (leb room (length vs)) e)
+        go false m e = absurd (not-at s ys (leb room (length vs)) e)
+
+    -- there are then as many vertices as before
+    pub at-count : (s : ResultState) (ys : List ℕ) → After (E.At s) ys → length (insert same vs v) ≡ length vs
+    at-count s ys a = go (member same v vs) refl (a ∙ by-found)
+      where
+        go : (b : Bool) → member same v vs ≡ b → entry (E.At s) ys ≡ enterBy base (length vs) room (code v) xs (foundBy 0 b (indexOf same v vs))
+            → length (insert same vs v) ≡ length vs
+        go true m e = ap length (stays vs v m)
+        go false m e = absurd (not-at s ys (leb room (length vs)) e)
+
+    -- and one more where it is new
+    pub new-count : (s : ResultState) (ys : List ℕ) → After (E.New s) ys → length (insert same vs v) ≡ length vs + 1
+    new-count s ys a = go (member same v vs) refl (a ∙ by-found)
+      where
+        go : (b : Bool) → member same v vs ≡ b → entry (E.New s) ys ≡ enterBy base (length vs) room (code v) xs (foundBy 0 b (indexOf same v vs))
+            → length (insert same vs v) ≡ length vs + 1
+        go true m e = let z : E.New s ≡ E.At (record { 0 = 0 + indexOf same v vs }) = ap (λ (r : Find.Entry). r .answer) e in let y : _≡_ {A = ℕ} 0 1 = cc in absurd (omega arith)
+        go false m e = ap length (grows vs v m) ∙ length-append vs (v ∷ []) ∙ omega arith
 
     -- the number of a vertex that was entered
     pub entered-new : (s : ResultState) (ys : List ℕ) → After (E.New s) ys → Inserted code same base room size vs v xs ys s
