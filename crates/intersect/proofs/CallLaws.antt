@@ -4,18 +4,18 @@ use mathlib.Core.Path.{_≡_, refl, sym, ap, subst, _∙_}
 use mathlib.Core.Bool.{Bool, true, false}
 use mathlib.Core.List.{List}
 use native.Mathlib.Omega.{arith}
-use lib.ListN.{length, replicate}
+use lib.ListN.{length}
 use Rattle.automata.specs.Refusal as refusal
 use Rattle.automata.specs.Answer.{_>>=_, Answer, ok, refused}
 use Rattle.automata.specs.Automaton.{Automaton}
 use Rattle.automata.specs.Space.{Space, stateCap, arcCap}
 use Rattle.automata.specs.TapePair.{Pair, TapePair, limited}
 use Rattle.automata.specs.Config.{Config}
-use Rattle.automata.specs.Memory.{Memory, Sound, tableOf}
+use Rattle.automata.specs.Memory.{Memory, Sound, tableOf, zeros}
 use Rattle.automata.specs.Closing.{closingTables, viable}
 use Rattle.automata.specs.Intersect.{Intersection, reachedConfigs, delayed, assemble, intersectBy, intersect}
 use Rattle.automata.specs.IntersectCall.{intersectOn}
-use Rattle.automata.specs.Calls.Outcome.{Slices, TableCounts, spaceOf, put, build, madeOf, builtOf, slicesOf, cleared}
+use Rattle.automata.specs.Calls.Outcome.{Slices, TableCounts, spaceOf, put, build, madeOf, builtOf, slicesOf}
 use Rattle.automata.specs.Calls.Intersect.{intersectAnswer, intersectOutcome}
 use Rattle.automata.proofs.CallFacts.{put-refused}
 use Rattle.automata.proofs.IntersectAnswers.{fits-built, states-over, arcs-over, step-over}
@@ -151,9 +151,9 @@ module _ (m : Memory) (bytes : List ℕ) (D : ℕ) (oldStates oldArcs work : Lis
       (sym (p .answer work refl ∙ ap (λ (j : Judged). judgedAs j >>= λ (u : Unit {0}). intersectOn D (spaceOf slices) (pairsOf bytes) (tableOf m)) e))
 
 -- Work space is zero afterwards.
-pub call-cleared : (m : Memory) (ps : List Pair) (D : ℕ) (s : Slices) (work left zeroed : List ℕ) (a : Answer TableCounts) (states arcs : List ℕ)
-    → madeOf a states arcs ≡ put (intersectAnswer m ps D (spaceOf s) work) s → length left ≡ length work → zeroed ≡ cleared left
+pub call-cleared : (m : Memory) (ps : List Pair) (D : ℕ) (s : Slices) (work zeroed : List ℕ) (n : ℕ) (a : Answer TableCounts) (states arcs : List ℕ)
+    → madeOf a states arcs ≡ put (intersectAnswer m ps D (spaceOf s) work) s → n ≡ length work → zeroed ≡ zeros n
     → builtOf a states arcs zeroed ≡ intersectOutcome m ps D s work
 unfolding intersectOutcome build
-call-cleared m ps D s work left zeroed a states arcs e l z =
-    λ i. record { made = e i; work = (z ∙ ap (λ (n : ℕ). replicate n 0) l) i }
+call-cleared m ps D s work zeroed n a states arcs e l z =
+    λ i. record { made = e i; work = (z ∙ ap zeros l) i }

@@ -90,6 +90,7 @@ prepared m bytes D states arcs work t j l r e f g h = record {
   answer = call-in-turn m (pairsOf bytes) D states arcs work (judgedAs t) (judgedAs (l .judged)) (judgedAs j) (r .enough) e (f .answer) (g .enough) h;
   sound = λ k. judged-sound m (sym e ∙ first k .1);
   pairs-are = λ k. f .pairs (second k);
+  four = λ k. f .four (second k);
   named = λ k. f .tapes-named (second k);
   limit-fits = λ k. f .limit-fits (second k);
   divides = λ k. g .divides (third k);

@@ -27,6 +27,7 @@ pub record Prepares (m : Memory) (bytes : List ℕ) (D states arcs work : ℕ) (
       ≡ (judgedAs (r .judged) >>= λ (u : Unit {0}). intersectOn D (lentSpace states arcs) (pairsOf bytes) (tableOf m))
   pub sound : r .judged ≡ Fine → Sound m
   pub pairs-are : r .judged ≡ Fine → pairsAs (r .pairs) ≡ pairsOf bytes
+  pub four : r .judged ≡ Fine → length (r .pairs .pairs) ≡ 4
   pub named : r .judged ≡ Fine → Named (m .tapes) (r .pairs)
   pub limit-fits : r .judged ≡ Fine → D ≤ maxDelay
   pub divides : r .judged ≡ Fine → Divides states arcs (m .states) work (r .room)
