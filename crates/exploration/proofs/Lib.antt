@@ -4,3 +4,6 @@ pub mod OfferLaws
 pub mod HeldLaws
 pub mod VisitLaws
 pub mod TurnLaws
+pub mod StartLaws
+pub mod BeginLaws
+pub mod RunLaws

@@ -97,6 +97,11 @@ module _ (A : Automaton ℕ) (ps : List TapePair) (test : automata.Config → Bo
   late-more : (l : Bool) → or (or l (lateUpTo A ps test j c)) (isLate (offer ps test c a)) ≡ or l (lateUpTo A ps test (suc j) c)
   late-more l = or-three l (lateUpTo A ps test j c) (isLate (offer ps test c a)) ∙ ap (or l) (sym (lateUpTo-suc A ps test j a c e))
 
+-- no step is noted
+none-noted : (k : ℕ) (s : ConfigSearch) (xs : List ((ℕ × Arc ℕ) × automata.Config)) → xs ≡ [] → s ≡ noteAll sameConfig k s xs
+unfolding noteAll
+none-noted k s xs e = sym (ap (noteAll sameConfig k s) e)
+
 -- ---- a turn
 
 -- the first j arcs were looked at, from the head h and the work space v to g and w
@@ -131,12 +136,8 @@ module _ (p : Plan) (h : Head) (arcs : List ℕ) (v : List ℕ) (q : Takable p h
         let test = viableIn p states arcs in
         subst (λ (z : Bool). Holds p states arcs h (noteAll sameConfig (h .taken) s (outUpTo A (pairsIn p) test 0 c)) (or l z) v) (sym (lateUpTo-zero A (pairsIn p) test c))
         (subst (λ (z : Bool). Holds p states arcs h (noteAll sameConfig (h .taken) s (outUpTo A (pairsIn p) test 0 c)) z v) (sym (or-none l))
-        (subst (λ (z : ConfigSearch). Holds p states arcs h z l v) (none-noted s _ (outUpTo-zero A (pairsIn p) test c)) o));
+        (subst (λ (z : ConfigSearch). Holds p states arcs h z l v) (none-noted (h .taken) s _ (outUpTo-zero A (pairsIn p) test c)) o));
   }
-    where
-      none-noted : (s : ConfigSearch) (xs : List ((ℕ × Arc ℕ) × automata.Config)) → xs ≡ [] → s ≡ noteAll sameConfig (h .taken) s xs
-      unfolding noteAll
-      none-noted s xs e = sym (ap (noteAll sameConfig (h .taken) s) e)
 
   module _ (d : Config) (ld : d ≡ configAt (320 * h .taken) v) where
     -- the loaded configuration stands for the one taken up

@@ -3,3 +3,5 @@ pub mod Held
 pub mod Plans
 pub mod Offers
 pub mod Searching
+pub mod Starting
+pub mod Exploring

@@ -5,14 +5,18 @@ ghost use lib.ListN.{length};
 ghost use Rattle.configuration.specs.Configs.{GoodConfig};
 ghost use Rattle.rows.specs.Find.{entry, enterOf};
 ghost use Rattle.exploration.specs.Searching.{rowBytes, keptEdge, counted, Arrivable, Arrives, Visitable, Visits, Takable, TakesUp};
+ghost use Rattle.exploration.specs.Starting.{Admittable, Admits, Startable, Enters};
 use crate::offer::offer;
+use crate::offer::viable_config;
 use crate::offer::Kind;
 use crate::plan::Plan;
 use configuration::config::load_config;
+use configuration::config::start_config;
 use configuration::config::store_config;
 use configuration::config::Config;
 use edges::edge::store_edge;
 use edges::edge::EdgeRecord;
+use memory::record::InputState;
 use memory::record::ResultState;
 use rows::enter;
 use rows::Entered;
@@ -121,5 +125,40 @@ impl Head {
         }
         self.taken += 1;
         self
+    }
+
+    // A configuration in which a path starts.
+    fn admit(mut self, plan: Plan, c: Config, work: &mut [u8]) -> Head
+        requires { ⌜ Admittable plan self c (now work) ⌝ }
+        ensures { λ r. ⌜ Admits plan self c (now (work .entry)) r (now (work .exit)) ⌝ }
+    {
+        let room = plan.room;
+        let pairs = plan.pairs;
+        match enter_config(work, self.reached, room.states, pairs.used, c) {
+            Entered::At(_) => self,
+            Entered::New(_) => {
+                self.reached += 1;
+                self
+            }
+            Entered::Full => {
+                self.full = true;
+                self
+            }
+        }
+    }
+
+    // The input state with number `q`: its configuration, where a path may start in it.
+    pub fn start(mut self, plan: Plan, states: &[u8], q: usize, work: &mut [u8]) -> Head
+        requires { ⌜ Startable plan self (now states) q (now work) ⌝ }
+        ensures { λ r. ⌜ Enters plan self (now (states .entry)) q (now (work .entry)) r (now (work .exit)) ⌝ }
+    {
+        if states[10 * q] != 1 {
+            return self;
+        }
+        let c = start_config(InputState(q as u16));
+        if !viable_config(plan, c, work) {
+            return self;
+        }
+        self.admit(plan, c, work)
     }
 }

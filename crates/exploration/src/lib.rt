@@ -2,3 +2,4 @@
 pub mod plan;
 pub mod offer;
 pub mod head;
+pub mod explore;

@@ -26,13 +26,13 @@ loop-holds : tie.Need-loop-holds Inv-loop μ-loop
 loop-holds c = let s = c .before .before .before .before .before .before in turn-start _ _ _ _ (s .pre)
 
 visit-requires : tie.Need-visit-requires Inv-loop μ-loop
-visit-requires c κs = let s = c .before .before .before .before .before .before .before .before .before .before in turn-requires _ _ _ _ (s .pre) _ (c .before .before .before .before .load-config .ensures) _ _ _ (c .before .before .before .loop .inv) (c .before .loop-test .taken)
+visit-requires c κs = let s = c .before .before .before .before .before .before .before .before .before .before in turn-requires _ _ _ _ (s .pre) _ (c .before .before .before .before .load-config .ensures) _ _ _ (c .before .before .before .loop .inv) (c .before .if1 .taken)
 
 same-length : tie.Need-same-length Inv-loop μ-loop
 same-length c = search needs
 
 returns : tie.Need-returns Inv-loop μ-loop
-returns c = let s = c .before .before .before .before .before .before .before .before .before .before .before .before .before .before in turn-full _ _ _ _ (s .pre) _ (c .before .before .before .before .before .before .before .before .load-config .ensures) _ _ _ (c .before .before .before .before .before .before .before .loop .inv) (c .before .before .before .before .before .loop-test .taken) _ _ (c .before .before .before .visit .ensures) (c .if1 .taken)
+returns c = let s = c .before .before .before .before .before .before .before .before .before .before .before .before .before .before in turn-full _ _ _ _ (s .pre) _ (c .before .before .before .before .before .before .before .before .load-config .ensures) _ _ _ (c .before .before .before .before .before .before .before .loop .inv) (c .before .before .before .before .before .if1 .taken) _ _ (c .before .before .before .visit .ensures) (c .if2 .taken)
 
 add-j : tie.Need-add-j Inv-loop μ-loop
 add-j c = search needs
@@ -41,7 +41,7 @@ loop-less : tie.Need-loop-less Inv-loop μ-loop
 loop-less c = search needs
 
 loop-again : tie.Need-loop-again Inv-loop μ-loop
-loop-again c = let s = c .before .before .before .before .before .before .before .before .before .before .before .before .before .before in turn-next _ _ _ _ (s .pre) _ (c .before .before .before .before .before .before .before .before .load-config .ensures) _ _ _ (c .before .before .before .before .before .before .before .loop .inv) (c .before .before .before .before .before .loop-test .taken) _ _ (c .before .before .before .visit .ensures) (c .if1 .left)
+loop-again c = let s = c .before .before .before .before .before .before .before .before .before .before .before .before .before .before in turn-next _ _ _ _ (s .pre) _ (c .before .before .before .before .before .before .before .before .load-config .ensures) _ _ _ (c .before .before .before .before .before .before .before .loop .inv) (c .before .before .before .before .before .if1 .taken) _ _ (c .before .before .before .visit .ensures) (c .if2 .left)
 
 add-self : tie.Need-add-self Inv-loop μ-loop
 add-self c = search needs
@@ -50,7 +50,7 @@ same-length-2 : tie.Need-same-length-2 Inv-loop μ-loop
 same-length-2 c = search needs
 
 returns-2 : tie.Need-returns-2 Inv-loop μ-loop
-returns-2 c = let s = c .before .before .before .before .before .before .before .before .before .before in turn-end _ _ _ _ (s .pre) _ (c .before .before .before .before .load-config .ensures) _ _ _ (c .before .before .before .loop .inv) (c .before .loop-test .left)
+returns-2 c = let s = c .before .before .before .before .before .before .before .before .before .before in turn-end _ _ _ _ (s .pre) _ (c .before .before .before .before .load-config .ensures) _ _ _ (c .before .before .before .loop .inv) (c .before .if1 .left)
 
 pub take-up-spec : {M : Type 1} → statement M
 take-up-spec =

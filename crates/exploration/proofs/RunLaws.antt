@@ -1,0 +1,178 @@
+-- All configurations that are reached, taken up one after the other.
+use Prim.Native.Nat.{ℕ, zero, suc, _+_, _-_, _*_, _≤_, _<_}
+use mathlib.Core.Path.{_≡_, refl, sym, ap, _∙_, subst}
+use mathlib.Core.Bool.{Bool, true, false}
+use mathlib.Core.Option.{some}
+use mathlib.Core.List.{List, []}
+use native.Mathlib.Omega.{arith}
+use lib.ListN.{length, getElem?, take}
+use Rattle.automata.specs.Lists.{any}
+use Rattle.automata.specs.Automaton.{Arc, Automaton}
+use Rattle.automata.specs.Config as automata
+use Rattle.automata.specs.Config.{sameConfig}
+use Rattle.automata.specs.Explore.{Edge, edges, reached}
+use Rattle.automata.specs.Offer.{lateUpTo}
+use Rattle.automata.specs.Search.{searchFrom, searched, noteAll}
+use Rattle.automata.specs.Intersect.{starts, out, reachedConfigs, delayed}
+use Rattle.automata.proofs.ListFacts
+use Rattle.automata.proofs.TestFacts
+use Rattle.automata.proofs.Configurations.{configs-decided}
+use Rattle.automata.proofs.SearchFacts.{searched-some, searched-reached, found-over, taken-any, taken-all}
+use Rattle.automata.proofs.SearchedEdges.{searched-edges}
+use Rattle.automata.proofs.IntersectSteps.{delayed-late}
+use Rattle.memory.specs.Answers.{lent}
+use Rattle.delays.specs.ClosingRegion.{HoldsClosing, WritesClosing}
+use Rattle.exploration.specs.declared.plan.Plan.{Plan}
+use Rattle.exploration.specs.declared.head.Head.{Head}
+use Rattle.exploration.specs.Plans.{Explorable, tableIn, pairsIn, tablesIn, viableIn}
+use Rattle.exploration.specs.Searching.{ConfigSearch, Holds, Comes, Takable, TakesUp}
+use Rattle.exploration.specs.Starting.{Beginnable, Begun}
+use Rattle.exploration.specs.Exploring.{begunSearch, reachedIn, ComesToReached, Runnable, Runs, Explored}
+
+module _ (p : Plan) (states arcs : List ℕ) where
+  abbrev outIn : automata.Config → List ((ℕ × Arc ℕ) × automata.Config)
+  outIn = out (tableIn p states arcs) (pairsIn p) (viableIn p states arcs)
+
+  abbrev startsIn : List automata.Config
+  startsIn = starts (tableIn p states arcs) (pairsIn p) (viableIn p states arcs)
+
+  -- the search when k configurations have been taken up
+  abbrev pub searchAt : ℕ → ConfigSearch
+  searchAt k = searched sameConfig (out (tableIn p states arcs) (pairsIn p) (viableIn p states arcs)) (starts (tableIn p states arcs) (pairsIn p) (viableIn p states arcs)) k
+
+  -- some step of a configuration is too long
+  abbrev pub lateIn : automata.Config → Bool
+  lateIn = lateUpTo (tableIn p states arcs) (pairsIn p) (viableIn p states arcs) (length (tableIn p states arcs .arcs))
+
+  -- where all are taken up, what is held are the reached configurations and their edges
+  pub all-taken : (k : ℕ) (h : Head) (w : List ℕ) → length (searchAt k .vertices) ≤ k → Holds p states arcs h (searchAt k) (any lateIn (take k (searchAt k .vertices))) w
+      → ComesToReached p states arcs h w
+  unfolding reachedConfigs
+  all-taken k h w b o =
+      let cs : List automata.Config = searchAt k .vertices in
+      let e : reached sameConfig outIn (p .room .states) startsIn ≡ cs = searched-reached sameConfig configs-decided outIn startsIn (p .room .states) k (o .fits) b in
+      let f : searchAt k .edges ≡ edges sameConfig outIn cs = sym (searched-edges sameConfig configs-decided outIn startsIn k b) in
+      let g : any lateIn (take k cs) ≡ delayed (tableIn p states arcs) (pairsIn p) (viableIn p states arcs) cs
+      = taken-all sameConfig configs-decided outIn startsIn lateIn k b ∙ sym (delayed-late (tableIn p states arcs) (pairsIn p) (viableIn p states arcs) cs) in
+      let o1 : Holds p states arcs h (record { vertices = cs; edges = searchAt k .edges }) (any lateIn (take k cs)) w = o in
+      let o2 = subst (λ (es : List (Edge (ℕ × Arc ℕ))). Holds p states arcs h (record { vertices = cs; edges = es }) (any lateIn (take k cs)) w) f o1 in
+      let o3 = subst (λ (l : Bool). Holds p states arcs h (record { vertices = cs; edges = edges sameConfig outIn cs }) l w) g o2 in
+      let o4 = subst (λ (ds : List automata.Config). Holds p states arcs h (record { vertices = ds; edges = edges sameConfig outIn ds })
+      (delayed (tableIn p states arcs) (pairsIn p) (viableIn p states arcs) ds) w) (sym e) o3 in
+      record { held = λ n. o4; over = λ n. TestFacts.false-not-true (o4 .not-full) n }
+
+  -- where there are too many at any time, too many are reached
+  pub too-many : (k : ℕ) (h : Head) (w : List ℕ) → h .full ≡ true → p .room .states < length (searchAt k .vertices) → ComesToReached p states arcs h w
+  unfolding reachedConfigs
+  too-many k h w f m = record {
+    held = λ n. TestFacts.false-not-true n f;
+    over = λ n. found-over sameConfig configs-decided outIn startsIn (p .room .states) k m;
+  }
+
+  -- before one is taken up
+  pub begun-is : begunSearch p states arcs ≡ searchAt 0
+  unfolding searched
+  begun-is = refl
+
+-- ---- a run
+
+-- as many configurations as the head g tells were taken up, from the head h and the work space v on
+pub record Running (p : Plan) (h : Head) (arcs : List ℕ) (v : List ℕ) (g : Head) (w : List ℕ) : Type 0 where
+  pub few : g .arcs ≤ 8192 * g .taken
+  pub same-length : length w ≡ length v
+  pub meaning : (states : List ℕ) → Explorable p states arcs (length v) → Comes p states arcs h (begunSearch p states arcs) false v
+      → Holds p states arcs g (searchAt p states arcs (g .taken)) (any (lateIn p states arcs) (take (g .taken) (searchAt p states arcs (g .taken) .vertices))) w
+
+module _ (p : Plan) (h : Head) (arcs : List ℕ) (v : List ℕ) (q : Runnable p h arcs v) where
+  -- too many configurations to begin with
+  pub run-none : h .full ≡ true → Runs p h arcs v h v
+  run-none f = record {
+    same-length = refl;
+    meaning = λ states x c. too-many p states arcs 0 h v f (subst (λ (s : ConfigSearch). p .room .states < length (s .vertices)) (begun-is p states arcs) (c .over f));
+  }
+
+  pub run-start : h .full ≡ false → Running p h arcs v h v
+  run-start f = record {
+    few = omega (arith, q .arcs-none);
+    same-length = refl;
+    meaning = λ states x c.
+        let o = subst (λ (s : ConfigSearch). Holds p states arcs h s false v) (begun-is p states arcs) (c .held f) in
+        subst (λ (k : ℕ). Holds p states arcs h (searchAt p states arcs k) (any (lateIn p states arcs) (take k (searchAt p states arcs k .vertices))) v) (sym (q .taken)) o;
+  }
+
+  module _ (g : Head) (w : List ℕ) (t : Running p h arcs v g w) where
+    wider : (states : List ℕ) → Explorable p states arcs (length v) → Explorable p states arcs (length w)
+    wider states x = subst (Explorable p states arcs) (sym (t .same-length)) x
+
+    pub run-requires : g .taken < g .reached → Takable p g arcs w
+    run-requires b = record {
+      states = q .states;
+      search = _;
+      late = _;
+      explorable = wider (q .states) (q .explorable);
+      holds = t .meaning (q .states) (q .explorable) (q .begun);
+      taken-fits = b;
+      few = t .few;
+    }
+
+    -- there is room for one more to be taken up
+    pub run-room : g .taken < g .reached → g .taken < p .room .states
+    run-room b = let o = t .meaning (q .states) (q .explorable) (q .begun) in omega (arith, o .reached, o .fits, b)
+
+    module _ (b : g .taken < g .reached) (r : Head) (u : List ℕ) (z : TakesUp p g arcs w r u) where
+      run-comes : (states : List ℕ) → Explorable p states arcs (length v) → Comes p states arcs h (begunSearch p states arcs) false v
+          → Comes p states arcs r (searchAt p states arcs (suc (g .taken)))
+          (any (lateIn p states arcs) (take (suc (g .taken)) (searchAt p states arcs (suc (g .taken)) .vertices))) u
+      run-comes states x c =
+          let o = t .meaning states x c in
+          let y = ListFacts.place-exists (searchAt p states arcs (g .taken) .vertices) (g .taken) (omega (arith, o .reached, b)) in
+          let c0 = z .meaning states (searchAt p states arcs (g .taken)) (any (lateIn p states arcs) (take (g .taken) (searchAt p states arcs (g .taken) .vertices))) (y .0) (wider states x) o (y .1) in
+          let c1 = subst (λ (s : ConfigSearch). Comes p states arcs r s _ u) (sym (searched-some sameConfig configs-decided (outIn p states arcs) (startsIn p states arcs) (g .taken) (y .0) (y .1))) c0 in
+          subst (λ (l : Bool). Comes p states arcs r (searchAt p states arcs (suc (g .taken))) l u)
+          (sym (taken-any sameConfig configs-decided (outIn p states arcs) (startsIn p states arcs) (lateIn p states arcs) (g .taken) (y .0) (y .1))) c1
+
+      pub run-next : r .full ≡ false → Running p h arcs v r u
+      run-next f = record {
+        few = z .few f;
+        same-length = z .same-length ∙ t .same-length;
+        meaning = λ states x c.
+            let n : suc (g .taken) ≡ r .taken = omega (arith, z .taken f) in
+            subst (λ (k : ℕ). Holds p states arcs r (searchAt p states arcs k) (any (lateIn p states arcs) (take k (searchAt p states arcs k .vertices))) u) n (run-comes states x c .held f);
+      }
+
+      pub run-full : r .full ≡ true → Runs p h arcs v r u
+      run-full f = record {
+        same-length = z .same-length ∙ t .same-length;
+        meaning = λ states x c. too-many p states arcs (suc (g .taken)) r u f (run-comes states x c .over f);
+      }
+
+    pub run-end : g .reached ≤ g .taken → Runs p h arcs v g w
+    run-end b = record {
+      same-length = t .same-length;
+      meaning = λ states x c. let o = t .meaning states x c in all-taken p states arcs (g .taken) g w (omega (arith, o .reached, b)) o;
+    }
+
+-- ---- the whole
+
+module _ (p : Plan) (states arcs : List ℕ) (v : List ℕ) (x : Explorable p states arcs (length v)) (w : List ℕ) (c : WritesClosing (lent (p .counts) states arcs) (p .pairs) (p .room .delays) w v) where
+  closed : Explorable p states arcs (length w)
+  closed = subst (Explorable p states arcs) (sym (c .same-length)) x
+
+  pub may-begin : Beginnable p states w
+  may-begin = record { arcs = arcs; explorable = closed; closing = c .tables (p .limit) }
+
+  module _ (h : Head) (u : List ℕ) (b : Begun p states w h u) where
+    begun : Comes p states arcs h (begunSearch p states arcs) false u
+    begun = b .meaning arcs closed (c .tables (p .limit))
+
+    open-still : Explorable p states arcs (length u)
+    open-still = subst (Explorable p states arcs) (sym (b .same-length)) closed
+
+    pub may-run : Runnable p h arcs u
+    may-run = record { states = states; explorable = open-still; begun = begun; taken = b .taken; arcs-none = b .arcs }
+
+    pub explored : (r : Head) (z : List ℕ) → Runs p h arcs u r z → Explored p states arcs v r z
+    explored r z y = record {
+      same-length = y .same-length ∙ b .same-length ∙ c .same-length;
+      comes = y .meaning states open-still begun;
+    }

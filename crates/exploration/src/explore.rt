@@ -1,0 +1,63 @@
+// The search over all configurations that are reached.
+ghost use lib.ListN.{length};
+ghost use Rattle.exploration.specs.Plans.{Explorable};
+ghost use Rattle.exploration.specs.Starting.{Beginnable, Begun};
+ghost use Rattle.exploration.specs.Exploring.{Runnable, Runs, Explored};
+use crate::head::Head;
+use crate::plan::Plan;
+use delays::closing_tables;
+
+// The configurations in which paths start.
+fn begin(plan: Plan, states: &[u8], work: &mut [u8]) -> Head
+    requires { ⌜ Beginnable plan (now states) (now work) ⌝ }
+    ensures { λ r. ⌜ Begun plan (now (states .entry)) (now (work .entry)) r (now (work .exit)) ⌝ }
+{
+    let counts = plan.counts;
+    let mut head = Head {
+        taken: 0,
+        reached: 0,
+        arcs: 0,
+        late: false,
+        full: false,
+    };
+    let mut q: usize = 0;
+    while q < counts.states {
+        head = head.start(plan, states, q, work);
+        if head.full {
+            return head;
+        }
+        q += 1;
+    }
+    head
+}
+
+// All configurations that are reached from those, taken up one after the other.
+fn run(start: Head, plan: Plan, arcs: &[u8], work: &mut [u8]) -> Head
+    requires { ⌜ Runnable plan start (now arcs) (now work) ⌝ }
+    ensures { λ r. ⌜ Runs plan start (now (arcs .entry)) (now (work .entry)) r (now (work .exit)) ⌝ }
+{
+    if start.full {
+        return start;
+    }
+    let mut head = start;
+    while head.taken < head.reached {
+        head = head.take_up(plan, arcs, work);
+        if head.full {
+            return head;
+        }
+    }
+    head
+}
+
+// The closing delays, the configurations in which paths start, and then all that are reached.
+pub fn explore(plan: Plan, states: &[u8], arcs: &[u8], work: &mut [u8]) -> Head
+    requires { ⌜ Explorable plan (now states) (now arcs) (length (now work)) ⌝ }
+    ensures { λ r. ⌜ Explored plan (now (states .entry)) (now (arcs .entry)) (now (work .entry)) r (now (work .exit)) ⌝ }
+{
+    let counts = plan.counts;
+    let pairs = plan.pairs;
+    let room = plan.room;
+    closing_tables(counts, states, arcs, pairs, work, room.delays);
+    let head = begin(plan, states, work);
+    run(head, plan, arcs, work)
+}
