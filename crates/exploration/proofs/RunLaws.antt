@@ -6,7 +6,7 @@ use mathlib.Core.Option.{some}
 use mathlib.Core.List.{List, []}
 use native.Mathlib.Omega.{arith}
 use lib.ListN.{length, getElem?, take}
-use Rattle.automata.specs.Lists.{any}
+use Rattle.automata.specs.Lists.{any, or}
 use Rattle.automata.specs.Automaton.{Arc, Automaton}
 use Rattle.automata.specs.Config as automata
 use Rattle.automata.specs.Config.{sameConfig}
@@ -126,8 +126,9 @@ module _ (p : Plan) (h : Head) (arcs : List ℕ) (v : List ℕ) (q : Runnable p 
       run-comes states x c =
           let o = t .meaning states x c in
           let y = ListFacts.place-exists (searchAt p states arcs (g .taken) .vertices) (g .taken) (omega (arith, o .reached, b)) in
-          let c0 = z .meaning states (searchAt p states arcs (g .taken)) (any (lateIn p states arcs) (take (g .taken) (searchAt p states arcs (g .taken) .vertices))) (y .0) (wider states x) o (y .1) in
-          let c1 = subst (λ (s : ConfigSearch). Comes p states arcs r s _ u) (sym (searched-some sameConfig configs-decided (outIn p states arcs) (startsIn p states arcs) (g .taken) (y .0) (y .1))) c0 in
+          let before : Bool = any (lateIn p states arcs) (take (g .taken) (searchAt p states arcs (g .taken) .vertices)) in
+          let c0 = z .meaning states (searchAt p states arcs (g .taken)) before (y .0) (wider states x) o (y .1) in
+          let c1 = subst (λ (s : ConfigSearch). Comes p states arcs r s (or before (lateIn p states arcs (y .0))) u) (sym (searched-some sameConfig configs-decided (outIn p states arcs) (startsIn p states arcs) (g .taken) (y .0) (y .1))) c0 in
           subst (λ (l : Bool). Comes p states arcs r (searchAt p states arcs (suc (g .taken))) l u)
           (sym (taken-any sameConfig configs-decided (outIn p states arcs) (startsIn p states arcs) (lateIn p states arcs) (g .taken) (y .0) (y .1))) c1
 

@@ -1,3 +1,5 @@
+-- `exploration::explore::explore` meets its contract. Assumes nothing.
+use Rattle.exploration.proofs.RunLaws.{may-begin, may-run, explored}
 use borrow.Author.Needs.{needs}
 use Rattle.exploration.proofs.explore.explore.Statement.{statement}
 use Rattle.exploration.proofs.explore.explore.Tie as tie
@@ -7,25 +9,20 @@ use Rattle.delays.proofs.closing_tables.Reads as closing-tables-reads
 use Rattle.exploration.proofs.explore.begin.Reads as begin-reads
 use Rattle.exploration.proofs.explore.run.Reads as run-reads
 
--- src/explore.rt:60:5
 closing-tables-requires : tie.Need-closing-tables-requires
 closing-tables-requires c κs = search needs
 
--- src/explore.rt:61:9
 begin-requires : tie.Need-begin-requires
-begin-requires c κs = ?
+begin-requires c κs = let s = c .before .before .before .before .before .before .before .before .before .before .before in may-begin _ _ _ _ (s .pre) _ (c .before .before .before .closing-tables .ensures)
 
--- src/explore.rt:62:5
 run-requires : tie.Need-run-requires
-run-requires c κs = ?
+run-requires c κs = let s = c .before .before .before .before .before .before .before .before .before .before .before .before .before .before .before in may-run _ _ _ _ (s .pre) _ (c .before .before .before .before .before .before .before .closing-tables .ensures) _ _ (c .before .before .before .begin .ensures)
 
--- src/explore.rt:53:1
 same-length : tie.Need-same-length
 same-length c = search needs
 
--- src/explore.rt:53:1
 returns : tie.Need-returns
-returns c = ?
+returns c = let s = c .before .before .before .before .before .before .before .before .before .before .before .before .before .before .before .before .before .before in explored _ _ _ _ (s .pre) _ (c .before .before .before .before .before .before .before .before .before .before .closing-tables .ensures) _ _ (c .before .before .before .before .before .before .begin .ensures) _ _ (c .before .before .run .ensures)
 
 pub explore-spec : {M : Type 1} → statement M
 explore-spec =
