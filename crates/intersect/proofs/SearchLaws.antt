@@ -23,7 +23,7 @@ use Rattle.exploration.specs.declared.plan.Plan.{Plan}
 use Rattle.exploration.specs.Held.{configOf, rowOf, HoldsConfigs, Stored}
 use Rattle.exploration.specs.Plans.{Explorable, tableIn, pairsIn, viableIn, StoredIn}
 use Rattle.exploration.specs.declared.head.Head.{Head}
-use Rattle.intersect.specs.Stub.{reachedIn, Explored}
+use Rattle.exploration.specs.Exploring.{reachedIn, Explored}
 use Rattle.intersect.specs.declared.prepare.Prepared.{Prepared}
 use Rattle.intersect.specs.Prepared.{Prepares}
 use Rattle.intersect.specs.Searched.{Searched, Settleable}

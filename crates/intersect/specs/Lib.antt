@@ -2,4 +2,3 @@
 pub mod Standing
 pub mod Searched
 pub mod Prepared
-pub mod Stub

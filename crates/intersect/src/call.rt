@@ -1,7 +1,7 @@
 // The call: a refusal before any configuration is reached, the search, the answer that it settles, and work space cleared.
 use crate::finish::settle;
 use crate::prepare::prepare;
-use crate::stub::explore;
+use exploration::explore::explore;
 use exploration::plan::Plan;
 use memory::answer::Counts;
 use memory::answer::Judged;

@@ -2,5 +2,4 @@
 pub mod prepare;
 pub mod keep;
 pub mod finish;
-pub mod stub;
 pub mod call;

@@ -6,7 +6,7 @@ use Rattle.intersect.proofs.call.reach.Tie as tie
 use Rattle.intersect.proofs.call.reach.Reads as reads
 use Rattle.intersect.proofs.call.reach.Lts as lts
 use Rattle.intersect.proofs.finish.settle.Reads as settle-reads
-use Rattle.intersect.proofs.stub.explore.Reads as explore-reads
+use Rattle.exploration.proofs.explore.explore.Reads as explore-reads
 
 explore-requires : tie.Need-explore-requires
 explore-requires c κs = search needs
