@@ -17,7 +17,8 @@ use Rattle.configuration.specs.declared.leftover.Leftover.{Leftover}
 use Rattle.configuration.specs.declared.config.Config.{Config}
 use Rattle.configuration.specs.Leftovers.{sided, leftoverAs, leftoverOf, blank, outside, Good}
 use Rattle.configuration.specs.Configs.{configAs, GoodConfig, configBytes}
-use Rattle.configuration.proofs.TestLaws.{kept-length, All-take}
+use Rattle.configuration.proofs.ListLaws.{All-take}
+use Rattle.configuration.proofs.TestLaws.{kept-length}
 use Rattle.configuration.proofs.RoundLaws.{all-leftovers, same-bytes, length-config}
 use Rattle.rows.specs.Inserted.{Tells}
 use Rattle.exploration.specs.Held.{configOf, rowOf, Stored}

@@ -114,6 +114,7 @@ module _ (bs : List ℕ) (limit : ℕ) (inside once : Bool) (r : PairsJudged) (s
       record {
         answer = s .answer ∙ rw (i, o, within-named tapes (pairsOf bs)) refl;
         pairs = s .pairs;
+        four = s .four;
         tapes-named = λ f. named-sided tapes (r .pairs) (tapes-sided tapes tapes i f);
         limit-fits = s .limit-fits;
       }
@@ -124,6 +125,7 @@ module _ (bs : List ℕ) (limit : ℕ) (inside once : Bool) (r : PairsJudged) (s
       record {
         answer = s .answer ∙ rw (i, o) refl;
         pairs = s .pairs;
+        four = s .four;
         tapes-named = λ f. tapes-sided n m i f;
         limit-fits = s .limit-fits;
       }

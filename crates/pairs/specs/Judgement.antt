@@ -43,6 +43,7 @@ pub record Settled (bytes : List ℕ) (inside once : Bool) (limit : ℕ) (r : Pa
 pub record ListJudged (bytes : List ℕ) (limit : ℕ) (expected : Answer (Unit {0})) (Tapes : PairList → Type 0) (r : PairsJudged) : Type 0 where
   pub answer : judgedAs (r .judged) ≡ expected
   pub pairs : r .judged ≡ Fine → pairsAs (r .pairs) ≡ pairsOf bytes
+  pub four : r .judged ≡ Fine → length (r .pairs .pairs) ≡ 4
   pub tapes-named : r .judged ≡ Fine → Tapes (r .pairs)
   pub limit-fits : r .judged ≡ Fine → limit ≤ maxDelay
 

@@ -1,0 +1,87 @@
+-- The search of a plan, as the answer is settled by it.
+use Prim.Native.Nat.{ℕ, _+_, _*_, _/_, _≤_, _<_, min}
+use mathlib.Core.Path.{_≡_, refl, sym, ap, subst, _∙_}
+use mathlib.Core.Bool.{Bool, true, false}
+use mathlib.Core.List.{List, [], _∷_, _++_, map}
+use native.Mathlib.Omega.{arith}
+use lib.ListN.{length, replicate}
+use Rattle.automata.specs.Lists.{All}
+use Rattle.automata.specs.Limits.{maxDelay}
+use Rattle.automata.specs.Config.{Config}
+use Rattle.automata.specs.Memory.{Memory, Sound, tableOf}
+use Rattle.automata.proofs.SoundFacts.{sound-holds}
+use Rattle.memory.specs.declared.answer.Judged.the-variants.{Fine}
+use Rattle.memory.specs.declared.answer.Counts.{Counts}
+use Rattle.memory.specs.Answers.{lent}
+use Rattle.memory.specs.Region.{rows}
+use Rattle.configuration.specs.Configs.{configAs, configBytes}
+use Rattle.trimming.specs.Rows.{RowOf, RowsOf}
+use Rattle.trimming.proofs.StateModel.{rows-of-codes}
+use Rattle.workspace.specs.declared.room.Room.{Room}
+use Rattle.workspace.specs.Room.{Divides}
+use Rattle.exploration.specs.declared.plan.Plan.{Plan}
+use Rattle.exploration.specs.Held.{configOf, rowOf, HoldsConfigs, Stored}
+use Rattle.exploration.specs.Plans.{Explorable, tableIn, pairsIn, viableIn, StoredIn}
+use Rattle.exploration.specs.declared.head.Head.{Head}
+use Rattle.exploration.specs.Exploring.{reachedIn, Explored}
+use Rattle.intersect.specs.declared.prepare.Prepared.{Prepared}
+use Rattle.intersect.specs.Prepared.{Prepares}
+use Rattle.intersect.specs.Searched.{Searched, Settleable}
+use Rattle.intersect.proofs.ConfigRows.{row-of}
+
+-- the row of a configuration that is stored holds it
+stored-row : (used limit n : ℕ) (c : Config) → used ≤ 4 → Stored used limit n c → RowOf c (rowOf c)
+unfolding rowOf
+stored-row used limit n c h s = subst (λ (x : Config). RowOf x (configBytes (configOf c) ++ replicate 22 0)) (s .meaning) (row-of used (configOf c) h (s .form))
+
+stored-rows : (used limit n k : ℕ) (cs : List Config) → used ≤ 4 → n ≡ k → All (Stored used limit n) cs → All (λ c. RowOf c (rowOf c) × (c .state < k)) cs
+stored-rows used limit n k [] h e a = tt
+stored-rows used limit n k (c ∷ cs) h e a = ((stored-row used limit n c h (a .0), omega (arith, a .0 .state-fits)), stored-rows used limit n k cs h e (a .1))
+
+module _ (p : Plan) (states arcs : List ℕ) (size : ℕ) (x : Explorable p states arcs size) (h : Head) (v w : List ℕ) (e : Explored p states arcs v h w) where
+  -- what the search tells
+  pub searched : Searched (lent (p .counts) states arcs) (pairsIn p) (viableIn p states arcs) (p .room) (h .full) (h .late) (h .reached) (h .arcs) w
+  searched = record {
+    over = e .comes .over;
+    within = λ f. let d = e .comes .held f in record {
+      few = d .fits;
+      many = d .reached;
+      number = d .arc-count;
+      delay = d .late-is;
+      placed =
+          subst (RowsOf (length (tableIn p states arcs .states)) (reachedIn p states arcs)) (sym (d .configs))
+          (rows-of-codes (length (tableIn p states arcs .states)) rowOf (reachedIn p states arcs)
+          (stored-rows (p .pairs .used) (p .limit) (p .counts .states) (length (tableIn p states arcs .states)) (reachedIn p states arcs) (x .named .used-fit)
+          (sound-holds (lent (p .counts) states arcs) (x .sound) .states) (d .stored)));
+      held = d .edges;
+    };
+  }
+
+  -- so that the answer can be settled
+  pub settleable : (forStates forArcs : ℕ) → Divides (forStates / 10) (forArcs / 80) (p .counts .states) (length v) (p .room)
+      → Settleable (lent (p .counts) states arcs) (p .room) (h .full) (h .late) (h .reached) (h .arcs) w forStates forArcs
+  settleable forStates forArcs d = record {
+    sound = x .sound;
+    divides = subst (λ (k : ℕ). Divides (forStates / 10) (forArcs / 80) (p .counts .states) k (p .room)) (sym (e .same-length)) d;
+    pairs = pairsIn p;
+    test = viableIn p states arcs;
+    searched = searched;
+  }
+
+-- what was judged before the search is what it asks for
+pub explorable : (c : Counts) (states arcs bytes : List ℕ) (D forStates forArcs work limit : ℕ) (r : Prepared) → Prepares (lent c states arcs) bytes D forStates forArcs work r
+    → r .judged ≡ Fine → limit ≡ D
+    → Explorable (record { counts = c; pairs = r .pairs; limit = limit; room = r .room }) states arcs work
+explorable c states arcs bytes D forStates forArcs work limit r p e l =
+    let d = p .divides e in
+    record {
+      sound = p .sound e;
+      named = p .named e;
+      four-pairs = p .four e;
+      limit-fits = omega (arith, p .limit-fits e);
+      configs-fit = d .configs-fit;
+      edges-fit = d .edges-fit;
+      delays-fit = d .delays-fit;
+      few-states = omega (arith, d .state-cap);
+      few-arcs = omega (arith, d .arc-cap);
+    }

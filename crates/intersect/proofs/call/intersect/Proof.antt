@@ -1,0 +1,34 @@
+-- `intersect::call::intersect` meets its contract. Assumes nothing.
+use denote.Ref.{now}
+use Rattle.intersect.proofs.CallLaws.{call-cleared}
+use borrow.Author.Needs.{needs}
+use Rattle.intersect.proofs.call.intersect.Statement.{statement}
+use Rattle.intersect.proofs.call.intersect.Tie as tie
+use Rattle.intersect.proofs.call.intersect.Reads as reads
+use Rattle.intersect.proofs.call.intersect.Lts as lts
+use Rattle.intersect.proofs.call.build.Reads as build-reads
+use Rattle.memory.proofs.bytes.zero.Reads as zero-reads
+
+build-requires : tie.Need-build-requires
+build-requires c κs = search needs
+
+zero-requires : tie.Need-zero-requires
+zero-requires c κs = search needs
+
+same-length : tie.Need-same-length
+same-length c = search needs
+
+same-length-2 : tie.Need-same-length-2
+same-length-2 c = search needs
+
+same-length-3 : tie.Need-same-length-3
+same-length-3 c = search needs
+
+returns : tie.Need-returns
+returns c =
+    call-cleared _ _ _ _ _ _ _ _ _ _ (c .before .before .before .before .before .before .before .before .before .before .build .ensures) (c .before .before .before .before .before .before .before .before .before .before .build .kept .1 .1 .1 .1 .1 .1 .1 .0) (c .before .before .zero .ensures)
+
+pub intersect-spec : {M : Type 1} → statement M
+intersect-spec =
+    tie.close
+    (tie.spec build-requires zero-requires same-length same-length-2 same-length-3 returns)

@@ -1,0 +1,36 @@
+-- `intersect::call::reach` meets its contract. Assumes nothing.
+use Rattle.intersect.proofs.SearchLaws.{searched, settleable}
+use borrow.Author.Needs.{needs}
+use Rattle.intersect.proofs.call.reach.Statement.{statement}
+use Rattle.intersect.proofs.call.reach.Tie as tie
+use Rattle.intersect.proofs.call.reach.Reads as reads
+use Rattle.intersect.proofs.call.reach.Lts as lts
+use Rattle.intersect.proofs.finish.settle.Reads as settle-reads
+use Rattle.exploration.proofs.explore.explore.Reads as explore-reads
+
+explore-requires : tie.Need-explore-requires
+explore-requires c κs = search needs
+
+settle-requires : tie.Need-settle-requires
+settle-requires c κs =
+    let s = c .before .before .before .before .before .before .before .before .before .before .before .before .before .before in
+    settleable _ _ _ _ (s .pre .0) _ _ _ (c .before .before .before .before .before .before .before .explore .ensures) _ _ (s .pre .1)
+
+same-length : tie.Need-same-length
+same-length c = search needs
+
+same-length-2 : tie.Need-same-length-2
+same-length-2 c = search needs
+
+same-length-3 : tie.Need-same-length-3
+same-length-3 c = search needs
+
+returns : tie.Need-returns
+returns c =
+    let s = c .before .before .before .before .before .before .before .before .before .before .before .before .before .before .before .before .before .before .before in
+    c .before .before .before .before .settle .ensures _ _ (searched _ _ _ _ (s .pre .0) _ _ _ (c .before .before .before .before .before .before .before .before .before .before .before .before .explore .ensures))
+
+pub reach-spec : {M : Type 1} → statement M
+reach-spec =
+    tie.close
+    (tie.spec explore-requires settle-requires same-length same-length-2 same-length-3 returns)
