@@ -2,11 +2,11 @@
 // negated), and whether a final state is reached. Each is worked out by hand beside its table; a delay is the number of symbols that a
 // path to a final state spells on the pair's first tape, less that on its second.
 use delays::closing_tables;
-use memory::pair::Pair;
-use memory::pair::PairList;
 use memory::answer::Counts;
 use memory::bytes::copy_into;
 use memory::bytes::get16;
+use memory::pair::Pair;
+use memory::pair::PairList;
 ghost use mathlib.Core.Path.{_≡_};
 ghost use Prim.Native.Nat.{_+_, _*_, _≤_};
 ghost use lib.ListN.{length};

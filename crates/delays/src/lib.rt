@@ -1,9 +1,9 @@
 // The closing delays of all pairs in a region of the work space, and the test for viable configurations that reads them.
 
-use memory::pair::Pair;
-use memory::pair::PairList;
 use memory::answer::Counts;
 use memory::bytes::get16;
+use memory::pair::Pair;
+use memory::pair::PairList;
 use memory::record::InputState;
 use relaxation::least_delays;
 use relaxation::run_rounds;

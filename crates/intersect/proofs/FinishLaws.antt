@@ -139,5 +139,5 @@ module _ (m : Memory) (base n arcs : ℕ) (w : List ℕ) (forStates forArcs : �
     arcs-writable h = (
       joined-wider n (length marks) (edgesAt base arcs w) h (laid .joined),
       stands-arcs m (f .sound) (f .pairs) (f .test) (f .configs) base n arcs w (f .stands),
-      omega (arith, arcs-room m (f .sound) (f .pairs) (f .test) (f .configs) base n arcs w (f .stands) marks ranks kept keeps, f .arcs-lent)
+      omega (arith, arcs-room m (f .sound) (f .pairs) (f .test) (f .configs) base n arcs w (f .stands) marks ranks kept keeps, f .arcs-lent),
     )

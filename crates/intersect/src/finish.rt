@@ -12,7 +12,17 @@ ghost use Rattle.intersect.specs.Standing.{Finishable, Finished};
 ghost use Rattle.intersect.specs.Searched.{Settleable, Settled};
 
 // The result on the configurations that stand in `work`, the edges between them from `base` on: those from which a final one is reached.
-pub fn finish(counts: Counts, base: usize, reached: usize, arcs: usize, states: &[u8], inputs: &[u8], work: &[u8], out_states: &mut [u8], out_arcs: &mut [u8]) -> TableAnswer
+pub fn finish(
+    counts: Counts,
+    base: usize,
+    reached: usize,
+    arcs: usize,
+    states: &[u8],
+    inputs: &[u8],
+    work: &[u8],
+    out_states: &mut [u8],
+    out_arcs: &mut [u8],
+) -> TableAnswer
     requires { ⌜ Finishable (lent counts (now states) (now inputs)) base reached arcs (now work) (length (now «out_states»)) (length (now «out_arcs»)) ⌝ }
     ensures { λ r. ⌜ Finished (lent counts (now (states .entry)) (now (inputs .entry))) base reached arcs (now (work .entry)) (tableAs r) (now («out_states» .exit)) (now («out_arcs» .exit)) (now («out_states» .entry)) (now («out_arcs» .entry)) ⌝ }
 {
@@ -29,7 +39,19 @@ pub fn finish(counts: Counts, base: usize, reached: usize, arcs: usize, states: 
 }
 
 // The answer: more configurations than there is room for (8), more arcs (9), a step that is too long (10), or the result.
-pub fn settle(counts: Counts, room: Room, full: bool, late: bool, reached: usize, arcs: usize, states: &[u8], inputs: &[u8], work: &[u8], out_states: &mut [u8], out_arcs: &mut [u8]) -> TableAnswer
+pub fn settle(
+    counts: Counts,
+    room: Room,
+    full: bool,
+    late: bool,
+    reached: usize,
+    arcs: usize,
+    states: &[u8],
+    inputs: &[u8],
+    work: &[u8],
+    out_states: &mut [u8],
+    out_arcs: &mut [u8],
+) -> TableAnswer
     requires { ⌜ Settleable (lent counts (now states) (now inputs)) room full late reached arcs (now work) (length (now «out_states»)) (length (now «out_arcs»)) ⌝ }
     ensures { λ r. ⌜ Settled (lent counts (now (states .entry)) (now (inputs .entry))) room full late reached arcs (now (work .entry)) (tableAs r) (now («out_states» .exit)) (now («out_arcs» .exit)) (now («out_states» .entry)) (now («out_arcs» .entry)) ⌝ }
 {
@@ -42,5 +64,15 @@ pub fn settle(counts: Counts, room: Room, full: bool, late: bool, reached: usize
     if late {
         return TableAnswer::Refused(Refusal::Delay);
     }
-    finish(counts, room.edges, reached, arcs, states, inputs, work, out_states, out_arcs)
+    finish(
+        counts,
+        room.edges,
+        reached,
+        arcs,
+        states,
+        inputs,
+        work,
+        out_states,
+        out_arcs,
+    )
 }

@@ -7,7 +7,15 @@ ghost use lib.ListN.{length};
 ghost use Rattle.intersect.specs.Standing.{Laid, Kept};
 
 // The marks of the rows from which a final one is reached, and the number of marked rows before each. Answers how many are marked.
-pub fn keep(base: usize, reached: usize, arcs: usize, states: &[u8], work: &[u8], marks: &mut [u8], ranks: &mut [u16]) -> usize
+pub fn keep(
+    base: usize,
+    reached: usize,
+    arcs: usize,
+    states: &[u8],
+    work: &[u8],
+    marks: &mut [u8],
+    ranks: &mut [u16],
+) -> usize
     requires { ⌜ Laid base reached arcs (now states) (now work) × (reached ≤ length (now marks)) × (reached ≤ length (now ranks)) ⌝ }
     ensures { λ r. ⌜ Kept base reached arcs (now (states .entry)) (now (work .entry)) (now (marks .exit)) (now (ranks .exit)) r ⌝ }
 {

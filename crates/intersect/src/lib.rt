@@ -1,5 +1,5 @@
 // The auto-intersection as it is called.
-pub mod prepare;
-pub mod keep;
-pub mod finish;
 pub mod call;
+pub mod finish;
+pub mod keep;
+pub mod prepare;

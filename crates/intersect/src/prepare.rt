@@ -5,8 +5,8 @@ use memory::answer::Refusal;
 use memory::judge::judge;
 use memory::pair::PairList;
 use pairs::judge_pairs;
-use workspace::room::room_for;
 use workspace::room::Room;
+use workspace::room::room_for;
 ghost use mathlib.Core.Path.{_≡_};
 ghost use Rattle.memory.specs.Answers.{judgedAs, lent};
 ghost use Rattle.intersect.specs.Prepared.{inTurn, Prepares};
@@ -36,7 +36,16 @@ fn in_turn(table: Judged, pairs: Judged, enough: bool) -> Judged
 }
 
 // The table, the pairs and the work space of so many bytes for a result of so many states and arcs, judged in this order.
-pub fn prepare(counts: Counts, states: &[u8], arcs: &[u8], pairs: &[u8], limit: usize, lent_states: usize, lent_arcs: usize, work: usize) -> Prepared
+pub fn prepare(
+    counts: Counts,
+    states: &[u8],
+    arcs: &[u8],
+    pairs: &[u8],
+    limit: usize,
+    lent_states: usize,
+    lent_arcs: usize,
+    work: usize,
+) -> Prepared
     ensures { λ r. ⌜ Prepares (lent counts (now (states .entry)) (now (arcs .entry))) (now (pairs .entry)) limit «lent_states» «lent_arcs» work r ⌝ }
 {
     let table = judge(counts, states, arcs);

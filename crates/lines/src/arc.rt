@@ -1,4 +1,7 @@
 // Lines of arcs: source, target, weight, and a label on each tape.
+use memory::answer::Judged;
+use memory::answer::Refusal;
+use memory::answer::both;
 use text_columns::decimal::Number;
 use text_columns::decimal::judge_number;
 use text_columns::decimal::number_of;
@@ -6,9 +9,6 @@ use text_columns::decimal::read_state_number;
 use text_columns::label::judge_labels;
 use text_columns::label::line_end;
 use text_columns::weight::read_present;
-use memory::answer::Judged;
-use memory::answer::Refusal;
-use memory::answer::both;
 ghost use mathlib.Core.Path.{_≡_};
 ghost use Prim.Native.Nat.{_+_, _*_, _≤_};
 ghost use lib.ListN.{length, drop};

@@ -1,12 +1,12 @@
 // The header of a table: how many tapes, states and arcs it has.
-use text_columns::decimal::judge_number;
-use text_columns::decimal::number_of;
-use text_columns::decimal::read_decimal;
-use text_columns::label::line_end;
 use memory::answer::Counts;
 use memory::answer::Judged;
 use memory::answer::Refusal;
 use memory::answer::both;
+use text_columns::decimal::judge_number;
+use text_columns::decimal::number_of;
+use text_columns::decimal::read_decimal;
+use text_columns::label::line_end;
 ghost use mathlib.Core.Path.{_≡_};
 ghost use lib.ListN.{length};
 ghost use Rattle.memory.specs.Answers.{judgedAs};

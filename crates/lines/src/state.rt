@@ -1,13 +1,13 @@
 // Lines of states: the initial and the final weight.
-use text_columns::label::line_end;
-use text_columns::weight::judge_weight;
-use text_columns::weight::read_weight;
-use text_columns::weight::weight_of;
 use memory::answer::Judged;
 use memory::answer::Refusal;
 use memory::answer::both;
 use memory::record::State;
 use memory::record::Weight;
+use text_columns::label::line_end;
+use text_columns::weight::judge_weight;
+use text_columns::weight::read_weight;
+use text_columns::weight::weight_of;
 ghost use mathlib.Core.Path.{_≡_};
 ghost use Prim.Native.Nat.{_≤_};
 ghost use lib.ListN.{length, drop};

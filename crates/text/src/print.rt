@@ -1,9 +1,9 @@
 // The records of a table, written as the lines of its text.
-use text_columns::decimal::write_decimal;
 use memory::answer::Counts;
 use memory::bytes::copy_into;
 use memory::bytes::get16;
 use memory::bytes::get32;
+use text_columns::decimal::write_decimal;
 ghost use mathlib.Core.Path.{_≡_};
 ghost use Prim.Native.Nat.{_+_, _*_, _≤_, min};
 ghost use lib.ListN.{length};

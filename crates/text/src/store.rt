@@ -1,5 +1,4 @@
 // The lines of a text, stored as the records of a table.
-use text_columns::weight::leading_blanks;
 use lines::arc::ArcNumbers;
 use lines::arc::numbers_of;
 use lines::arc::read_arc_line;
@@ -9,6 +8,7 @@ use memory::bytes::copy_into;
 use memory::bytes::put16;
 use memory::bytes::put32;
 use memory::record::store_state;
+use text_columns::weight::leading_blanks;
 ghost use mathlib.Core.Path.{_≡_};
 ghost use Prim.Native.Nat.{_+_, _*_, _≤_};
 ghost use lib.ListN.{length, drop};
