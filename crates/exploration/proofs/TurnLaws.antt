@@ -56,10 +56,11 @@ record-back used at d w g h =
 
 module _ (p : Plan) (states arcs : List ℕ) (h : Head) (s : ConfigSearch) (late : Bool) (w : List ℕ) (x : Explorable p states arcs (length w)) (o : Holds p states arcs h s late w)
     (k : ℕ) (c : automata.Config) (e : getElem? (s .vertices) k ≡ some c) where
-  place-stored : StoredIn p c
+  -- a configuration that is held may be stored, and its row is within the work space
+  pub place-stored : StoredIn p c
   place-stored = all-place (StoredIn p) (s .vertices) k (o .stored) e
 
-  place-fits : 320 * k + 320 ≤ length w
+  pub place-fits : 320 * k + 320 ≤ length w
   place-fits = let b = ListFacts.place-bound (s .vertices) k e in omega (arith, b, o .fits, x .configs-fit, x .edges-fit, x .delays-fit)
 
   -- what is loaded from the row of a configuration is the configuration by value
