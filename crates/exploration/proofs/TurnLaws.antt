@@ -1,9 +1,9 @@
 -- The arcs of a configuration that is taken up, one after the other.
 use Prim.Native.Nat.{ℕ, zero, suc, _+_, _-_, _*_, _≤_, _<_}
-use mathlib.Core.Path.{_≡_, refl, sym, ap, ap₂, _∙_, subst}
+use mathlib.Core.Path.{_≡_, refl, sym, ap, _∙_, subst}
 use mathlib.Core.Bool.{Bool, true, false}
-use mathlib.Core.Option.{Option, none, some}
-use mathlib.Core.List.{List, [], _∷_, _++_, map}
+use mathlib.Core.Option.{none, some}
+use mathlib.Core.List.{List, [], _∷_, map}
 use native.Mathlib.Omega.{arith}
 use native.Mathlib.Nat.{add-zero}
 use lib.ListN.{length, getD, getElem?}
@@ -13,7 +13,7 @@ use Rattle.automata.specs.Config as automata
 use Rattle.automata.specs.Config.{sameConfig}
 use Rattle.automata.specs.TapePair.{TapePair}
 use Rattle.automata.specs.Offer.{Offer, nothing, late, to, successor, isLate, offer, outUpTo, lateUpTo}
-use Rattle.automata.specs.Search.{Search, note, noteAll}
+use Rattle.automata.specs.Search.{noteAll}
 use Rattle.automata.specs.Intersect.{out}
 use Rattle.automata.proofs.ListFacts
 use Rattle.automata.proofs.TestFacts
@@ -22,7 +22,7 @@ use Rattle.automata.proofs.Configurations.{configs-decided}
 use Rattle.automata.proofs.SearchFacts.{noteAll-append, noteAll-length}
 use Rattle.automata.proofs.SoundFacts.{sound-well-formed}
 use Rattle.automata.proofs.IntersectSteps.{outUpTo-zero, outUpTo-all, outUpTo-begins, noted-to, noted-none, lateUpTo-zero, lateUpTo-suc}
-use Rattle.memory.specs.Region.{part, splice, rows}
+use Rattle.memory.specs.Region.{part, splice}
 use Rattle.memory.specs.Answers.{lent}
 use Rattle.memory.proofs.Laws.{part-part, part-front}
 use Rattle.memory.proofs.RowLaws.{getD-rows}
