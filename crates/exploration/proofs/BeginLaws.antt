@@ -1,13 +1,13 @@
 -- The configurations in which paths start, one input state after the other.
-use Prim.Native.Nat.{ℕ, zero, suc, _+_, _-_, _*_, _≤_, _<_}
+use Prim.Native.Nat.{ℕ, zero, suc, _+_, _-_, _≤_, _<_}
 use mathlib.Core.Path.{_≡_, refl, sym, ap, _∙_, subst}
-use mathlib.Core.Bool.{Bool, true, false}
-use mathlib.Core.List.{List, [], _∷_, _++_}
+use mathlib.Core.Bool.{true, false}
+use mathlib.Core.List.{List, [], _++_}
 use native.Mathlib.Omega.{arith}
-use lib.ListN.{length, getElem?, take}
+use lib.ListN.{length, take}
 use lib.Seq.{take-all}
 use Rattle.automata.specs.Lists.{consMaybe, mapMaybe, numbered}
-use Rattle.automata.specs.Automaton.{State, Automaton}
+use Rattle.automata.specs.Automaton.{State}
 use Rattle.automata.specs.Config as automata
 use Rattle.automata.specs.Config.{sameConfig}
 use Rattle.automata.specs.Explore.{insertAll}
@@ -26,10 +26,6 @@ use Rattle.exploration.specs.Plans.{Explorable, tableIn, pairsIn, tables
 use Rattle.exploration.specs.Searching.{ConfigSearch, Holds, Comes}
 use Rattle.exploration.specs.Starting.{withConfigs, startBy, startsUpTo, Startable, Enters, Beginnable, Begun}
 use Rattle.exploration.proofs.StartLaws.{state-count}
-
--- no configuration, and no edge
-abbrev noSearch : ConfigSearch
-noSearch = record { vertices = []; edges = [] }
 
 -- the configurations in which paths start in the first q states
 abbrev firsts : Plan → List ℕ → List ℕ → ℕ → List automata.Config

@@ -1,13 +1,13 @@
 -- Configurations and their rows: a configuration in its one form comes back, rows tell configurations apart, and which ones may be stored.
-use Prim.Native.Nat.{ℕ, zero, suc, _+_, _-_, _*_, _≤_, _<_}
-use mathlib.Core.Path.{_≡_, refl, sym, ap, ap₂, _∙_, subst}
+use Prim.Native.Nat.{ℕ, zero, suc, _+_, _-_, _≤_, _<_}
+use mathlib.Core.Path.{_≡_, sym, ap, _∙_, subst}
 use mathlib.Core.Bool.{Bool, true, false}
 use mathlib.Core.List.{List, [], _∷_, _++_, map}
 use native.Mathlib.Omega.{arith}
 use lib.Dec.{ltb, eqb}
-use lib.ListN.{length, getD, take, drop, replicate, length-append, length-map, length-replicate}
+use lib.ListN.{length, getD, take, replicate, length-append, length-map}
 use lib.Seq.{take-at, getD-take, length-take-le}
-use Rattle.automata.specs.Lists.{All, or, _∈_, here, there, sameList}
+use Rattle.automata.specs.Lists.{All, or, here, there, sameList}
 use Rattle.automata.specs.TapePair.{Pair, limited}
 use Rattle.automata.specs.Config as automata
 use Rattle.automata.proofs.TestFacts

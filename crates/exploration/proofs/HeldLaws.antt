@@ -1,23 +1,20 @@
 -- What entering a configuration and noting an edge leave of the work space, and that the search stays held.
 use Prim.Native.Nat.{ℕ, zero, suc, _+_, _-_, _*_, _≤_, _<_}
 use mathlib.Core.Path.{_≡_, refl, sym, ap, ap₂, _∙_, subst}
-use mathlib.Core.Logic.{inl, inr}
 use mathlib.Core.Bool.{Bool, true, false}
-use mathlib.Core.List.{List, [], _∷_, _++_, map}
+use mathlib.Core.List.{List, [], _∷_, _++_}
 use native.Mathlib.Omega.{arith}
 use lib.Dec.{ltb}
-use lib.ListN.{length, getElem?, take, drop, replicate, length-append, length-map}
-use lib.Seq.{length-take-le}
+use lib.ListN.{length, drop, replicate, length-append}
 use borrow.Author.Tests.{lt-ltb, le-ltb}
 use Rattle.automata.specs.Lists.{All, if}
 use Rattle.automata.specs.Automaton.{Arc}
 use Rattle.automata.specs.Config as automata
 use Rattle.automata.specs.Config.{sameConfig}
-use Rattle.automata.specs.Explore.{Edge, member, insert, indexOf}
-use Rattle.automata.specs.Search.{note}
+use Rattle.automata.specs.Explore.{Edge, member, insert}
 use Rattle.automata.proofs.TestFacts
 use Rattle.automata.proofs.Configurations.{configs-decided}
-use Rattle.memory.specs.Region.{part, splice, rows}
+use Rattle.memory.specs.Region.{part, splice}
 use Rattle.memory.specs.Endian.{le}
 use Rattle.memory.specs.Answers.{lent}
 use Rattle.memory.specs.declared.record.ResultState.{ResultState}
@@ -31,17 +28,16 @@ use Rattle.rows.proofs.Meaning.{entered-at, entered-new, entered-full, at-count
 use Rattle.configuration.specs.declared.config.Config.{Config}
 use Rattle.configuration.specs.Configs.{configAs, GoodConfig, configBytes}
 use Rattle.configuration.proofs.RoundLaws.{length-config}
-use Rattle.delays.specs.ClosingRegion.{HoldsClosing}
 use Rattle.delays.proofs.KeptLaws.{holds-part}
 use Rattle.delays.proofs.TestLaws.{length-closings}
 use Rattle.edges.specs.declared.edge.EdgeRecord.{EdgeRecord}
-use Rattle.edges.specs.Edges.{edgeBytes, edgeAt, recordOf, HoldsEdges}
+use Rattle.edges.specs.Edges.{edgeBytes, recordOf, HoldsEdges}
 use Rattle.edges.proofs.EdgeLaws.{length-edge, holds-more, holds-beyond}
 use Rattle.exploration.specs.declared.plan.Plan.{Plan}
 use Rattle.exploration.specs.declared.head.Head.{Head}
-use Rattle.exploration.specs.Held.{configOf, rowOf, HoldsConfigs}
-use Rattle.exploration.specs.Plans.{Explorable, tableIn, pairsIn, tablesIn, StoredIn}
-use Rattle.exploration.specs.Searching.{rowBytes, keptEdge, counted, ConfigSearch, Holds, Comes, Arrivable, Arrives}
+use Rattle.exploration.specs.Held.{rowOf}
+use Rattle.exploration.specs.Plans.{Explorable, tablesIn, StoredIn}
+use Rattle.exploration.specs.Searching.{rowBytes, keptEdge, counted, ConfigSearch, Holds}
 use Rattle.exploration.proofs.FormLaws.{form-back, length-row, rows-tell}
 
 -- ---- a row and an edge record

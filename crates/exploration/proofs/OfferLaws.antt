@@ -1,9 +1,9 @@
 -- What an arc offers a configuration, from what the calls answer.
 use Prim.Native.Nat.{ℕ, _+_, _-_, _*_, _≤_, _<_}
-use mathlib.Core.Path.{_≡_, refl, sym, ap, ap₂, _∙_, subst}
+use mathlib.Core.Path.{_≡_, refl, sym, ap, _∙_, subst}
 use mathlib.Core.Bool.{Bool, true, false, not}
 use mathlib.Core.Option.{Option, none, some, Option·map, Option·some-injective}
-use mathlib.Core.List.{List, [], map}
+use mathlib.Core.List.{List, []}
 use native.Mathlib.Omega.{arith}
 use lib.Dec.{eqb}
 use lib.ListN.{length, getD, getElem?, take, length-map}
@@ -13,7 +13,6 @@ use Rattle.automata.specs.Lists.{if, guard}
 use Rattle.automata.specs.Automaton.{Arc}
 use Rattle.automata.specs.Leftover as leftover
 use Rattle.automata.specs.Config as automata
-use Rattle.automata.specs.TapePair.{limited}
 use Rattle.automata.specs.Memory.{Memory, tableOf}
 use Rattle.automata.specs.Closing.{viable}
 use Rattle.automata.specs.Table.{WellFormedArc}
@@ -32,14 +31,12 @@ use Rattle.configuration.specs.Configs.{configAs, GoodConfig, TellsLong, length
 use Rattle.configuration.specs.Steps.{Reads, Followable, Follows, followedAs}
 use Rattle.configuration.proofs.TestLaws.{length-of}
 use Rattle.configuration.proofs.SoundLaws.{reads-arc, followable}
-use Rattle.delays.specs.ClosingRegion.{HoldsClosing, Lengths, Tests}
+use Rattle.delays.specs.ClosingRegion.{HoldsClosing, Tests}
 use Rattle.delays.proofs.TestLaws.{length-closings}
 use Rattle.exploration.specs.declared.plan.Plan.{Plan}
-use Rattle.exploration.specs.declared.offer.Kind.{Kind}
 use Rattle.exploration.specs.declared.offer.Kind.the-variants.{Nothing, Late, To}
-use Rattle.exploration.specs.declared.offer.Offered.{Offered}
-use Rattle.exploration.specs.Plans.{Explorable, tableIn, pairsIn, tablesIn, viableIn, StoredIn}
-use Rattle.exploration.specs.Offers.{TellsViable, Offerable, Offers, offeredAs}
+use Rattle.exploration.specs.Plans.{Explorable, tableIn, pairsIn, tablesIn, viableIn}
+use Rattle.exploration.specs.Offers.{TellsViable, Offerable, Offers}
 use Rattle.exploration.proofs.FormLaws.{stored-form, not-long}
 
 -- the test for viable configurations, by the lengths of the leftovers

@@ -1,18 +1,18 @@
 -- All configurations that are reached, taken up one after the other.
-use Prim.Native.Nat.{ℕ, zero, suc, _+_, _-_, _*_, _≤_, _<_}
-use mathlib.Core.Path.{_≡_, refl, sym, ap, _∙_, subst}
+use Prim.Native.Nat.{ℕ, suc, _-_, _*_, _≤_, _<_}
+use mathlib.Core.Path.{_≡_, refl, sym, _∙_, subst}
 use mathlib.Core.Bool.{Bool, true, false}
 use mathlib.Core.Option.{some}
-use mathlib.Core.List.{List, []}
+use mathlib.Core.List.{List}
 use native.Mathlib.Omega.{arith}
-use lib.ListN.{length, getElem?, take}
+use lib.ListN.{length, take}
 use Rattle.automata.specs.Lists.{any, or}
-use Rattle.automata.specs.Automaton.{Arc, Automaton}
+use Rattle.automata.specs.Automaton.{Arc}
 use Rattle.automata.specs.Config as automata
 use Rattle.automata.specs.Config.{sameConfig}
 use Rattle.automata.specs.Explore.{Edge, edges, reached}
 use Rattle.automata.specs.Offer.{lateUpTo}
-use Rattle.automata.specs.Search.{searchFrom, searched, noteAll}
+use Rattle.automata.specs.Search.{searched}
 use Rattle.automata.specs.Intersect.{starts, out, reachedConfigs, delayed}
 use Rattle.automata.proofs.ListFacts
 use Rattle.automata.proofs.TestFacts
@@ -21,13 +21,13 @@ use Rattle.automata.proofs.SearchFacts.{searched-some, searched-reached, found-
 use Rattle.automata.proofs.SearchedEdges.{searched-edges}
 use Rattle.automata.proofs.IntersectSteps.{delayed-late}
 use Rattle.memory.specs.Answers.{lent}
-use Rattle.delays.specs.ClosingRegion.{HoldsClosing, WritesClosing}
+use Rattle.delays.specs.ClosingRegion.{WritesClosing}
 use Rattle.exploration.specs.declared.plan.Plan.{Plan}
 use Rattle.exploration.specs.declared.head.Head.{Head}
-use Rattle.exploration.specs.Plans.{Explorable, tableIn, pairsIn, tablesIn, viableIn}
+use Rattle.exploration.specs.Plans.{Explorable, tableIn, pairsIn, viableIn}
 use Rattle.exploration.specs.Searching.{ConfigSearch, Holds, Comes, Takable, TakesUp}
 use Rattle.exploration.specs.Starting.{Beginnable, Begun}
-use Rattle.exploration.specs.Exploring.{begunSearch, reachedIn, ComesToReached, Runnable, Runs, Explored}
+use Rattle.exploration.specs.Exploring.{begunSearch, ComesToReached, Runnable, Runs, Explored}
 
 module _ (p : Plan) (states arcs : List ℕ) where
   abbrev outIn : automata.Config → List ((ℕ × Arc ℕ) × automata.Config)

@@ -1,31 +1,27 @@
 -- The configurations in which paths start, from what the calls answer and leave.
-use Prim.Native.Nat.{ℕ, zero, suc, _+_, _-_, _*_, _≤_, _<_}
+use Prim.Native.Nat.{ℕ, _+_, _-_, _*_, _≤_, _<_}
 use mathlib.Core.Path.{_≡_, refl, sym, ap, ap₂, _∙_, subst}
 use mathlib.Core.Bool.{Bool, true, false, not}
 use mathlib.Core.Option.{Option, none, some}
-use mathlib.Core.List.{List, [], _∷_, _++_, map}
+use mathlib.Core.List.{List, [], _∷_, map}
 use native.Mathlib.Omega.{arith}
 use lib.Dec.{eqb, ltb}
 use lib.ListN.{length, getD, getElem?, take, drop, length-map}
-use lib.Seq.{getD-take, getD-drop, take-all, length-take-le}
+use lib.Seq.{getD-take, getD-drop, length-take-le}
 use borrow.Author.Tests.{eq-eqb, ne-eqb}
-use Rattle.automata.specs.Lists.{and, or, guard, isSome, consMaybe, mapMaybe, numbered}
-use Rattle.automata.specs.Automaton.{State, Automaton}
-use Rattle.automata.specs.TapePair.{TapePair, limited}
+use Rattle.automata.specs.Lists.{and, guard, isSome, consMaybe}
+use Rattle.automata.specs.Automaton.{State}
+use Rattle.automata.specs.TapePair.{TapePair}
 use Rattle.automata.specs.Leftover as leftover
 use Rattle.automata.specs.Config as automata
 use Rattle.automata.specs.Config.{sameConfig}
 use Rattle.automata.specs.Memory.{Memory, flag, tableOf}
-use Rattle.automata.specs.Explore.{insert, insertAll}
-use Rattle.automata.specs.Search.{searchFrom}
+use Rattle.automata.specs.Explore.{insert}
 use Rattle.automata.specs.Intersect.{starts}
 use Rattle.automata.proofs.ListFacts
 use Rattle.automata.proofs.TestFacts
-use Rattle.automata.proofs.AppendFacts
 use Rattle.automata.proofs.MemoryLaws.{state-field}
-use Rattle.automata.proofs.SearchFacts.{insertAll-append, insertAll-begins}
 use Rattle.automata.proofs.SoundFacts.{sound-well-formed, sound-holds, sound-states-lent}
-use Rattle.memory.specs.Region.{rows}
 use Rattle.memory.specs.Answers.{lent}
 use Rattle.memory.specs.Pairs.{pairAs, pairsAs}
 use Rattle.memory.specs.declared.record.ResultState.{ResultState}
@@ -36,13 +32,12 @@ use Rattle.configuration.specs.declared.config.Config.{Config}
 use Rattle.configuration.specs.Configs.{configAs, GoodConfig, Starts}
 use Rattle.delays.specs.ClosingRegion.{HoldsClosing}
 use Rattle.delays.proofs.TestLaws.{length-closings}
-use Rattle.edges.proofs.EdgeLaws.{holds-none}
 use Rattle.exploration.specs.declared.plan.Plan.{Plan}
 use Rattle.exploration.specs.declared.head.Head.{Head}
-use Rattle.exploration.specs.Plans.{Explorable, tableIn, pairsIn, tablesIn, viableIn, StoredIn}
+use Rattle.exploration.specs.Plans.{Explorable, tableIn, pairsIn, tablesIn, viableIn}
 use Rattle.exploration.specs.Offers.{TellsViable}
-use Rattle.exploration.specs.Searching.{rowBytes, ConfigSearch, Holds, Comes}
-use Rattle.exploration.specs.Starting.{withConfigs, Admittable, Admits, startBy, startsUpTo, Startable, Enters, Beginnable, Begun}
+use Rattle.exploration.specs.Searching.{rowBytes, Comes}
+use Rattle.exploration.specs.Starting.{withConfigs, Admittable, Admits, startBy, Startable, Enters}
 use Rattle.exploration.proofs.FormLaws.{stored-form, not-long}
 use Rattle.exploration.proofs.HeldLaws.{was-at, was-new, was-full, count-at, count-new, inserted-held}
 use Rattle.exploration.proofs.VisitLaws.{withReached}

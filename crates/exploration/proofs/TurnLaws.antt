@@ -1,9 +1,9 @@
 -- The arcs of a configuration that is taken up, one after the other.
 use Prim.Native.Nat.{ℕ, zero, suc, _+_, _-_, _*_, _≤_, _<_}
-use mathlib.Core.Path.{_≡_, refl, sym, ap, ap₂, _∙_, subst}
+use mathlib.Core.Path.{_≡_, refl, sym, ap, _∙_, subst}
 use mathlib.Core.Bool.{Bool, true, false}
-use mathlib.Core.Option.{Option, none, some}
-use mathlib.Core.List.{List, [], _∷_, _++_, map}
+use mathlib.Core.Option.{none, some}
+use mathlib.Core.List.{List, [], _∷_, map}
 use native.Mathlib.Omega.{arith}
 use native.Mathlib.Nat.{add-zero}
 use lib.ListN.{length, getD, getElem?}
@@ -13,7 +13,7 @@ use Rattle.automata.specs.Config as automata
 use Rattle.automata.specs.Config.{sameConfig}
 use Rattle.automata.specs.TapePair.{TapePair}
 use Rattle.automata.specs.Offer.{Offer, nothing, late, to, successor, isLate, offer, outUpTo, lateUpTo}
-use Rattle.automata.specs.Search.{Search, note, noteAll}
+use Rattle.automata.specs.Search.{noteAll}
 use Rattle.automata.specs.Intersect.{out}
 use Rattle.automata.proofs.ListFacts
 use Rattle.automata.proofs.TestFacts
@@ -22,7 +22,7 @@ use Rattle.automata.proofs.Configurations.{configs-decided}
 use Rattle.automata.proofs.SearchFacts.{noteAll-append, noteAll-length}
 use Rattle.automata.proofs.SoundFacts.{sound-well-formed}
 use Rattle.automata.proofs.IntersectSteps.{outUpTo-zero, outUpTo-all, outUpTo-begins, noted-to, noted-none, lateUpTo-zero, lateUpTo-suc}
-use Rattle.memory.specs.Region.{part, splice, rows}
+use Rattle.memory.specs.Region.{part, splice}
 use Rattle.memory.specs.Answers.{lent}
 use Rattle.memory.proofs.Laws.{part-part, part-front}
 use Rattle.memory.proofs.RowLaws.{getD-rows}
@@ -56,10 +56,11 @@ record-back used at d w g h =
 
 module _ (p : Plan) (states arcs : List ℕ) (h : Head) (s : ConfigSearch) (late : Bool) (w : List ℕ) (x : Explorable p states arcs (length w)) (o : Holds p states arcs h s late w)
     (k : ℕ) (c : automata.Config) (e : getElem? (s .vertices) k ≡ some c) where
-  place-stored : StoredIn p c
+  -- a configuration that is held may be stored, and its row is within the work space
+  pub place-stored : StoredIn p c
   place-stored = all-place (StoredIn p) (s .vertices) k (o .stored) e
 
-  place-fits : 320 * k + 320 ≤ length w
+  pub place-fits : 320 * k + 320 ≤ length w
   place-fits = let b = ListFacts.place-bound (s .vertices) k e in omega (arith, b, o .fits, x .configs-fit, x .edges-fit, x .delays-fit)
 
   -- what is loaded from the row of a configuration is the configuration by value

@@ -1,17 +1,17 @@
 -- What an arc comes to, from what the calls answer and leave.
-use Prim.Native.Nat.{ℕ, zero, suc, _+_, _-_, _*_, _≤_, _<_}
-use mathlib.Core.Path.{_≡_, refl, sym, ap, ap₂, _∙_, subst}
+use Prim.Native.Nat.{ℕ, zero, suc, _+_, _-_, _≤_, _<_}
+use mathlib.Core.Path.{_≡_, refl, sym, ap, _∙_, subst}
 use mathlib.Core.Bool.{Bool, true, false}
 use mathlib.Core.Option.{some}
-use mathlib.Core.List.{List, [], _∷_, _++_, map}
+use mathlib.Core.List.{List, [], _∷_, _++_}
 use native.Mathlib.Omega.{arith}
-use lib.ListN.{length, getD, getElem?}
-use Rattle.automata.specs.Lists.{All, if, or}
+use lib.ListN.{length, getElem?}
+use Rattle.automata.specs.Lists.{if, or}
 use Rattle.automata.specs.Automaton.{Arc}
 use Rattle.automata.specs.Config as automata
 use Rattle.automata.specs.Config.{sameConfig}
-use Rattle.automata.specs.Explore.{Edge, insert, indexOf}
-use Rattle.automata.specs.Offer.{Offer, nothing, late, to, isLate, offer}
+use Rattle.automata.specs.Explore.{insert, indexOf}
+use Rattle.automata.specs.Offer.{Offer, late, to, isLate, offer}
 use Rattle.automata.specs.Search.{note}
 use Rattle.automata.proofs.TestFacts
 use Rattle.automata.proofs.AppendFacts.{or-none}

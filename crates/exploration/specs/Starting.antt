@@ -3,7 +3,7 @@ use mathlib.Core.Path.{_≡_}
 use mathlib.Core.Bool.{Bool, false}
 use mathlib.Core.Option.{Option, some}
 use mathlib.Core.List.{List, []}
-use Prim.Native.Nat.{ℕ, zero, _+_, _*_, _≤_, _<_}
+use Prim.Native.Nat.{ℕ, zero, _<_}
 use lib.ListN.{length, getElem?, take}
 use Rattle.automata.specs.Lists.{and, guard, isSome, consMaybe, mapMaybe, numbered}
 use Rattle.automata.specs.Automaton.{State, Automaton}
