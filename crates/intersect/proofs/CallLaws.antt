@@ -1,5 +1,5 @@
 -- The call by its steps: what each way out of it answers.
-use Prim.Native.Nat.{ℕ, _+_, _*_, _/_, _≤_, _<_, min}
+use Prim.Native.Nat.{ℕ, _/_, _≤_, _<_}
 use mathlib.Core.Path.{_≡_, refl, sym, ap, subst, _∙_}
 use mathlib.Core.Bool.{Bool, true, false}
 use mathlib.Core.List.{List}
@@ -33,7 +33,7 @@ use Rattle.workspace.specs.Room.{Divides}
 use Rattle.intersect.specs.declared.prepare.Prepared.{Prepared}
 use Rattle.intersect.specs.Prepared.{Prepares}
 use Rattle.intersect.specs.Standing.{edgesOf, Stands, Finishable, Finished}
-use Rattle.intersect.specs.Searched.{foundIn, Reached, Searched, Settleable, tableBy, Settled}
+use Rattle.intersect.specs.Searched.{foundIn, Reached, Searched, tableBy}
 
 -- ---- what the search settles
 

@@ -3,10 +3,10 @@ use Prim.Native.Nat.{ℕ, zero, suc, _+_, _-_, _*_, _≤_, _<_}
 use mathlib.Core.Path.{_≡_, refl, sym, ap, _∙_}
 use mathlib.Core.Bool.{Bool, true, false}
 use mathlib.Core.Option.{some}
-use mathlib.Core.List.{List, [], _∷_, _++_, map}
+use mathlib.Core.List.{List, [], _∷_, _++_}
 use native.Mathlib.Omega.{arith}
 use lib.Dec.{eqb}
-use lib.ListN.{length, getD, getElem?, take, drop, replicate, getD-replicate}
+use lib.ListN.{length, getD, getElem?, take, replicate, getD-replicate}
 use lib.Seq.{getD-take, getD-drop, take-at}
 use borrow.Author.Tests.{ne-eqb}
 use Rattle.automata.specs.Leftover as automata

@@ -1,6 +1,6 @@
 -- From the bytes that are written to the result on the configurations that stand in work space.
-use Prim.Native.Nat.{ℕ, _+_, _*_, _≤_, _<_}
-use mathlib.Core.Path.{_≡_, refl, sym, ap, subst, _∙_}
+use Prim.Native.Nat.{ℕ, _*_, _≤_}
+use mathlib.Core.Path.{_≡_, sym, ap, subst, _∙_}
 use mathlib.Core.Bool.{Bool}
 use mathlib.Core.List.{List, map}
 use native.Mathlib.Omega.{arith}
@@ -12,9 +12,9 @@ use Rattle.automata.specs.TapePair.{TapePair}
 use Rattle.automata.specs.Config.{Config, sameConfig}
 use Rattle.automata.specs.Memory.{Memory, Sound, tableOf}
 use Rattle.automata.specs.Marks.{coaccessible}
-use Rattle.automata.specs.Explore.{Edge, edges, edgeGraph}
+use Rattle.automata.specs.Explore.{Edge, edges}
 use Rattle.automata.specs.Intersect.{accepting, out, assemble}
-use Rattle.automata.specs.Calls.Outcome.{TableCounts, overwrite, put, madeOf, slicesOf}
+use Rattle.automata.specs.Calls.Outcome.{overwrite, put, madeOf, slicesOf}
 use Rattle.automata.proofs.ListFacts
 use Rattle.automata.proofs.Edges.{edges-members}
 use Rattle.automata.proofs.Configurations.{configs-decided, out-lead}
@@ -22,7 +22,7 @@ use Rattle.automata.proofs.IntersectSteps.{configMarks, assembled}
 use Rattle.automata.proofs.IntersectTable.{place-all}
 use Rattle.automata.proofs.SoundFacts.{sound-holds}
 use Rattle.memory.specs.Region.{rows}
-use Rattle.edges.specs.Edges.{edgesAt, recordGraph, Joined, HoldsEdges}
+use Rattle.edges.specs.Edges.{edgesAt, recordGraph, Joined}
 use Rattle.edges.specs.Marked.{bools}
 use Rattle.edges.proofs.EdgeLaws.{coaccessible-held, joined-wider}
 use Rattle.edges.proofs.MarkLaws.{bools-bits}

@@ -1,12 +1,12 @@
 -- What the marks of the kept rows are after the calls that make them.
-use Prim.Native.Nat.{ℕ, zero, suc, _+_, _*_, _≤_, _<_}
-use mathlib.Core.Path.{_≡_, refl, sym, ap, _∙_}
+use Prim.Native.Nat.{ℕ, zero, suc, _+_, _*_, _<_}
+use mathlib.Core.Path.{_≡_, ap, _∙_}
 use mathlib.Core.Bool.{Bool, true, false}
 use mathlib.Core.List.{List, [], _∷_, _++_, map}
 use native.Mathlib.Omega.{arith}
 use lib.ListN.{length, take, drop, getD, length-map}
 use lib.Seq.{take-at}
-use Rattle.automata.specs.Lists.{and, if}
+use Rattle.automata.specs.Lists.{and}
 use Rattle.automata.specs.Marks.{coaccessible}
 use Rattle.automata.proofs.MarkFacts.{length-coaccessible}
 use Rattle.memory.specs.Region.{rows}

@@ -1,27 +1,22 @@
 -- The search of a plan, as the answer is settled by it.
-use Prim.Native.Nat.{ℕ, _+_, _*_, _/_, _≤_, _<_, min}
-use mathlib.Core.Path.{_≡_, refl, sym, ap, subst, _∙_}
-use mathlib.Core.Bool.{Bool, true, false}
-use mathlib.Core.List.{List, [], _∷_, _++_, map}
+use Prim.Native.Nat.{ℕ, _+_, _/_, _≤_, _<_}
+use mathlib.Core.Path.{_≡_, sym, subst}
+use mathlib.Core.List.{List, [], _∷_, _++_}
 use native.Mathlib.Omega.{arith}
 use lib.ListN.{length, replicate}
 use Rattle.automata.specs.Lists.{All}
-use Rattle.automata.specs.Limits.{maxDelay}
 use Rattle.automata.specs.Config.{Config}
-use Rattle.automata.specs.Memory.{Memory, Sound, tableOf}
 use Rattle.automata.proofs.SoundFacts.{sound-holds}
 use Rattle.memory.specs.declared.answer.Judged.the-variants.{Fine}
 use Rattle.memory.specs.declared.answer.Counts.{Counts}
 use Rattle.memory.specs.Answers.{lent}
-use Rattle.memory.specs.Region.{rows}
-use Rattle.configuration.specs.Configs.{configAs, configBytes}
+use Rattle.configuration.specs.Configs.{configBytes}
 use Rattle.trimming.specs.Rows.{RowOf, RowsOf}
 use Rattle.trimming.proofs.StateModel.{rows-of-codes}
-use Rattle.workspace.specs.declared.room.Room.{Room}
 use Rattle.workspace.specs.Room.{Divides}
 use Rattle.exploration.specs.declared.plan.Plan.{Plan}
-use Rattle.exploration.specs.Held.{configOf, rowOf, HoldsConfigs, Stored}
-use Rattle.exploration.specs.Plans.{Explorable, tableIn, pairsIn, viableIn, StoredIn}
+use Rattle.exploration.specs.Held.{configOf, rowOf, Stored}
+use Rattle.exploration.specs.Plans.{Explorable, tableIn, pairsIn, viableIn}
 use Rattle.exploration.specs.declared.head.Head.{Head}
 use Rattle.exploration.specs.Exploring.{reachedIn, Explored}
 use Rattle.intersect.specs.declared.prepare.Prepared.{Prepared}

@@ -15,7 +15,6 @@ use Rattle.automata.specs.Explore.{Edge, edges}
 use Rattle.automata.specs.Intersect.{out, assemble}
 use Rattle.automata.specs.Calls.Outcome.{TableCounts, put, madeOf, slicesOf}
 use Rattle.memory.specs.Region.{rows}
-use Rattle.edges.specs.declared.edge.EdgeRecord.{EdgeRecord}
 use Rattle.edges.specs.Edges.{edgesAt, recordGraph, Joined, HoldsEdges}
 use Rattle.edges.specs.Marked.{bools}
 use Rattle.trimming.specs.Ranks.{Numbered}

@@ -1,5 +1,4 @@
 -- `intersect::call::intersect` meets its contract. Assumes nothing.
-use denote.Ref.{now}
 use Rattle.intersect.proofs.CallLaws.{call-cleared}
 use borrow.Author.Needs.{needs}
 use Rattle.intersect.proofs.call.intersect.Statement.{statement}
