@@ -22,11 +22,12 @@ fn print_whether(fine: bool, yes: &[u8], no: &[u8]) {
 }
 
 // The text of a table that was built.
-fn print_text(c: Counts, states: &[u8], arcs: &[u8]) {
+fn print_text(c: Counts, states: &[u8; 1300], arcs: &[u8; 15440]) {
     let mut output = [0u8; 1000];
     let answer = text::write(c, states, arcs, &mut output);
     let WriteAnswer::Bytes(n) = answer else {
-        return io::write_all(1, b"not written\n");
+        io::write_all(1, b"not written\n");
+        return;
     };
     if n <= 1000 {
         io::write_all(1, &output[0..n]);
@@ -34,7 +35,7 @@ fn print_text(c: Counts, states: &[u8], arcs: &[u8]) {
 }
 
 // The answer, and of a refusal whether the result space kept its bytes.
-fn print_answer(answer: TableAnswer, states: &[u8], arcs: &[u8]) {
+fn print_answer(answer: TableAnswer, states: &[u8; 1300], arcs: &[u8; 15440]) {
     match answer {
         TableAnswer::Table(c) => {
             io::write_all(1, b" table");
@@ -53,6 +54,19 @@ fn print_answer(answer: TableAnswer, states: &[u8], arcs: &[u8]) {
     }
 }
 
+// Whether the first bytes of a slice are zero.
+fn front_clear(bytes: &[u8], work: usize) -> bool {
+    if bytes.len() < work {
+        return false;
+    }
+    all_zero(&bytes[0..work])
+}
+
+// The same of the work space.
+fn clear(bytes: &[u8; 45000], work: usize) -> bool {
+    front_clear(bytes, work)
+}
+
 // Keeps a table on pairs, with so many states and arcs lent and so many bytes of work.
 fn keep(
     c: Counts,
@@ -64,8 +78,14 @@ fn keep(
     arcs: usize,
     work: usize,
 ) {
-    if 130 < states || 193 < arcs || 45000 < work {
-        return io::write_all(1, b" too large\n");
+    if 130 < states {
+        return;
+    }
+    if 193 < arcs {
+        return;
+    }
+    if 45000 < work {
+        return;
     }
     let mut state_bytes = [170u8; 1300];
     let mut arc_bytes = [170u8; 15440];
@@ -83,7 +103,7 @@ fn keep(
         &mut bytes[0..work],
     );
     print_answer(answer, &state_bytes, &arc_bytes);
-    print_whether(all_zero(&bytes[0..work]), b" clear\n", b" dirty\n");
+    print_whether(clear(&bytes, work), b" clear\n", b" dirty\n");
     if let TableAnswer::Table(built) = answer {
         print_text(built, &state_bytes, &arc_bytes);
     }
@@ -114,6 +134,8 @@ pub fn case(
             arcs,
             work,
         ),
-        TableAnswer::Refused(_) => io::write_all(1, b" not read\n"),
+        TableAnswer::Refused(_) => {
+            io::write_all(1, b" not read\n");
+        }
     }
 }

@@ -1,0 +1,8 @@
+-- Laws of the first line of an input, of pairs as bytes, and of the program's steps.
+pub mod PairLaws
+pub mod LineLaws
+pub mod FirstLaws
+pub mod CutLaws
+pub mod RefusalLaws
+pub mod PrintLaws
+pub mod KeptLaws

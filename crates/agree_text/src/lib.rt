@@ -1,0 +1,62 @@
+// The text of the program `agree`: the first line of its input, and the line of a refusal.
+pub mod keep;
+pub mod line;
+pub mod pair;
+
+use crate::keep::keep_text;
+use crate::line::PairLine;
+use crate::line::read_line;
+use crate::pair::store_pairs;
+use memory::answer::Refusal;
+use memory::answer::refusal_number;
+use memory::bytes::copy_into;
+use text_columns::decimal::write_decimal;
+ghost use Prim.Native.Nat.{_≤_};
+ghost use lib.ListN.{length};
+ghost use Rattle.automata.specs.Answer.{refused};
+ghost use Rattle.automata.specs.AgreeText.{writeOutput};
+ghost use Rattle.automata.specs.Agree.{agree};
+ghost use Rattle.memory.specs.Answers.{refusalNumber};
+ghost use Rattle.agree_text.specs.FirstLine.{FirstLine};
+ghost use Rattle.agree_text.specs.Wrote.{Wrote};
+
+// The first line of the input: the delay limit and where the line ends, and the pairs of tapes, two bytes a pair.
+pub fn read_pair_line(input: &[u8], pairs: &mut [u8; 1998]) -> PairLine
+    ensures { λ r. ⌜ FirstLine (now (input .entry)) (now (pairs .exit)) r ⌝ }
+{
+    let line = read_line(input);
+    let PairLine::Line(p) = line else {
+        return line;
+    };
+    let next = p.next;
+    store_pairs(&input[6..next], p.count, pairs);
+    line
+}
+
+// The line of a refusal, over the front of the output.
+pub fn write_refusal(output: &mut [u8], r: Refusal) -> usize
+    requires { ⌜ 12 ≤ length (now output) ⌝ }
+    ensures { λ n. ⌜ Wrote (writeOutput (refused (refusalNumber r))) (now (output .entry)) (now (output .exit)) n ⌝ }
+{
+    let word = [114u8, 101, 102, 117, 115, 101, 100];
+    copy_into(output, 0, &word);
+    write_decimal(output, 7, 4, refusal_number(r) as usize);
+    output[11] = 10;
+    12
+}
+
+// The program `agree` from the text that it reads to the text that it writes.
+pub fn agree_text(input: &[u8], output: &mut [u8; 50000]) -> usize
+    ensures { λ r. ⌜ Wrote (agree (now (input .entry))) (now (output .entry)) (now (output .exit)) r ⌝ }
+{
+    let mut pairs = [0u8; 1998];
+    let line = read_pair_line(input, &mut pairs);
+    match line {
+        PairLine::Refused(k) => write_refusal(output, k),
+        PairLine::Line(p) => {
+            let next = p.next;
+            let used = 2 * p.count;
+            keep_text(&input[next..], &pairs[..used], p.limit, output)
+        }
+    }
+}
