@@ -3,6 +3,7 @@ use intersect::call::intersect;
 use memory::answer::Counts;
 use memory::answer::TableAnswer;
 use memory::answer::refusal_number;
+use memory::bytes::copy_into;
 use memory::bytes::put16;
 ghost use mathlib.Core.Path.{_≡_};
 ghost use Prim.Native.Nat.{_+_, _*_, _≤_};
@@ -33,10 +34,9 @@ fn put_arc(arcs: &mut [u8], at: usize, source: u16, target: u16)
 {
     put16(arcs, at, source);
     put16(arcs, at + 2, target);
-    arcs[at + 8] = 1;
-    arcs[at + 9] = 65;
-    arcs[at + 17] = 1;
-    arcs[at + 18] = 65;
+    let label = [1u8, 65];
+    copy_into(arcs, at + 8, &label);
+    copy_into(arcs, at + 17, &label);
 }
 
 // Arcs from each state to the next, eight each.
