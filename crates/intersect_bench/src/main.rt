@@ -1,4 +1,5 @@
-// Builds of 1,000 configurations and 7,992 arcs, and of half the size: a program to time. It prints the counts of each.
+// A build of 1,000 configurations and 7,992 arcs, or, where standard input begins with h, of half the size: a program to time. It prints the
+// counts of the table that was built.
 use intersect::call::intersect;
 use memory::answer::Counts;
 use memory::answer::TableAnswer;
@@ -89,15 +90,30 @@ fn run(states: &[u8], arcs: &[u8], size: usize, count: usize) {
     print_answer(answer);
 }
 
-// A chain of 1,000 states, and then its first 500.
-fn main() {
-    let mut arcs = arc_space();
-    put_chain(&mut arcs, 7992);
+// A chain of 1,000 states.
+fn run_whole(arcs: &[u8]) {
     let mut states = state_space();
     states[0] = 1;
     states[9995] = 1;
-    run(&states, &arcs, 1000, 7992);
+    run(&states, arcs, 1000, 7992);
+}
+
+// The first 500 of its states.
+fn run_half(arcs: &[u8]) {
+    let mut states = state_space();
+    states[0] = 1;
     states[4995] = 1;
-    states[9995] = 0;
-    run(&states, &arcs, 500, 3992);
+    run(&states, arcs, 500, 3992);
+}
+
+fn main() {
+    let mut arcs = arc_space();
+    put_chain(&mut arcs, 7992);
+    let mut word = [0u8; 1];
+    io::read_full(0, &mut word);
+    if word[0] == b'h' {
+        run_half(&arcs);
+    } else {
+        run_whole(&arcs);
+    }
 }
