@@ -1,0 +1,3 @@
+-- What the contracts of the search over a product's states cite.
+pub mod Vertices
+pub mod Moves
