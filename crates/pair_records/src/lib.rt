@@ -96,13 +96,13 @@ fn keep_once(list: PairList) -> bool
 }
 
 // Test 6 of a join: at most four pairs, and no tape twice on one side.
-fn join_once(list: PairList) -> bool
-    ensures { λ r. ⌜ r ≡ and (leb (list .used) maxPairs) (sidesOnce (pairsAs list)) ⌝ }
+fn join_once(pairs: PairList) -> bool
+    ensures { λ r. ⌜ r ≡ and (leb (pairs .used) maxPairs) (sidesOnce (pairsAs pairs)) ⌝ }
 {
-    if 4 < list.used {
+    if 4 < pairs.used {
         return false;
     }
-    sides_once(list)
+    sides_once(pairs)
 }
 
 // The tests in their order: 5 where a tape is not there, 6 where a tape stands twice or there are too many pairs, 7 by the limit.
