@@ -1,9 +1,9 @@
 -- A table whose tapes are chosen: its records are those of the table, each with the labels of the chosen tapes.
-use Prim.Native.Nat.{ℕ, zero, suc, _+_, _-_, _*_, _≤_, _<_}
+use Prim.Native.Nat.{ℕ, zero, suc, _+_, _-_, _*_, _≤_, _<_, min}
 use mathlib.Core.Path.{_≡_, refl, sym, ap, ap₂, subst, _∙_}
 use mathlib.Core.List.{List, [], _∷_, _++_, map}
 use native.Mathlib.Omega.{arith}
-use lib.ListN.{length, getD, take, drop, length-append, length-replicate, length-map, replicate-append-replicate, take-append-drop}
+use lib.ListN.{length, getD, take, drop, length-append, length-take, length-replicate, length-map, replicate-append-replicate, take-append-drop}
 use lib.Seq.{take-all, drop-at}
 use Rattle.automata.specs.Lists.{All}
 use Rattle.automata.specs.Records.{chunks, writeAll}
@@ -21,6 +21,7 @@ use Rattle.automata.proofs.CallFacts.{put-ok}
 use Rattle.memory.specs.Region.{part, splice}
 use Rattle.memory.proofs.Laws.{splice-front}
 use Rattle.columns.specs.Rewritten.{rewritten, chosenLabels, chosenArc}
+use Rattle.columns.proofs.RewriteLaws.{length-rewritten, length-chosenArc}
 
 -- each of a list is one of so many tapes
 abbrev pub Named : ℕ → List ℕ → Type 0
@@ -109,6 +110,14 @@ module _ (m : Memory) (T : Automaton ℕ) (w : WellFormed T) (h : Holds m T) whe
     table-rewritten =
         ap (writeAll (chosenArc js)) arcs-cut
         ∙ arcs-rewritten (T .tapes) (length (T .states)) js (w .counts .tapesFit) short (subst (λ (n : ℕ). Named n js) (h .tapes) named) (T .arcs) (w .arcs)
+
+    -- they take up as many bytes as before
+    pub length-projected : length (encodeArcs (projected js T)) ≡ 80 * m .arcs
+    length-projected =
+        let e = ap length (h .arcBytes) ∙ length-encodeArcs T w in
+        let t : length (take (m .arcs * 80) (m .arcBytes)) ≡ min (m .arcs * 80) (length (m .arcBytes)) = length-take (m .arcs * 80) (m .arcBytes) in
+        ap length (sym table-rewritten)
+        ∙ length-rewritten (chosenArc js) (λ arc. length-chosenArc js arc short) (m .arcs) (m .arcBytes) (omega (arith, e, t, h .arcs))
 
     -- chosen in place
     pub chosen-in-place : (arcs2 : List ℕ) → arcs2 ≡ splice 0 (rewritten (chosenArc js) (m .arcs) (m .arcBytes)) (m .arcBytes)

@@ -20,7 +20,7 @@ module _ (f : List ℕ → List ℕ) where
   rewritten-cons n x = refl
 
   -- records that stay as long as they are
-  length-rewritten : ((arc : List ℕ) → length arc ≡ 80 → length (f arc) ≡ 80) → (n : ℕ) (x : List ℕ) → 80 * n ≤ length x → length (rewritten f n x) ≡ 80 * n
+  pub length-rewritten : ((arc : List ℕ) → length arc ≡ 80 → length (f arc) ≡ 80) → (n : ℕ) (x : List ℕ) → 80 * n ≤ length x → length (rewritten f n x) ≡ 80 * n
   unfolding rewritten
   length-rewritten s zero x h = refl
   length-rewritten s (suc n) x h =

@@ -2,3 +2,7 @@
 pub mod choose;
 pub mod drop;
 pub mod kept;
+pub mod project;
+pub mod raise;
+pub mod room;
+pub mod union;
