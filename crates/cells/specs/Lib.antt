@@ -1,0 +1,3 @@
+-- What the contracts on the cells of a lookup cite.
+pub mod Answers
+pub mod Fillable

@@ -1,0 +1,2 @@
+// The least weight of a tuple, by shortest distances on cells: one for each state and combination of positions in the strings.
+pub mod answer;
