@@ -12,14 +12,13 @@ use lib.ListN.{length, getD, set, drop, replicate, length-set}
 use lib.Seq.{drop-cons, getD-set-same, getD-set-other}
 use borrow.Author.Tests.{leb-true, ltb-true, ltb-false}
 use Rattle.automata.specs.Lists.{all}
-use Rattle.automata.specs.Answer.{_>>=_, Answer, ok, refused, forget}
+use Rattle.automata.specs.Answer.{ok, forget}
 use Rattle.automata.specs.Automaton.{Tuple}
 use Rattle.automata.specs.Calls.Lookup.{lines}
 use Rattle.automata.proofs.AnswerFacts.{ok-injective, bind-ok}
 use Rattle.automata.proofs.TestFacts.{decide, and-true}
 use Rattle.memory.specs.Region.{part}
 use Rattle.memory.proofs.PartLaws.{length-part}
-use Rattle.tuple.specs.declared.Strings.{Strings}
 use Rattle.tuple.specs.Strings.{Stands}
 use Rattle.tuple.specs.Lines.{linesAt, LineEnd}
 use Rattle.tuple.specs.Judgement.{Placeable}

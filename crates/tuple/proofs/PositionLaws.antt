@@ -1,7 +1,7 @@
 -- Laws of the combinations of positions in the strings of a tuple: as products of two, four and eight, and by the strings' places.
 use mathlib.Core.Path.{_≡_, refl, sym, ap, ap₂, _∙_}
 use mathlib.Core.List.{List, [], _∷_}
-use Prim.Native.Nat.{ℕ, zero, suc, _+_, _*_, _≤_, _<_}
+use Prim.Native.Nat.{ℕ, suc, _+_, _*_, _≤_, _<_}
 use native.Mathlib.Omega.{arith}
 use native.Mathlib.Nat.{mul-le-mul, mul-assoc, mul-one}
 use lib.ListN.{length, getD}

@@ -1,6 +1,6 @@
 -- `tuple::judge::judge_text` meets its contract. Assumes nothing.
 use mathlib.Core.Bool.{true, false}
-use mathlib.Core.Path.{_≡_, sym, ap, _∙_}
+use mathlib.Core.Path.{sym, ap, _∙_}
 use borrow.Author.Tests.{not-true, not-false}
 use Rattle.automata.specs.Answer.{ok}
 use Rattle.tuple.specs.Lines.{lineCountAs}

@@ -1,5 +1,5 @@
 -- `tuple::judge::judge_tuple` meets its contract. Assumes nothing.
-use mathlib.Core.Path.{_≡_, sym, ap, _∙_}
+use mathlib.Core.Path.{sym, ap, _∙_}
 use Rattle.memory.specs.Answers.{judgedAs}
 use Rattle.tuple.proofs.JudgementLaws.{judged-placeable, tuple-refused, tuple-wide, tuple-placed}
 use borrow.Author.Needs.{needs}

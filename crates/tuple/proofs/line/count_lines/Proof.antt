@@ -1,7 +1,7 @@
 -- `tuple::line::count_lines` meets its contract. Assumes nothing.
 use mathlib.Core.Path.{_≡_, _∙_}
 use native.Mathlib.Omega.{arith}
-use Prim.Native.Nat.{_+_, _-_, _≤_, _<_}
+use Prim.Native.Nat.{_-_, _≤_, _<_}
 use lib.ListN.{length}
 use Rattle.automata.specs.Calls.Lookup.{lines}
 use Rattle.tuple.specs.Lines.{linesAt, counted}

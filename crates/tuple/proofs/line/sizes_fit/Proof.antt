@@ -1,15 +1,11 @@
 -- `tuple::line::sizes_fit` meets its contract. Assumes nothing.
-use mathlib.Core.Path.{_≡_, refl, sym, ap, _∙_}
+use mathlib.Core.Path.{_≡_, ap, _∙_}
 use native.Mathlib.Omega.{arith}
-use Prim.Native.Nat.{_+_, _-_, _≤_, _<_}
+use Prim.Native.Nat.{_-_, _≤_}
 use lib.Dec.{leb}
 use lib.ListN.{length}
-use borrow.Author.Tests.{le-leb, lt-leb, not-true, not-false}
-use Rattle.automata.specs.Lists.{all}
-use Rattle.automata.specs.Symbols.{isSymbol}
 use Rattle.automata.specs.Answer.{forget, ok}
 use Rattle.automata.specs.Calls.Lookup.{lines}
-use Rattle.memory.specs.Region.{part}
 use Rattle.tuple.specs.Lines.{linesAt, every}
 use Rattle.tuple.proofs.LineLaws.{lines-at, line-closed, closed-turn, every-start, every-turn, every-stop, every-end, size-fits, size-over}
 use borrow.Author.Needs.{needs}

@@ -1,10 +1,9 @@
 -- `tuple::line::symbols_fit` meets its contract. Assumes nothing.
-use mathlib.Core.Path.{_≡_, refl, sym, ap, _∙_}
+use mathlib.Core.Path.{_≡_, sym, ap, _∙_}
 use native.Mathlib.Omega.{arith}
-use Prim.Native.Nat.{_+_, _-_, _≤_, _<_}
-use lib.Dec.{leb}
+use Prim.Native.Nat.{_-_, _≤_}
 use lib.ListN.{length}
-use borrow.Author.Tests.{le-leb, lt-leb, not-true, not-false}
+use borrow.Author.Tests.{not-true, not-false}
 use Rattle.automata.specs.Lists.{all}
 use Rattle.automata.specs.Symbols.{isSymbol}
 use Rattle.automata.specs.Answer.{forget, ok}

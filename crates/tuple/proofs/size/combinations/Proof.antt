@@ -1,5 +1,5 @@
 -- `tuple::size::combinations` meets its contract. Assumes nothing.
-use mathlib.Core.Path.{_≡_, ap₂, _∙_}
+use mathlib.Core.Path.{ap₂, _∙_}
 use native.Mathlib.Omega.{arith}
 use Prim.Native.Nat.{_*_}
 use Rattle.tuple.proofs.PositionLaws.{eight-fit, eight-are}

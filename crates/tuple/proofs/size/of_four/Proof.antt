@@ -1,5 +1,5 @@
 -- `tuple::size::of_four` meets its contract. Assumes nothing.
-use mathlib.Core.Path.{_≡_, ap₂}
+use mathlib.Core.Path.{ap₂}
 use native.Mathlib.Omega.{arith}
 use Prim.Native.Nat.{_*_}
 use Rattle.tuple.proofs.PositionLaws.{four-fit}

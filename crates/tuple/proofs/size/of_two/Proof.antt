@@ -1,5 +1,4 @@
 -- `tuple::size::of_two` meets its contract. Assumes nothing.
-use mathlib.Core.Path.{_≡_, refl}
 use native.Mathlib.Omega.{arith}
 use Rattle.tuple.proofs.PositionLaws.{two-fit, two-are}
 use borrow.Author.Needs.{needs}
