@@ -1,0 +1,4 @@
+// The least weight of a tuple, by shortest distances on cells: one for each state and combination of positions in the strings.
+pub mod answer;
+pub mod moves;
+pub mod spot;
