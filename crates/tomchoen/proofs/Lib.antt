@@ -1,0 +1,3 @@
+-- Laws of answers as numbers.
+pub mod WordLaws
+pub mod FitLaws

@@ -1,0 +1,28 @@
+use Rattle.tomchoen.proofs.WordLaws.{written-told}
+use Rattle.tomchoen.proofs.FitLaws.{write-bytes}
+use borrow.Author.Needs.{needs}
+use Rattle.tomchoen.proofs.c.tomchoen_write.Statement.{statement}
+use Rattle.tomchoen.proofs.c.tomchoen_write.Tie as tie
+use Rattle.tomchoen.proofs.c.tomchoen_write.Reads as reads
+use Rattle.tomchoen.proofs.c.tomchoen_write.Lts as lts
+use Rattle.text.proofs.write.Reads as write-reads
+use Rattle.tomchoen.proofs.word.bytes_word.Reads as bytes-word-reads
+
+-- src/c.rt:40:9
+write-requires : tie.Need-write-requires
+write-requires c κs = search needs
+
+-- src/c.rt:41:5
+bytes-word-requires : tie.Need-bytes-word-requires
+bytes-word-requires c κs = write-bytes _ _ _ _ (c .before .before .write .ensures)
+
+-- src/c.rt:24:1
+same-length : tie.Need-same-length
+same-length c = search needs
+
+-- src/c.rt:24:1
+returns : tie.Need-returns
+returns c = written-told _ _ _ _ (c .before .before .before .write .ensures) (c .bytes-word .ensures)
+
+pub tomchoen-write-spec : {M : Type 1} → statement M
+tomchoen-write-spec = tie.close (tie.spec write-requires bytes-word-requires same-length returns)
