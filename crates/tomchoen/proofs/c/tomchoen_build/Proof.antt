@@ -1,3 +1,4 @@
+-- `tomchoen::c::tomchoen_build` meets its contract. Assumes nothing.
 use Rattle.tomchoen.proofs.WordLaws.{built-told}
 use Rattle.tomchoen.proofs.FitLaws.{intersect-counts}
 use borrow.Author.Needs.{needs}
@@ -8,27 +9,21 @@ use Rattle.tomchoen.proofs.c.tomchoen_build.Lts as lts
 use Rattle.intersect.proofs.call.intersect.Reads as intersect-reads
 use Rattle.tomchoen.proofs.word.table_word.Reads as table-word-reads
 
--- src/c.rt:65:9
 intersect-requires : tie.Need-intersect-requires
 intersect-requires c κs = search needs
 
--- src/c.rt:75:5
 table-word-requires : tie.Need-table-word-requires
 table-word-requires c κs = intersect-counts _ _ _ _ _ _ _ _ _ (c .before .before .before .before .before .before .intersect .ensures)
 
--- src/c.rt:45:1
 same-length : tie.Need-same-length
 same-length c = search needs
 
--- src/c.rt:45:1
 same-length-2 : tie.Need-same-length-2
 same-length-2 c = search needs
 
--- src/c.rt:45:1
 same-length-3 : tie.Need-same-length-3
 same-length-3 c = search needs
 
--- src/c.rt:45:1
 returns : tie.Need-returns
 returns c = built-told _ _ _ _ _ _ (c .before .before .before .before .before .before .before .intersect .ensures) (c .table-word .ensures)
 

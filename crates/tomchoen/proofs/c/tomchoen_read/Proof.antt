@@ -1,3 +1,4 @@
+-- `tomchoen::c::tomchoen_read` meets its contract. Assumes nothing.
 use Rattle.tomchoen.proofs.WordLaws.{made-told}
 use Rattle.tomchoen.proofs.FitLaws.{read-counts}
 use borrow.Author.Needs.{needs}
@@ -8,23 +9,18 @@ use Rattle.tomchoen.proofs.c.tomchoen_read.Lts as lts
 use Rattle.text.proofs.read.Reads as read-reads
 use Rattle.tomchoen.proofs.word.table_word.Reads as table-word-reads
 
--- src/c.rt:19:9
 read-requires : tie.Need-read-requires
 read-requires c κs = search needs
 
--- src/c.rt:20:5
 table-word-requires : tie.Need-table-word-requires
 table-word-requires c κs = read-counts _ _ _ _ _ (c .before .before .before .before .read .ensures)
 
--- src/c.rt:15:1
 same-length : tie.Need-same-length
 same-length c = search needs
 
--- src/c.rt:15:1
 same-length-2 : tie.Need-same-length-2
 same-length-2 c = search needs
 
--- src/c.rt:15:1
 returns : tie.Need-returns
 returns c = made-told _ _ _ _ _ (c .before .before .before .before .before .read .ensures) (c .table-word .ensures)
 

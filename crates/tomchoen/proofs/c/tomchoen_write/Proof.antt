@@ -1,3 +1,4 @@
+-- `tomchoen::c::tomchoen_write` meets its contract. Assumes nothing.
 use Rattle.tomchoen.proofs.WordLaws.{written-told}
 use Rattle.tomchoen.proofs.FitLaws.{write-bytes}
 use borrow.Author.Needs.{needs}
@@ -8,19 +9,15 @@ use Rattle.tomchoen.proofs.c.tomchoen_write.Lts as lts
 use Rattle.text.proofs.write.Reads as write-reads
 use Rattle.tomchoen.proofs.word.bytes_word.Reads as bytes-word-reads
 
--- src/c.rt:40:9
 write-requires : tie.Need-write-requires
 write-requires c κs = search needs
 
--- src/c.rt:41:5
 bytes-word-requires : tie.Need-bytes-word-requires
 bytes-word-requires c κs = write-bytes _ _ _ _ (c .before .before .write .ensures)
 
--- src/c.rt:24:1
 same-length : tie.Need-same-length
 same-length c = search needs
 
--- src/c.rt:24:1
 returns : tie.Need-returns
 returns c = written-told _ _ _ _ (c .before .before .before .write .ensures) (c .bytes-word .ensures)
 

@@ -1,3 +1,4 @@
+-- `tomchoen::word::bytes_word` meets its contract. Assumes nothing.
 use mathlib.Core.Path.{sym, ap, _∙_, subst}
 use native.Mathlib.Omega.{arith}
 use Rattle.text.specs.Answers.{writtenAs}
@@ -11,31 +12,24 @@ use Rattle.tomchoen.proofs.word.bytes_word.Lts as lts
 use Rattle.memory.proofs.answer.refusal_number.Reads as refusal-number-reads
 use Rattle.tomchoen.proofs.word.shifted.Reads as shifted-reads
 
--- src/word.rt:45:28
 enum-known-answer : tie.Need-enum-known-answer
 enum-known-answer c = search needs
 
--- src/word.rt:45:34
 shifted-requires : tie.Need-shifted-requires
 shifted-requires c κs = let h = subst (λ (a : WriteAnswer). BytesFit (writtenAs a)) (c .before .answer .given .1) (c .before .before .before .pre) in omega (arith, h)
 
--- src/word.rt:46:30
 enum-known-answer-2 : tie.Need-enum-known-answer-2
 enum-known-answer-2 c = search needs
 
--- src/word.rt:46:38
 refusal-number-requires : tie.Need-refusal-number-requires
 refusal-number-requires c κs = search needs
 
--- src/word.rt:46:38
 cast-result : tie.Need-cast-result
 cast-result c = search needs
 
--- src/word.rt:40:1
 returns : tie.Need-returns
 returns c = c .shifted .ensures ∙ ap (λ (a : WriteAnswer). bytesWord (writtenAs a)) (sym (c .before .before .answer .given .1))
 
--- src/word.rt:40:1
 returns-2 : tie.Need-returns-2
 returns-2 c = search needs
 

@@ -1,3 +1,4 @@
+-- `tomchoen::word::table_word` meets its contract. Assumes nothing.
 use mathlib.Core.Path.{sym, ap, _∙_, subst}
 use Rattle.memory.specs.Answers.{tableAs}
 use Rattle.memory.specs.declared.answer.TableAnswer.{TableAnswer}
@@ -10,31 +11,24 @@ use Rattle.tomchoen.proofs.word.table_word.Lts as lts
 use Rattle.memory.proofs.answer.refusal_number.Reads as refusal-number-reads
 use Rattle.tomchoen.proofs.word.counts_word.Reads as counts-word-reads
 
--- src/word.rt:26:28
 enum-known-answer : tie.Need-enum-known-answer
 enum-known-answer c = search needs
 
--- src/word.rt:26:34
 counts-word-requires : tie.Need-counts-word-requires
 counts-word-requires c κs = subst (λ (a : TableAnswer). CountsFit (tableAs a)) (c .before .answer .given .1) (c .before .before .before .pre)
 
--- src/word.rt:27:30
 enum-known-answer-2 : tie.Need-enum-known-answer-2
 enum-known-answer-2 c = search needs
 
--- src/word.rt:27:38
 refusal-number-requires : tie.Need-refusal-number-requires
 refusal-number-requires c κs = search needs
 
--- src/word.rt:27:38
 cast-result : tie.Need-cast-result
 cast-result c = search needs
 
--- src/word.rt:21:1
 returns : tie.Need-returns
 returns c = c .counts-word .ensures ∙ ap (λ (a : TableAnswer). tableWord (tableAs a)) (sym (c .before .before .answer .given .1))
 
--- src/word.rt:21:1
 returns-2 : tie.Need-returns-2
 returns-2 c = search needs
 
