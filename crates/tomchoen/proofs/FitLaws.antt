@@ -12,16 +12,21 @@ use Rattle.automata.specs.Table.{WellFormed}
 use Rattle.automata.specs.TapePair.{Pair}
 use Rattle.automata.specs.TableText.{writeTable}
 use Rattle.automata.specs.Memory.{Memory, decodeTable}
-use Rattle.automata.specs.Calls.Outcome.{Slices, TableCounts, Made, Built, Written, spaceOf, put, build, print, madeOf, builtOf}
+use Rattle.automata.specs.Calls.Outcome.{Slices, TableCounts, Made, Built, Joined, Written, Found, spaceOf, put, build, conclude, print, madeOf, builtOf, joinedOf, foundOf}
 use Rattle.automata.specs.Calls.Work.{enough}
 use Rattle.automata.specs.Calls.Read.{readAnswer, readOutcome}
 use Rattle.automata.specs.Calls.Write.{writeAnswer, writeOutcome}
 use Rattle.automata.specs.Calls.Intersect.{intersectAnswer, intersectOutcome}
+use Rattle.automata.specs.Calls.Product.{productAnswer, productOutcome}
+use Rattle.automata.specs.Calls.Join.{joinAnswer, joinOutcome}
+use Rattle.automata.specs.Calls.Union.{unionAnswer, unionOutcome}
+use Rattle.automata.specs.Calls.Project.{projectAnswer, projectOutcome}
+use Rattle.automata.specs.Calls.Drop.{dropAnswer, dropOutcome}
 use Rattle.automata.proofs.AnswerFacts.{bind-ok, judge-ok, ok-injective}
 use Rattle.automata.proofs.MemoryLaws.{decode-only}
 use Rattle.automata.proofs.TextLaws.{length-writeTable}
 use Rattle.laws.specs.Storable.{Storable}
-use Rattle.laws.proofs.Lemmas.CallTables.{read-fits, intersect-fits}
+use Rattle.laws.proofs.Lemmas.CallTables.{read-fits, intersect-fits, product-fits, join-fits, union-fits, project-fits, drop-fits}
 use Rattle.text.specs.Answers.{writtenOf}
 use Rattle.tomchoen.specs.Words.{CountsFit, BytesFit}
 
@@ -41,6 +46,18 @@ module _ (a : Answer TableCounts) (states arcs : List ℕ) where
   unfolding readOutcome
   read-counts text s e = made-fits (readAnswer text (spaceOf s)) s (λ A. read-fits text (spaceOf s) A) e
 
+  pub union-counts : (m k : Memory) (s : Slices) → madeOf a states arcs ≡ unionOutcome m k s → CountsFit a
+  unfolding unionOutcome
+  union-counts m k s e = made-fits (unionAnswer m k (spaceOf s)) s (λ A. union-fits m k (spaceOf s) A) e
+
+  pub project-counts : (m : Memory) (js : List ℕ) (s : Slices) → madeOf a states arcs ≡ projectOutcome m js s → CountsFit a
+  unfolding projectOutcome
+  project-counts m js s e = made-fits (projectAnswer m js (spaceOf s)) s (λ A. project-fits m js (spaceOf s) A) e
+
+  pub drop-counts : (m : Memory) (mask : ℕ) (s : Slices) → madeOf a states arcs ≡ dropOutcome m mask s → CountsFit a
+  unfolding dropOutcome
+  drop-counts m mask s e = made-fits (dropAnswer m mask (spaceOf s)) s (λ A. drop-fits m mask (spaceOf s) A) e
+
   module _ (work : List ℕ) where
     built-fits : (r : Answer (Automaton ℕ)) (s : Slices) (w : List ℕ) → ((A : Automaton ℕ) → r ≡ ok A → Storable (spaceOf s) A)
         → builtOf a states arcs work ≡ build r s w → CountsFit a
@@ -50,6 +67,17 @@ module _ (a : Answer TableCounts) (states arcs : List ℕ) where
     pub intersect-counts : (m : Memory) (ps : List Pair) (D : ℕ) (s : Slices) (w : List ℕ) → builtOf a states arcs work ≡ intersectOutcome m ps D s w → CountsFit a
     unfolding intersectOutcome
     intersect-counts m ps D s w e = built-fits (intersectAnswer m ps D (spaceOf s) w) s w (λ A. intersect-fits m ps D (spaceOf s) w A) e
+
+    pub product-counts : (m k : Memory) (s : Slices) (w : List ℕ) → builtOf a states arcs work ≡ productOutcome m k s w → CountsFit a
+    unfolding productOutcome
+    product-counts m k s w e = built-fits (productAnswer m k (spaceOf s) w) s w (λ A. product-fits m k (spaceOf s) w A) e
+
+    module _ (productStates productArcs : List ℕ) where
+      pub join-counts : (m k : Memory) (ps : List Pair) (D : ℕ) (p s : Slices) (w : List ℕ)
+          → joinedOf a states arcs productStates productArcs work ≡ joinOutcome m k ps D p s w → CountsFit a
+      unfolding joinOutcome conclude
+      join-counts m k ps D p s w e =
+          made-fits (joinAnswer m k ps D (spaceOf p) (spaceOf s) w) s (λ A. join-fits m k ps D (spaceOf p) (spaceOf s) w A) (ap (λ (o : Joined). o .made) e)
 
 -- ---- writing
 

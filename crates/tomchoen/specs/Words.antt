@@ -4,7 +4,7 @@ use mathlib.Core.Option.{Option, none, some}
 use mathlib.Core.List.{List}
 use Prim.Native.Nat.{ℕ, _+_, _*_, _≤_, _<_}
 use Rattle.automata.specs.Answer.{Answer, ok, refused}
-use Rattle.automata.specs.Calls.Outcome.{Slices, TableCounts, Made, Built, Written, slicesOf}
+use Rattle.automata.specs.Calls.Outcome.{Slices, TableCounts, Made, Built, Joined, Written, Found, slicesOf}
 
 -- ---- the numbers
 
@@ -18,6 +18,12 @@ abbrev pub bytesWord : Answer ℕ → ℕ
 bytesWord (ok n) = 256 * n
 bytesWord (refused n) = n
 
+-- a weight, from bit 8 on, 255 for none, or the refusal's number
+abbrev pub weightWord : Answer (Option ℕ) → ℕ
+weightWord (ok (some w)) = 256 * w
+weightWord (ok none) = 255
+weightWord (refused n) = n
+
 -- ---- when they are numbers of 64 bits from which the parts can be told
 
 -- the counts are those of a table
@@ -29,6 +35,12 @@ CountsFit (refused n) = Unit {0}
 abbrev pub BytesFit : Answer ℕ → Type 0
 BytesFit (ok n) = n < 4294967296
 BytesFit (refused n) = Unit {0}
+
+-- a weight is below 2 to the 56
+abbrev pub WeightFits : Answer (Option ℕ) → Type 0
+WeightFits (ok (some w)) = w < 72057594037927936
+WeightFits (ok none) = Unit {0}
+WeightFits (refused n) = Unit {0}
 
 -- ---- outcomes
 
@@ -65,3 +77,27 @@ tellsWritten word output = record { word = word; output = output }
 
 abbrev pub toldWritten : Written → ToldWritten
 toldWritten o = record { word = bytesWord (o .answer); output = o .output }
+
+-- a join: the product's slices too
+pub record ToldJoined : Type 0 where
+  pub made : ToldMade
+  pub product : Slices
+  pub work : List ℕ
+
+abbrev pub tellsJoined : ℕ → List ℕ → List ℕ → List ℕ → List ℕ → List ℕ → ToldJoined
+tellsJoined word states arcs productStates productArcs work =
+    record { made = tellsMade word states arcs; product = slicesOf productStates productArcs; work = work }
+
+abbrev pub toldJoined : Joined → ToldJoined
+toldJoined o = record { made = toldMade (o .made); product = o .product; work = o .work }
+
+-- a number for the answer of a lookup, and work space
+pub record ToldFound : Type 0 where
+  pub word : ℕ
+  pub work : List ℕ
+
+abbrev pub tellsFound : ℕ → List ℕ → ToldFound
+tellsFound word work = record { word = word; work = work }
+
+abbrev pub toldFound : Found → ToldFound
+toldFound o = record { word = weightWord (o .answer); work = o .work }
