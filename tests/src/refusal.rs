@@ -19,6 +19,23 @@ pub enum Refusal {
 }
 
 impl Refusal {
+    /// All of them, in the list's order.
+    pub const ALL: [Refusal; 13] = [
+        Refusal::Short,
+        Refusal::Form,
+        Refusal::Size,
+        Refusal::State,
+        Refusal::Tape,
+        Refusal::Pairs,
+        Refusal::Limit,
+        Refusal::StatesFull,
+        Refusal::ArcsFull,
+        Refusal::Delay,
+        Refusal::Weight,
+        Refusal::Width,
+        Refusal::Space,
+    ];
+
     /// The number in document 01's list.
     pub fn number(self) -> u64 {
         self as u64

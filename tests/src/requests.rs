@@ -149,7 +149,7 @@ fn intersect_request(random: &mut Random) -> Request {
 }
 
 /// Two tables for a product or a join; mostly narrow and light.
-fn two_tables(random: &mut Random) -> (Automaton, Automaton) {
+pub fn two_tables(random: &mut Random) -> (Automaton, Automaton) {
     let narrow = |random: &mut Random| {
         let automaton = small_case(random).automaton;
         let most = automaton.tapes.min(random.range(1, 4)) as u64;
@@ -194,7 +194,7 @@ fn product_request(random: &mut Random) -> Request {
 }
 
 /// Pairs for a join: distinct tapes on each side, or any.
-fn join_pairs(random: &mut Random, first: usize, second: usize) -> Vec<(u64, u64)> {
+pub fn join_pairs(random: &mut Random, first: usize, second: usize) -> Vec<(u64, u64)> {
     if random.chance(8) {
         return (0..random.below(6)).map(|_| (random.below(first + 2) as u64, random.below(second + 2) as u64)).collect();
     }
@@ -256,7 +256,7 @@ fn drop_request(random: &mut Random) -> Request {
 }
 
 /// What a random path spells: often a tuple with a weight.
-fn spelled(random: &mut Random, automaton: &Automaton) -> Vec<Vec<u8>> {
+pub fn spelled(random: &mut Random, automaton: &Automaton) -> Vec<Vec<u8>> {
     let arcs_of = automaton.arcs_of_states();
     let mut strings = vec![Vec::new(); automaton.tapes];
     let starts: Vec<usize> = (0..automaton.states.len()).filter(|&state| automaton.states[state].initial.is_some()).collect();

@@ -1,0 +1,176 @@
+// The graph of a table, as Graphviz reads it.
+use memory::answer::Counts;
+use memory::answer::Refusal;
+use memory::answer::TableAnswer;
+use memory::answer::refusal_number;
+use memory::bytes::get16;
+use memory::bytes::get32;
+
+// Bytes to standard output.
+fn put(text: &[u8]) {
+    io::write_all(1, text);
+}
+
+// A number to standard output.
+fn put_number(n: u64) {
+    io::print_decimal(1, n);
+}
+
+// A weight of a state, where it is there: a line of the node's label that begins with a word.
+fn put_weight(states: &[u8], at: usize, word: &[u8]) {
+    if states.len() < 5 {
+        return;
+    }
+    if states.len() - 5 < at {
+        return;
+    }
+    if states[at] == 1 {
+        put(word);
+        put_number(get32(states, at + 1) as u64);
+    }
+}
+
+// The outline of a state: double where it has a final weight.
+fn put_outline(states: &[u8], at: usize) {
+    if at < states.len() {
+        if states[at] == 1 {
+            put(b", shape=doublecircle");
+        }
+    }
+}
+
+// The node of the state with number `q`, whose record stands at `at`.
+fn put_state(states: &[u8], q: usize, at: usize) {
+    if 1000000 < at {
+        return;
+    }
+    put(b"  ");
+    put_number(q as u64);
+    put(b" [label=\"");
+    put_number(q as u64);
+    put_weight(states, at, b"\\nin ");
+    put_weight(states, at + 5, b"\\nout ");
+    put(b"\"");
+    put_outline(states, at + 5);
+    put(b"];\n");
+}
+
+// A length as a number of bytes.
+fn size_of(length: u8) -> usize {
+    length as usize
+}
+
+// The label in the nine bytes at a place, `-` where it is empty; a colon before it where it is not the first.
+fn put_label(arcs: &[u8], at: usize, first: bool) {
+    if arcs.len() < 9 {
+        return;
+    }
+    if arcs.len() - 9 < at {
+        return;
+    }
+    if !first {
+        put(b":");
+    }
+    let length = size_of(arcs[at]);
+    if length == 0 {
+        put(b"-");
+    }
+    if length <= 8 {
+        put(&arcs[at + 1..at + 1 + length]);
+    }
+}
+
+// The labels of an arc on so many tapes, a colon between two.
+fn put_labels(arcs: &[u8], start: usize, tapes: usize) {
+    let mut left = tapes;
+    let mut at = start;
+    while 0 < left {
+        if 1000000 < at {
+            return;
+        }
+        put_label(arcs, at, left == tapes);
+        at += 9;
+        left -= 1;
+    }
+}
+
+// The edge of the arc whose record stands at `at`.
+fn put_arc(arcs: &[u8], at: usize, tapes: usize) {
+    if arcs.len() < 80 {
+        return;
+    }
+    if arcs.len() - 80 < at {
+        return;
+    }
+    put(b"  ");
+    put_number(get16(arcs, at) as u64);
+    put(b" -> ");
+    put_number(get16(arcs, at + 2) as u64);
+    put(b" [label=\"");
+    put_labels(arcs, at + 8, tapes);
+    put(b" / ");
+    put_number(get32(arcs, at + 4) as u64);
+    put(b"\"];\n");
+}
+
+// The nodes of all states.
+fn put_states(states: &[u8], count: usize) {
+    let mut q: usize = 0;
+    while q < count {
+        if 1024 <= q {
+            return;
+        }
+        put_state(states, q, 10 * q);
+        q += 1;
+    }
+}
+
+// The edges of all arcs.
+fn put_arcs(arcs: &[u8], count: usize, tapes: usize) {
+    let mut left = count;
+    let mut at: usize = 0;
+    while 0 < left {
+        if 1000000 < at {
+            return;
+        }
+        put_arc(arcs, at, tapes);
+        at += 80;
+        left -= 1;
+    }
+}
+
+// The whole graph.
+fn put_graph(c: Counts, states: &[u8], arcs: &[u8]) {
+    put(b"digraph table {\n  rankdir=LR;\n  node [shape=circle];\n");
+    put_states(states, c.states);
+    put_arcs(arcs, c.arcs, c.tapes);
+    put(b"}\n");
+}
+
+// The line of a refusal: the word, and the number in four columns.
+fn put_refusal(why: Refusal) {
+    let n = refusal_number(why);
+    put(b"refused");
+    if n < 10 {
+        put(b"   ");
+    } else {
+        put(b"  ");
+    }
+    put_number(n as u64);
+    put(b"\n");
+}
+
+// The graph of the table that a text describes, or its refusal. A text of at most 65,536 bytes has at most 2,047 arcs; a longer one is 3.
+pub fn draw_text(text: &[u8]) {
+    if 65536 < text.len() {
+        put_refusal(Refusal::Size);
+        return;
+    }
+    let mut states = [0u8; 10240];
+    let mut arcs = [0u8; 163840];
+    let answer = text::read(text, &mut states, &mut arcs);
+    match answer {
+        TableAnswer::Table(c) => put_graph(c, &states, &arcs),
+        TableAnswer::Refused(why) => put_refusal(why),
+    }
+}

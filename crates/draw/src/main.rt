@@ -1,0 +1,29 @@
+// The program `draw`: the text of a table from standard input, and to standard output a graph for Graphviz: a node for each state with its
+// weights, an edge for each arc with its labels and its weight. A text that is no table is answered by its refusal.
+mod graph;
+
+use crate::graph::draw_text;
+
+// Room for an input and for one byte more.
+fn input_space() -> [u8; 65537] {
+    [0; 65537]
+}
+
+// What is drawn of the first bytes of a slice that was read.
+fn run(bytes: &[u8], n: usize) {
+    if bytes.len() < n {
+        return;
+    }
+    draw_text(&bytes[0..n]);
+}
+
+// The same of the input.
+fn run_input(bytes: &[u8; 65537], n: usize) {
+    run(bytes, n);
+}
+
+fn main() {
+    let mut input = input_space();
+    let n = io::read_full(0, &mut input);
+    run_input(&input, n);
+}

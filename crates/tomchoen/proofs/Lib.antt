@@ -1,0 +1,4 @@
+-- Laws of answers as numbers.
+pub mod WordLaws
+pub mod FitLaws
+pub mod WeightLaws

@@ -1,0 +1,2 @@
+-- What the contracts of the library's face cite.
+pub mod Words

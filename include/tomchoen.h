@@ -1,0 +1,155 @@
+/*
+ * Tomchoen for C: weighted multi-tape automata ("tables") in lent memory.
+ *
+ * A table is three numbers and two byte arrays: tapes (1 to 8), states (0 to 1,024), arcs (0 to 8,192), its state records of
+ * 10 bytes and its arc records of 80 bytes.
+ *
+ *   state record: initial weight present (0 or 1), initial weight (4 bytes, low byte first), final weight present, final weight
+ *   arc record:   source (2 bytes, low byte first), target (2), weight (4), then for each of eight tapes a length (1) and a
+ *                 label (8 bytes, A to Z and 0 to 9)
+ *
+ * Whatever is unused is zero. An array may be longer than its records; what follows them is not part of the table.
+ *
+ * Every function answers with one number. Its low byte is 0, or the number of a refusal (enum tomchoen_refusal), or, of a lookup,
+ * TOMCHOEN_NONE. Above the low byte stands what the function tells; the macros below take it out.
+ *
+ * For all functions:
+ *   - Every array is a pointer and a length in bytes, and any contents and lengths are allowed: what is wrong is refused. A pointer
+ *     must not be null, also where the length is 0, and must have as many bytes as the length says.
+ *   - The arrays of one call must not overlap, except that arrays which are only read (const) may.
+ *   - A function reads and writes no memory but the arrays lent to it, allocates nothing and keeps nothing between calls.
+ *   - A refusal leaves the result arrays (out_states, out_arcs, output) as they were. Otherwise the records stand at their front and the
+ *     rest keeps its bytes.
+ *   - Work space, and the product space of a join, are zero afterwards, refused or not.
+ *   - Space for a result is counted in whole records; more than 1,024 states and 8,192 arcs are never used.
+ */
+#ifndef TOMCHOEN_H
+#define TOMCHOEN_H
+
+#include <stddef.h>
+#include <stdint.h>
+
+#ifdef __cplusplus
+extern "C" {
+#endif
+
+/* Why a call was refused; docs/REFUSALS.md says what to do about each. */
+enum tomchoen_refusal {
+    TOMCHOEN_SHORT = 1,        /* a text, or the records of a table, end too early */
+    TOMCHOEN_FORM = 2,         /* bytes that are not in the form asked for */
+    TOMCHOEN_SIZE = 3,         /* a count, a weight, a label or a string out of range */
+    TOMCHOEN_STATE = 4,        /* an arc names a state that the table lacks */
+    TOMCHOEN_TAPE = 5,         /* a tape that is not there, no tape chosen or left, unequal tape or string counts */
+    TOMCHOEN_PAIRS = 6,        /* more than four pairs, or a tape named twice */
+    TOMCHOEN_LIMIT = 7,        /* a delay limit above 64 */
+    TOMCHOEN_STATES_FULL = 8,  /* more states than the space lent or 1,024 */
+    TOMCHOEN_ARCS_FULL = 9,    /* more arcs than the space lent or 8,192 */
+    TOMCHOEN_DELAY = 10,       /* a step that is needed leaves more than the delay limit */
+    TOMCHOEN_WEIGHT = 11,      /* a summed weight above 999,999,999 in a product */
+    TOMCHOEN_WIDTH = 12,       /* more than eight tapes */
+    TOMCHOEN_SPACE = 13        /* work or output space shorter than needed */
+};
+
+/* A lookup found no successful path that spells the tuple. */
+#define TOMCHOEN_NONE 255
+
+/* The parts of an answer: the low byte; of a table its counts; of a text its length; of a lookup the weight. */
+#define TOMCHOEN_REFUSAL(answer) ((unsigned)((answer) & 255))
+#define TOMCHOEN_TAPES(answer) ((size_t)((answer) >> 8 & 255))
+#define TOMCHOEN_STATES(answer) ((size_t)((answer) >> 16 & 65535))
+#define TOMCHOEN_ARCS(answer) ((size_t)((answer) >> 32))
+#define TOMCHOEN_LENGTH(answer) ((size_t)((answer) >> 8))
+#define TOMCHOEN_WEIGHT_OF(answer) ((uint64_t)((answer) >> 8))
+
+/* Bytes of so many records. */
+#define TOMCHOEN_STATE_BYTES(states) ((size_t)10 * (states))
+#define TOMCHOEN_ARC_BYTES(arcs) ((size_t)80 * (arcs))
+
+/* Bytes of the text of a table. */
+#define TOMCHOEN_TEXT_BYTES(tapes, states, arcs) \
+    ((size_t)16 + (size_t)21 * (states) + ((size_t)23 + (size_t)9 * (tapes)) * (arcs))
+
+/* Bytes of work space; out_* and product_* are whole records lent, read_states is the number of states of the table read. */
+#define TOMCHOEN_BUILD_WORK(out_states, out_arcs, read_states) \
+    ((size_t)320 * (out_states) + (size_t)16 * (out_arcs) + (size_t)64 * (read_states))
+#define TOMCHOEN_PRODUCT_WORK(out_states, out_arcs) ((size_t)16 * (out_states) + (size_t)16 * (out_arcs))
+#define TOMCHOEN_JOIN_WORK(product_states, product_arcs, out_states, out_arcs) \
+    (TOMCHOEN_PRODUCT_WORK(product_states, product_arcs) + TOMCHOEN_BUILD_WORK(out_states, out_arcs, product_states))
+/* combinations is the product, over the strings of the tuple, of (length + 1). */
+#define TOMCHOEN_LOOKUP_WORK(states, combinations) ((size_t)8 * (states) * (combinations))
+
+/* Reads the text of a table. Refusals: 1, 2, 3, 4, 8, 9. Tells the counts. */
+uint64_t tomchoen_read(const uint8_t *text, size_t text_length,
+                       uint8_t *out_states, size_t out_states_length, uint8_t *out_arcs, size_t out_arcs_length);
+
+/* Writes the text of a table. Refusals: 1 to 4 of the table, 13. Tells the number of bytes written. */
+uint64_t tomchoen_write(size_t tapes, size_t states, size_t arcs,
+                        const uint8_t *state_bytes, size_t state_bytes_length, const uint8_t *arc_bytes, size_t arc_bytes_length,
+                        uint8_t *output, size_t output_length);
+
+/* Keeps the accounts that agree on pairs of tapes, two bytes a pair (first tape, second tape, counted from 1), with one delay limit
+ * (0 to 64). Refusals: 1 to 4 of the table, 5, 6, 7, 13, 8, 9, 10. Tells the counts. */
+uint64_t tomchoen_build(size_t tapes, size_t states, size_t arcs,
+                        const uint8_t *state_bytes, size_t state_bytes_length, const uint8_t *arc_bytes, size_t arc_bytes_length,
+                        const uint8_t *pairs, size_t pairs_length, size_t limit,
+                        uint8_t *out_states, size_t out_states_length, uint8_t *out_arcs, size_t out_arcs_length,
+                        uint8_t *work, size_t work_length);
+
+/* The aligned product of two tables. Refusals: 1 to 4 of the first table, then of the second, 12, 13, 8, 9, 11. Tells the counts. */
+uint64_t tomchoen_product(size_t first_tapes, size_t first_states, size_t first_arcs,
+                          const uint8_t *first_state_bytes, size_t first_state_bytes_length,
+                          const uint8_t *first_arc_bytes, size_t first_arc_bytes_length,
+                          size_t second_tapes, size_t second_states, size_t second_arcs,
+                          const uint8_t *second_state_bytes, size_t second_state_bytes_length,
+                          const uint8_t *second_arc_bytes, size_t second_arc_bytes_length,
+                          uint8_t *out_states, size_t out_states_length, uint8_t *out_arcs, size_t out_arcs_length,
+                          uint8_t *work, size_t work_length);
+
+/* Joins two tables on pairs (a tape of the first, a tape of the second): their product, what agrees of it, without the second tapes.
+ * The product stands in product space of its own. Refusals: 1 to 4 of the first table, then of the second, 12, 5, 6, 7, 13, then 8, 9, 11
+ * of the product in its space, then 8, 9, 10 of the result in its space. Tells the counts. */
+uint64_t tomchoen_join(size_t first_tapes, size_t first_states, size_t first_arcs,
+                       const uint8_t *first_state_bytes, size_t first_state_bytes_length,
+                       const uint8_t *first_arc_bytes, size_t first_arc_bytes_length,
+                       size_t second_tapes, size_t second_states, size_t second_arcs,
+                       const uint8_t *second_state_bytes, size_t second_state_bytes_length,
+                       const uint8_t *second_arc_bytes, size_t second_arc_bytes_length,
+                       const uint8_t *pairs, size_t pairs_length, size_t limit,
+                       uint8_t *product_states, size_t product_states_length, uint8_t *product_arcs, size_t product_arcs_length,
+                       uint8_t *out_states, size_t out_states_length, uint8_t *out_arcs, size_t out_arcs_length,
+                       uint8_t *work, size_t work_length);
+
+/* Appends the second table to the first. Refusals: 1 to 4 of the first table, then of the second, 5, 8, 9. Tells the counts. */
+uint64_t tomchoen_union(size_t first_tapes, size_t first_states, size_t first_arcs,
+                        const uint8_t *first_state_bytes, size_t first_state_bytes_length,
+                        const uint8_t *first_arc_bytes, size_t first_arc_bytes_length,
+                        size_t second_tapes, size_t second_states, size_t second_arcs,
+                        const uint8_t *second_state_bytes, size_t second_state_bytes_length,
+                        const uint8_t *second_arc_bytes, size_t second_arc_bytes_length,
+                        uint8_t *out_states, size_t out_states_length, uint8_t *out_arcs, size_t out_arcs_length);
+
+/* Chooses tapes: a list of 1 to 8, one byte each, counted from 1, repeats allowed. Refusals: 1 to 4 of the table, 12, 5, 8, 9. Tells the
+ * counts. */
+uint64_t tomchoen_project(size_t tapes, size_t states, size_t arcs,
+                          const uint8_t *state_bytes, size_t state_bytes_length, const uint8_t *arc_bytes, size_t arc_bytes_length,
+                          const uint8_t *chosen, size_t chosen_length,
+                          uint8_t *out_states, size_t out_states_length, uint8_t *out_arcs, size_t out_arcs_length);
+
+/* Drops the tapes marked in a mask, whose bit k is tape k + 1. Refusals: 1 to 4 of the table, 5, 8, 9. Tells the counts. */
+uint64_t tomchoen_drop(size_t tapes, size_t states, size_t arcs,
+                       const uint8_t *state_bytes, size_t state_bytes_length, const uint8_t *arc_bytes, size_t arc_bytes_length,
+                       uint8_t mask,
+                       uint8_t *out_states, size_t out_states_length, uint8_t *out_arcs, size_t out_arcs_length);
+
+/* The weight of a tuple: one string a tape, each of at most 64 symbols and ended by byte 10. Tells the least weight of the successful
+ * paths that spell it, or TOMCHOEN_NONE. Refusals: 1 to 4 of the table, 1 of the tuple, 5, 3, 2, 13. */
+uint64_t tomchoen_lookup(size_t tapes, size_t states, size_t arcs,
+                         const uint8_t *state_bytes, size_t state_bytes_length, const uint8_t *arc_bytes, size_t arc_bytes_length,
+                         const uint8_t *tuple, size_t tuple_length,
+                         uint8_t *work, size_t work_length);
+
+#ifdef __cplusplus
+}
+#endif
+
+#endif

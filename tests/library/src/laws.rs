@@ -1,0 +1,210 @@
+//! Demand 3 on the calls of the library, by weights looked up: a check of the definitions from outside.
+//!
+//! For random tables and pairs: the join exchanged, joined part by part on either side, with some pairs first, and given again with
+//! more space and a higher limit. Where a call is refused the law says nothing, and the case counts as passed over.
+
+use crate::calls::outcome;
+use tomchoen_tests::automaton::Automaton;
+use tomchoen_tests::calls::{Counts, JoinRequest, ResultSpace};
+use tomchoen_tests::columns::project;
+use tomchoen_tests::automaton::Room;
+use tomchoen_tests::memory::{encode, judge, LentTable, ARC_BYTES, STATE_BYTES};
+use tomchoen_tests::random::Random;
+use tomchoen_tests::requests::{join_pairs, spelled, two_tables, Outcome, Request};
+
+/// A tape of the first table and one of the second.
+type Pairs = Vec<(u64, u64)>;
+
+/// Strings, one a tape.
+type Tuple = Vec<Vec<u8>>;
+
+/// Space for so many states and arcs.
+fn space(states: usize, arcs: usize) -> ResultSpace {
+    ResultSpace { states: vec![7; states * STATE_BYTES], arcs: vec![7; arcs * ARC_BYTES] }
+}
+
+/// The table that a call gave, if it was not refused.
+fn given(request: &Request) -> Option<LentTable> {
+    let Outcome::Table(made) = outcome(request) else { return None };
+    let Counts { tapes, states, arcs } = made.answer.ok()?;
+    Some(LentTable { tapes, states, arcs, state_records: made.result.states, arc_records: made.result.arcs })
+}
+
+/// A join with limits and space of its own.
+fn join(first: &LentTable, second: &LentTable, pairs: &Pairs, limit: u64, more: usize) -> Option<LentTable> {
+    let (product, result) = (space(200 + more, 1_200 + more), space(200 + more, 1_200 + more));
+    let work = vec![9; 16 * (1_400 + 2 * more) + 320 * (200 + more) + 16 * (1_200 + more) + 64 * (200 + more)];
+    let request = JoinRequest { pairs: pairs.clone(), limit, product, result, work };
+    given(&Request::Join { first: first.clone(), second: second.clone(), request })
+}
+
+/// Union, keeping and dropping.
+fn union(first: &LentTable, second: &LentTable) -> Option<LentTable> {
+    given(&Request::Union { first: first.clone(), second: second.clone(), result: space(400, 2_400) })
+}
+
+fn keep(table: &LentTable, pairs: &Pairs, limit: u64) -> Option<LentTable> {
+    let result = space(300, 1_500);
+    let work = vec![5; 320 * 300 + 16 * 1_500 + 64 * table.states as usize];
+    given(&Request::Intersect { table: table.clone(), pairs: pairs.clone(), limit, result, work })
+}
+
+fn drop_tapes(table: &LentTable, marked: u8) -> Option<LentTable> {
+    given(&Request::DropTapes { table: table.clone(), marked, result: space(300, 1_500) })
+}
+
+/// The weight of a tuple, none counting above every weight; strings must be short.
+fn weight(table: &LentTable, tuple: &Tuple) -> Option<u64> {
+    let text: Vec<u8> = tuple.iter().flat_map(|string| [&string[..], b"\n"].concat()).collect();
+    let cells = tuple.iter().fold(table.states as usize, |cells, string| cells * (string.len() + 1));
+    match outcome(&Request::Lookup { table: table.clone(), tuple: text, work: vec![3; 8 * cells] }) {
+        Outcome::Lookup(found) => found.answer.expect("a lookup of a short tuple is not refused"),
+        _ => None,
+    }
+}
+
+/// The lesser of two weights, none counting above every weight.
+fn lesser(one: Option<u64>, two: Option<u64>) -> Option<u64> {
+    [one, two].into_iter().flatten().min()
+}
+
+/// Tuples to look up: what some paths spell, some of them with a symbol changed; those whose cells are few.
+fn tuples(random: &mut Random, table: &LentTable) -> Vec<Tuple> {
+    let automaton: Automaton = judge(table).expect("a table that a call gave");
+    let few = |tuple: &Tuple| {
+        tuple.iter().all(|string| string.len() <= 64)
+            && tuple.iter().fold(automaton.states.len() as u128, |cells, string| cells * (string.len() as u128 + 1)) < 50_000
+    };
+    (0..6)
+        .map(|_| {
+            let mut tuple = spelled(random, &automaton);
+            if random.chance(20) {
+                let at = random.below(tuple.len());
+                tuple[at].push(random.pick(b"AB"));
+            }
+            tuple
+        })
+        .filter(few)
+        .collect()
+}
+
+/// The strings of the second table in a tuple of the join, each dropped tape being the tape that was kept for it.
+fn second_strings(tuple: &Tuple, n: usize, m: usize, pairs: &Pairs) -> Tuple {
+    let mut rest = tuple[n..].iter();
+    (1..=m as u64)
+        .map(|tape| match pairs.iter().find(|pair| pair.1 == tape) {
+            Some(&(first, _)) => tuple[first as usize - 1].clone(),
+            None => rest.next().expect("as many strings as tapes").clone(),
+        })
+        .collect()
+}
+
+/// What was found.
+#[derive(Default)]
+pub struct Found {
+    pub compared: u64,
+    pub tables: u64,
+    pub passed_over: u64,
+    pub differences: Vec<String>,
+}
+
+impl Found {
+    /// Notes a comparison of two weights.
+    fn same(&mut self, law: &str, case: u64, one: Option<u64>, two: Option<u64>) {
+        self.compared += 1;
+        if one != two {
+            self.differences.push(format!("case {case}: {law}: {one:?} and {two:?}"));
+        }
+    }
+
+    /// The parts of a law, or one case passed over.
+    fn all<const N: usize>(&mut self, parts: [Option<LentTable>; N]) -> Option<[LentTable; N]> {
+        let whole: Option<Vec<LentTable>> = parts.into_iter().collect();
+        match whole.and_then(|tables| tables.try_into().ok()) {
+            Some(tables) => Some(tables),
+            None => {
+                self.passed_over += 1;
+                None
+            }
+        }
+    }
+}
+
+/// The second table first, each pair turned round.
+fn exchanged(found: &mut Found, random: &mut Random, case: u64, a: &LentTable, b: &LentTable, pairs: &Pairs, limit: u64) {
+    let turned: Pairs = pairs.iter().map(|&(first, second)| (second, first)).collect();
+    let Some([j, k]) = found.all([join(a, b, pairs, limit, 0), join(b, a, &turned, limit, 3)]) else { return };
+    let (n, m) = (a.tapes as usize, b.tapes as usize);
+    for tuple in tuples(random, &j) {
+        let second = second_strings(&tuple, n, m, pairs);
+        let rest = (0..n).filter(|&tape| !pairs.iter().any(|pair| pair.0 as usize == tape + 1)).map(|tape| tuple[tape].clone());
+        let other: Tuple = second.into_iter().chain(rest).collect();
+        found.same("exchanged", case, weight(&j, &tuple), weight(&k, &other));
+    }
+}
+
+/// Either table a union: the lesser of the weights of the two joins, and a union of those.
+fn part_by_part(found: &mut Found, random: &mut Random, case: u64, a: &LentTable, c: &LentTable, b: &LentTable, pairs: &Pairs, limit: u64, left: bool) {
+    let pairs: Pairs = if left { pairs.clone() } else { pairs.iter().map(|&(first, second)| (second, first)).collect() };
+    let side = |part: &LentTable| if left { join(part, b, &pairs, limit, 0) } else { join(b, part, &pairs, limit, 0) };
+    let Some([u, one, two]) = found.all([union(a, c), side(a), side(c)]) else { return };
+    let Some([j, both]) = found.all([side(&u), union(&one, &two)]) else { return };
+    for tuple in tuples(random, &j).into_iter().chain(tuples(random, &one)).chain(tuples(random, &two)) {
+        let parts = lesser(weight(&one, &tuple), weight(&two, &tuple));
+        found.same("part by part", case, weight(&j, &tuple), parts);
+        found.same("a union of the joins", case, weight(&both, &tuple), parts);
+    }
+}
+
+/// Some pairs joined first, the others kept afterwards and their second tapes dropped.
+fn some_first(found: &mut Found, random: &mut Random, case: u64, a: &LentTable, b: &LentTable, pairs: &Pairs, limit: u64) {
+    let (first, later): (Pairs, Pairs) = pairs.iter().partition(|_| random.chance(50));
+    let n = a.tapes;
+    let place = |tape: u64| n + tape - first.iter().filter(|pair| pair.1 < tape).count() as u64;
+    let kept: Pairs = later.iter().map(|&(i, j)| (i, place(j))).collect();
+    let marked = kept.iter().fold(0u8, |mask, pair| mask | 1 << (pair.1 - 1));
+    let Some([j, early]) = found.all([join(a, b, pairs, limit, 0), join(a, b, &first, limit, 0)]) else { return };
+    let Some([agreed]) = found.all([keep(&early, &kept, limit)]) else { return };
+    let Some([steps]) = found.all([drop_tapes(&agreed, marked)]) else { return };
+    for tuple in tuples(random, &j).into_iter().chain(tuples(random, &steps)) {
+        found.same("some pairs first", case, weight(&j, &tuple), weight(&steps, &tuple));
+    }
+}
+
+/// The same call with a higher limit and more space.
+fn again(found: &mut Found, random: &mut Random, case: u64, a: &LentTable, b: &LentTable, pairs: &Pairs, limit: u64) {
+    let Some([j]) = found.all([join(a, b, pairs, limit, 0)]) else { return };
+    let higher = limit + random.below(65 - limit as usize) as u64;
+    let k = join(a, b, pairs, higher, random.below(30));
+    found.tables += 1;
+    let same = k.is_some_and(|k| {
+        let counts = (k.tapes, k.states, k.arcs) == (j.tapes, j.states, j.arcs);
+        let (states, arcs) = (j.states as usize * STATE_BYTES, j.arcs as usize * ARC_BYTES);
+        counts && k.state_records[..states] == j.state_records[..states] && k.arc_records[..arcs] == j.arc_records[..arcs]
+    });
+    if !same {
+        found.differences.push(format!("case {case}: given again: another table or a refusal"));
+    }
+}
+
+/// All laws on one case.
+pub fn check(seed: u64, case: u64, found: &mut Found) {
+    let random = &mut Random::for_case(seed, case);
+    let (one, two) = two_tables(random);
+    if one.tapes + two.tapes > 8 {
+        found.passed_over += 1;
+        return;
+    }
+    let (_, other) = two_tables(random);
+    let tapes: Vec<u64> = (0..one.tapes).map(|_| random.range(1, other.tapes) as u64).collect();
+    let (a, b) = (encode(&one), encode(&two));
+    let c = project(&other, &tapes, Room::AMPLE).map(|part| encode(&part)).expect("chosen tapes are there");
+    let mut pairs = join_pairs(random, one.tapes, two.tapes);
+    pairs.retain(|&(i, j)| (1..=a.tapes).contains(&i) && (1..=b.tapes).contains(&j));
+    let limit = random.pick(&[0, 1, 2, 5, 20, 64]);
+    exchanged(found, random, case, &a, &b, &pairs, limit);
+    part_by_part(found, random, case, &a, &c, &b, &pairs, limit, true);
+    part_by_part(found, random, case, &a, &c, &b, &pairs, limit, false);
+    some_first(found, random, case, &a, &b, &pairs, limit);
+    again(found, random, case, &a, &b, &pairs, limit);
+}
