@@ -6,12 +6,11 @@
 //! request and both outcomes. With --laws it also tests demand 3's laws on the calls, by weights looked up.
 //! Exit status: 0 without a difference, 1 with one, 2 where the comparison could not be made.
 
-mod calls;
-mod laws;
 
 use std::collections::BTreeMap;
 use std::process::ExitCode;
 use std::{env, fs, io};
+use tomchoen_library_tests::{calls, laws};
 use tomchoen_tests::random::Random;
 use tomchoen_tests::requests::{self, Outcome, Request};
 
