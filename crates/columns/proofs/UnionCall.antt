@@ -1,9 +1,8 @@
 -- The union of two tables, by its steps.
-use Prim.Native.Nat.{ℕ, zero, suc, _+_, _*_, _/_, _≤_, _<_}
-use mathlib.Core.Path.{_≡_, refl, sym, ap, ap₂, subst, _∙_}
-use mathlib.Core.Bool.{Bool, true, false}
+use Prim.Native.Nat.{ℕ, _+_, _*_, _/_, _≤_}
+use mathlib.Core.Path.{_≡_, sym, ap, ap₂, subst, _∙_}
+use mathlib.Core.Bool.{true, false}
 use mathlib.Core.List.{List, _++_, map}
-use native.Mathlib.Nat.{zero-add}
 use native.Mathlib.Omega.{arith}
 use borrow.Author.Tests.{eq-eqb, ne-eqb}
 use lib.Dec.{eqb, eqb→eq}
@@ -15,12 +14,12 @@ use Rattle.automata.specs.Records.{chunks, writeAll}
 use Rattle.automata.specs.Answer.{_>>=_, Answer, ok, refused, forget}
 use Rattle.automata.specs.Space.{Space, stateCap, arcCap}
 use Rattle.automata.specs.Automaton.{Automaton}
-use Rattle.automata.specs.Table.{WellFormed, WellFormedArc}
+use Rattle.automata.specs.Table.{WellFormed}
 use Rattle.automata.specs.Memory.{Memory, Sound, Holds, memoryOf, decodeTable, tableOf, arcRecord, stateRecord, encodeStates, encodeArcs}
 use Rattle.automata.specs.Union.{fitted, shifted, appended, union}
 use Rattle.automata.specs.Calls.Union.{unionAnswer, unionOutcome}
-use Rattle.automata.specs.Calls.Outcome.{TableCounts, spaceOf, overwrite, countsOf, put, madeOf, slicesOf}
-use Rattle.automata.proofs.RecordFacts.{Sized, writeAll-append, chunks-writeAll}
+use Rattle.automata.specs.Calls.Outcome.{TableCounts, spaceOf, overwrite, put, madeOf, slicesOf}
+use Rattle.automata.proofs.RecordFacts.{writeAll-append}
 use Rattle.automata.proofs.AnswerFacts.{bind-ok, judge-ok}
 use Rattle.automata.proofs.CallTests.{union-tape, union-passed}
 use Rattle.automata.proofs.CallFacts.{put-refused, put-ok}
@@ -34,7 +33,7 @@ use Rattle.memory.specs.declared.answer.Judged.the-variants.{Fine, Refused}
 use Rattle.memory.proofs.Laws.{length-splice, splice-front, splice-twice, splice-behind}
 use Rattle.memory.proofs.AnswerLaws.{forget-ok}
 use Rattle.memory.proofs.TableLaws.{judged-sound}
-use Rattle.memory.proofs.SoundLaws.{few-tapes, few-states, few-arcs, states-lent, arcs-lent}
+use Rattle.memory.proofs.SoundLaws.{few-states, few-arcs, states-lent, arcs-lent}
 use Rattle.columns.specs.Rewritten.{rewritten, raisedArc}
 use Rattle.columns.specs.Results.{lentSpace, fitting, Copies, Copied, Raisable, AllRaisable, Appends}
 use Rattle.columns.proofs.ColumnLaws.{arcs-cut}
