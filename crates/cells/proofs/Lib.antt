@@ -1,3 +1,5 @@
 -- Laws that belong to no one function.
 pub mod DistanceLaws
 pub mod MoveLaws
+pub mod CellLaws
+pub mod SweepLaws

@@ -3,3 +3,4 @@ pub mod Answers
 pub mod Fillable
 pub mod Distances
 pub mod Moves
+pub mod Sweeps
