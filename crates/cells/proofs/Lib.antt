@@ -3,3 +3,4 @@ pub mod DistanceLaws
 pub mod MoveLaws
 pub mod CellLaws
 pub mod SweepLaws
+pub mod MoveMeaning
