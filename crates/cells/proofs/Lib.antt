@@ -4,3 +4,4 @@ pub mod MoveLaws
 pub mod CellLaws
 pub mod SweepLaws
 pub mod MoveMeaning
+pub mod RelaxLaws
