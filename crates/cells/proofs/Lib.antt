@@ -5,3 +5,4 @@ pub mod CellLaws
 pub mod SweepLaws
 pub mod MoveMeaning
 pub mod RelaxLaws
+pub mod RoundMeaning
