@@ -6,3 +6,5 @@ pub mod SweepLaws
 pub mod MoveMeaning
 pub mod RelaxLaws
 pub mod RoundMeaning
+pub mod SpanLaws
+pub mod SpotMeaning

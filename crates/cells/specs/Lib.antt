@@ -2,5 +2,6 @@
 pub mod Answers
 pub mod Fillable
 pub mod Distances
+pub mod Spots
 pub mod Moves
 pub mod Sweeps
