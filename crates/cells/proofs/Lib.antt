@@ -8,3 +8,4 @@ pub mod RelaxLaws
 pub mod RoundMeaning
 pub mod SpanLaws
 pub mod SpotMeaning
+pub mod EndLaws

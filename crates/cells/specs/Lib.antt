@@ -5,3 +5,4 @@ pub mod Distances
 pub mod Spots
 pub mod Moves
 pub mod Sweeps
+pub mod Ends
