@@ -9,3 +9,4 @@ pub mod RoundMeaning
 pub mod SpanLaws
 pub mod SpotMeaning
 pub mod EndLaws
+pub mod StartMeaning

@@ -6,7 +6,7 @@ use mathlib.Core.List.{List, [], _∷_}
 use Prim.Native.Nat.{ℕ, zero, suc, _+_, _*_, _≤_, _<_, min}
 use native.Mathlib.Decide.{ℕ-discrete, decLe}
 use native.Mathlib.Omega.{arith}
-use lib.ListN.{length, getD, set, getElem?}
+use lib.ListN.{length, getD, set, getElem?, length-set}
 use lib.Seq.{getD-set-same, getD-set-other}
 use Rattle.automata.specs.OrderedSum.{ℕ-sum}
 use Rattle.automata.specs.Graph.{Within}
@@ -28,6 +28,10 @@ lowered-same k v xs h = getD-set-same xs k (min (getD xs k 0) v) 0 h
 pub lowered-other : (k v : ℕ) (xs : List ℕ) (j : ℕ) → j ≢ k → getD (lowered k v xs) j 0 ≡ getD xs j 0
 unfolding lowered
 lowered-other k v xs j h = getD-set-other xs k j (min (getD xs k 0) v) 0 h
+
+pub lowered-length : (k v : ℕ) (xs : List ℕ) → length (lowered k v xs) ≡ length xs
+unfolding lowered
+lowered-length k v xs = length-set xs k (min (getD xs k 0) v)
 
 -- ---- one arc
 
