@@ -10,3 +10,5 @@ pub mod SpanLaws
 pub mod SpotMeaning
 pub mod EndLaws
 pub mod StartMeaning
+pub mod LeastMeaning
+pub mod FillLaws

@@ -1,5 +1,6 @@
 -- Combinations of positions by their numbers.
 use mathlib.Core.Path.{_≡_}
+use mathlib.Core.Logic.{_⊎_}
 use mathlib.Core.List.{List, [], _∷_}
 use Prim.Native.Nat.{ℕ, suc, _+_, _-_, _*_, _/_, _%_, _≤_, _<_}
 use lib.ListN.{length, getD, drop}
@@ -36,10 +37,10 @@ spotOf s spans number = record {
   all = spans .all;
 }
 
--- eight strings, none too long, with places that fit 64 bits
+-- eight strings, none too long, each with an end that fits 64 bits
 pub record Placed (s : Strings) : Type 0 where
   pub short : (h : ℕ) → getD (s .lengths) h 0 ≤ 64
-  pub fits : (h : ℕ) → h < 8 → getD (s .starts) h 0 + getD (s .lengths) h 0 < 18446744073709551616
+  pub fits : (h : ℕ) → h < 8 → (getD (s .lengths) h 0 ≡ 0) ⊎ (getD (s .starts) h 0 + getD (s .lengths) h 0 < 18446744073709551616)
 
 -- the spans are not zero
 abbrev pub Positive : Spans → Type 0

@@ -2,6 +2,7 @@
 pub mod answer;
 pub mod cell;
 pub mod ends;
+pub mod fill;
 pub mod moves;
 pub mod relax;
 pub mod spot;

@@ -59,12 +59,20 @@ fn position(strings: Strings, spans: Spans, number: usize, h: usize) -> usize
     number / span % count
 }
 
+// A number. Its callers know that it fits 64 bits.
+fn whole(n: usize) -> usize
+    ensures { λ r. ⌜ (r ≡ n) × (r < 18446744073709551616) ⌝ }
+{
+    n
+}
+
 // Where string h goes on from its position.
 fn start_at(strings: Strings, spans: Spans, number: usize, h: usize) -> usize
     requires { ⌜ Placed strings × Positive spans × (h < 8) ⌝ }
     ensures { λ r. ⌜ r ≡ getD (strings .starts) h 0 + digit strings spans number h ⌝ }
 {
-    strings.starts[h] + position(strings, spans, number, h)
+    let start = whole(strings.starts[h]);
+    start + position(strings, spans, number, h)
 }
 
 // How much of string h is left from its position.
