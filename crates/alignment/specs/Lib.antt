@@ -1,3 +1,5 @@
 -- What the contracts of the search over a product's states cite.
 pub mod Vertices
 pub mod Moves
+pub mod Plans
+pub mod Exploring
