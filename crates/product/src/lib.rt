@@ -1,0 +1,5 @@
+// The aligned product as it is called.
+pub mod judge;
+pub mod record;
+pub mod result;
+pub mod sum;
