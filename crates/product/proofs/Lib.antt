@@ -2,3 +2,5 @@
 pub mod SumLaws
 pub mod RecordLaws
 pub mod ResultLaws
+pub mod SideModel
+pub mod MoveModel
