@@ -4,3 +4,5 @@ pub mod RecordLaws
 pub mod ResultLaws
 pub mod SideModel
 pub mod MoveModel
+pub mod CrossLaws
+pub mod SettleLaws

@@ -110,13 +110,13 @@ module _ (a b : Memory) (sa : Sound a) (sb : Sound b) where
         (vertices-held (at + 4) cs (h .1) (ap (λ (rs : List (List ℕ)). drop 1 rs) e))
 
   -- the places of the states are within the bytes
-  vertices-fit : (cs : List product.Vertex) → All Below cs → Vertices (a .stateBytes) (b .stateBytes) (map vertexOf cs)
+  pub vertices-fit : (cs : List product.Vertex) → All Below cs → Vertices (a .stateBytes) (b .stateBytes) (map vertexOf cs)
   unfolding Vertices
   vertices-fit [] h = tt
   vertices-fit (c ∷ cs) h = (vertex-fits c (h .0), vertices-fit cs (h .1))
 
   -- whether their weights are in range
-  states-judged : (ds cs : List product.Vertex) → All Below cs → statesFit (a .stateBytes) (b .stateBytes) (map vertexOf cs)
+  pub states-judged : (ds cs : List product.Vertex) → All Below cs → statesFit (a .stateBytes) (b .stateBytes) (map vertexOf cs)
       ≡ all (λ s. and (fitsAt weightFits (s .initial)) (fitsAt weightFits (s .final))) (map (vertexState sameVertex (productSystem ℕ-sum A B) ds) cs)
   unfolding statesFit
   states-judged ds [] h = refl
@@ -124,7 +124,7 @@ module _ (a b : Memory) (sa : Sound a) (sb : Sound b) where
       ap₂ and (ap (λ (s : automata.State ℕ). and (fitsAt weightFits (s .initial)) (fitsAt weightFits (s .final))) (vertex-model ds c (h .0))) (states-judged ds cs (h .1))
 
   -- their records
-  states-encoded : (ds cs : List product.Vertex) → All Below cs → stateRecords (a .stateBytes) (b .stateBytes) (map vertexOf cs)
+  pub states-encoded : (ds cs : List product.Vertex) → All Below cs → stateRecords (a .stateBytes) (b .stateBytes) (map vertexOf cs)
       ≡ writeAll (stateRecord .write) (map (vertexState sameVertex (productSystem ℕ-sum A B) ds) cs)
   unfolding stateRecords
   states-encoded ds [] h = refl

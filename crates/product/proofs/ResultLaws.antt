@@ -4,13 +4,12 @@ use mathlib.Core.Bool.{Bool, true, false, not}
 use mathlib.Core.List.{List, [], _∷_, _++_}
 use Prim.Native.Nat.{ℕ, zero, suc, _+_, _-_, _*_, _≤_, _<_}
 use native.Mathlib.Omega.{arith}
-use lib.Dec.{leb, leb→le, le→leb}
 use lib.ListN.{length, length-append}
 use Rattle.automata.specs.Lists.{and, all, All}
 use Rattle.automata.specs.Records.{writeAll}
 use Rattle.automata.specs.Table.{weightFits}
 use Rattle.automata.specs.Calls.Outcome.{overwrite}
-use Rattle.automata.proofs.TestFacts.{false-not-true, T-true, T-false}
+use Rattle.automata.proofs.TestFacts.{false-not-true}
 use Rattle.automata.proofs.RecordFacts.{All-map, length-writeAll}
 use Rattle.memory.specs.Region.{splice}
 use Rattle.memory.specs.Records.{stateBytes}
@@ -24,15 +23,8 @@ use Rattle.alignment.specs.Vertices.{vertexAt}
 use Rattle.alignment.specs.Moves.{moveAt}
 use Rattle.product.specs.Sums.{vertexSum, stateFits, moveSum, moveRecord, verticesAt, movesAt, VertexFits, MoveFits}
 use Rattle.product.specs.Results.{statesFit, stateRecords, Vertices, movesFit, moveRecords, Moves}
+use Rattle.product.proofs.CrossLaws.{leb-true, leb-false}
 use Rattle.product.proofs.RecordLaws.{length-record}
-
--- ---- tests
-
-leb-true : (m n : ℕ) → m ≤ n → leb m n ≡ true
-leb-true m n h = T-true (leb m n) (le→leb m n h)
-
-leb-false : (m n : ℕ) → n < m → leb m n ≡ false
-leb-false m n h = T-false (leb m n) (λ t. let k = leb→le m n t in omega (arith, k, h))
 
 -- ---- bytes written one after the other
 

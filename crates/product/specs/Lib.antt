@@ -1,3 +1,5 @@
 -- What the contracts of the aligned product as it is called cite.
 pub mod Sums
 pub mod Results
+pub mod Settled
+pub mod Multiplied
