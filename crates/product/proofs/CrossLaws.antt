@@ -4,7 +4,8 @@ use mathlib.Core.Bool.{Bool, true, false}
 use mathlib.Core.List.{List, map}
 use Prim.Native.Nat.{ℕ, _+_, _≤_, _<_}
 use native.Mathlib.Omega.{arith}
-use lib.Dec.{leb, leb→le, le→leb}
+use lib.Dec.{leb}
+use borrow.Author.Tests.{le-leb, lt-leb}
 use lib.ListN.{length, length-map}
 use Rattle.automata.specs.Refusal as refusal
 use Rattle.automata.specs.Answer.{Answer, ok, refused}
@@ -16,14 +17,6 @@ use Rattle.automata.specs.Explore.{Edge, edges}
 use Rattle.automata.specs.Product as product
 use Rattle.automata.specs.Product.{sameVertex, productSystem, productStates, fitting, crossProduct}
 use Rattle.automata.specs.Table.{weightFits}
-use Rattle.automata.proofs.TestFacts.{T-true, T-false}
-
--- tests of numbers
-pub leb-true : (m n : ℕ) → m ≤ n → leb m n ≡ true
-leb-true m n h = T-true (leb m n) (le→leb m n h)
-
-pub leb-false : (m n : ℕ) → n < m → leb m n ≡ false
-leb-false m n h = T-false (leb m n) (λ t. let k = leb→le m n t in omega (arith, k, h))
 
 module _ (A B : Automaton ℕ) where
   -- the states of the product, or more than cap of them, and the moves between them
@@ -47,27 +40,27 @@ module _ (A B : Automaton ℕ) where
 
     states-at : stateCap space < length (statesBy (stateCap space)) → crossed ≡ refused refusal.statesFull
     unfolding crossProduct
-    states-at h = rw (leb-false (length (statesBy (stateCap space))) (stateCap space) h)
+    states-at h = rw (lt-leb (length (statesBy (stateCap space))) (stateCap space) h)
 
     arcs-at : length (statesBy (stateCap space)) ≤ stateCap space → arcCap space < length (edgesBy (stateCap space)) → crossed ≡ refused refusal.arcsFull
     unfolding crossProduct
     arcs-at h k =
         let l = length-arcs (stateCap space) in
-        rw (leb-true (length (statesBy (stateCap space))) (stateCap space) h, leb-false (length (numberedBy (stateCap space) .arcs)) (arcCap space) (omega (arith, l, k)))
+        rw (le-leb (length (statesBy (stateCap space))) (stateCap space) h, lt-leb (length (numberedBy (stateCap space) .arcs)) (arcCap space) (omega (arith, l, k)))
 
     weights-at : length (statesBy (stateCap space)) ≤ stateCap space → length (edgesBy (stateCap space)) ≤ arcCap space
         → fitting ℕ-sum weightFits (numberedBy (stateCap space)) ≡ false → crossed ≡ refused refusal.weight
     unfolding crossProduct
     weights-at h k e =
         let l = length-arcs (stateCap space) in
-        rw (leb-true (length (statesBy (stateCap space))) (stateCap space) h, leb-true (length (numberedBy (stateCap space) .arcs)) (arcCap space) (omega (arith, l, k)), e)
+        rw (le-leb (length (statesBy (stateCap space))) (stateCap space) h, le-leb (length (numberedBy (stateCap space) .arcs)) (arcCap space) (omega (arith, l, k)), e)
 
     made-at : length (statesBy (stateCap space)) ≤ stateCap space → length (edgesBy (stateCap space)) ≤ arcCap space
         → fitting ℕ-sum weightFits (numberedBy (stateCap space)) ≡ true → crossed ≡ ok (numberedBy (stateCap space))
     unfolding crossProduct
     made-at h k e =
         let l = length-arcs (stateCap space) in
-        rw (leb-true (length (statesBy (stateCap space))) (stateCap space) h, leb-true (length (numberedBy (stateCap space) .arcs)) (arcCap space) (omega (arith, l, k)), e)
+        rw (le-leb (length (statesBy (stateCap space))) (stateCap space) h, le-leb (length (numberedBy (stateCap space) .arcs)) (arcCap space) (omega (arith, l, k)), e)
 
     -- the same where the greatest number of states is given
     module _ (cap : ℕ) (e : cap ≡ stateCap space) where

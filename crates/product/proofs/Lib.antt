@@ -6,3 +6,4 @@ pub mod SideModel
 pub mod MoveModel
 pub mod CrossLaws
 pub mod SettleLaws
+pub mod CallLaws

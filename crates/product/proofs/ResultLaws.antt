@@ -4,7 +4,8 @@ use mathlib.Core.Bool.{Bool, true, false, not}
 use mathlib.Core.List.{List, [], _∷_, _++_}
 use Prim.Native.Nat.{ℕ, zero, suc, _+_, _-_, _*_, _≤_, _<_}
 use native.Mathlib.Omega.{arith}
-use lib.ListN.{length, length-append}
+use lib.ListN.{length}
+use borrow.Author.Tests.{le-leb, lt-leb}
 use Rattle.automata.specs.Lists.{and, all, All}
 use Rattle.automata.specs.Records.{writeAll}
 use Rattle.automata.specs.Table.{weightFits}
@@ -23,7 +24,6 @@ use Rattle.alignment.specs.Vertices.{vertexAt}
 use Rattle.alignment.specs.Moves.{moveAt}
 use Rattle.product.specs.Sums.{vertexSum, stateFits, moveSum, moveRecord, verticesAt, movesAt, VertexFits, MoveFits}
 use Rattle.product.specs.Results.{statesFit, stateRecords, Vertices, movesFit, moveRecords, Moves}
-use Rattle.product.proofs.CrossLaws.{leb-true, leb-false}
 use Rattle.product.proofs.RecordLaws.{length-record}
 
 -- ---- bytes written one after the other
@@ -162,11 +162,11 @@ module _ (s1 a1 s2 a2 u : List ℕ) where
     -- a weight out of range, and one in range
     pub moves-stop : (q : ℕ) → q ≡ moveSum s1 a1 s2 a2 u m → 999999999 < q → false ≡ movesFit s1 a1 s2 a2 u (movesAt at left w)
     unfolding movesFit
-    moves-stop q f h = rw (moves-cons at left rest w m s e, ← f, leb-false q 999999999 h)
+    moves-stop q f h = rw (moves-cons at left rest w m s e, ← f, lt-leb q 999999999 h)
 
     pub moves-next : (q : ℕ) → q ≡ moveSum s1 a1 s2 a2 u m → q ≤ 999999999 → movesFit s1 a1 s2 a2 u (movesAt (at + 16) rest w) ≡ movesFit s1 a1 s2 a2 u (movesAt at left w)
     unfolding movesFit
-    moves-next q f h = rw (moves-cons at left rest w m s e, ← f, leb-true q 999999999 h)
+    moves-next q f h = rw (moves-cons at left rest w m s e, ← f, le-leb q 999999999 h)
 
     -- the next arc written
     pub moves-written : (n k to : ℕ) (out out2 : List ℕ) → n + k ≤ 8 → Moves s1 a1 s2 a2 u (movesAt at left w) → to + 80 * left ≤ length out

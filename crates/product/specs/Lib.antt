@@ -3,3 +3,4 @@ pub mod Sums
 pub mod Results
 pub mod Settled
 pub mod Multiplied
+pub mod Prepared

@@ -1,6 +1,7 @@
 // The aligned product as it is called.
 pub mod finish;
 pub mod judge;
+pub mod prepare;
 pub mod record;
 pub mod result;
 pub mod sum;
