@@ -13,6 +13,7 @@ use Rattle.automata.specs.System.{system, outAt, finalAt}
 use Rattle.automata.specs.Search.{Search, noteAll}
 use Rattle.automata.specs.Product as automata
 use Rattle.automata.specs.Product.{sameVertex, allBoth, allAfterFirst, allAfterSecond, productSystem}
+use Rattle.memory.specs.declared.answer.Counts.{Counts}
 use Rattle.memory.specs.Records.{arcAs, arcAt}
 use Rattle.alignment.specs.declared.vertex.Vertex.{Vertex}
 use Rattle.alignment.specs.declared.plan.Plan.{Plan}
@@ -149,9 +150,10 @@ pub record PassesBoth (p : Plan) (h : Head) (c : Vertex) (a1 a2 : List ℕ) (v :
 
 -- ---- one side after the other side's end
 
--- e tells whether a path of A may end in the place with number x
-abbrev pub TellsEnd : ℕ → Bool → Automaton ℕ → Type 0
-TellsEnd x e A = (y : Option ℕ) → x ≡ placeNumber y → PlaceBelow (length (A .states)) y → e ≡ isSome (finalAt ℕ-sum (system A) y)
+-- e tells whether a path may end in the place with number x of the automaton whose states stand in these bytes
+abbrev pub TellsEnd : Counts → List ℕ → ℕ → Bool → Type 0
+TellsEnd counts bytes x e = (A : Automaton ℕ) (y : Option ℕ) → ReadsStates counts bytes A → x ≡ placeNumber y → PlaceBelow (length (A .states)) y
+    → e ≡ isSome (finalAt ℕ-sum (system A) y)
 
 -- the second side's arcs were looked at, where the first side's path may end
 pub record EndsFirst (p : Plan) (h : Head) (c : Vertex) (s1 a2 : List ℕ) (v : List ℕ) (r : Head) (w : List ℕ) : Type 0 where

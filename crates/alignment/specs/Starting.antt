@@ -13,7 +13,7 @@ use Rattle.alignment.specs.declared.vertex.Vertex.{Vertex}
 use Rattle.alignment.specs.declared.plan.Plan.{Plan}
 use Rattle.alignment.specs.declared.head.Head.{Head}
 use Rattle.alignment.specs.Vertices.{vertexOf, VertexBelow}
-use Rattle.alignment.specs.Reading.{ReadsStates}
+use Rattle.alignment.specs.Reading.{StatesLent, ReadsStates}
 use Rattle.alignment.specs.Searching.{VertexSearch, Comes}
 
 -- the search with further states of the product, and no move more
@@ -65,6 +65,14 @@ pub record StartsBoth (p : Plan) (h : Head) (s1 : List ℕ) (q : ℕ) (s2 : List
 -- all pairs of initial states
 abbrev pub startsOf : Automaton ℕ → Automaton ℕ → List automata.Vertex
 startsOf A B = allPairs (initialsFrom zero (A .states)) (initialsFrom zero (B .states))
+
+-- the search may begin
+pub record Beginnable (p : Plan) (s1 s2 : List ℕ) (size : ℕ) : Type 0 where
+  pub vertices-fit : 4 * p .states ≤ p .base
+  pub moves-fit : p .base + 16 * p .arcs ≤ size
+  pub few-states : p .states ≤ 1024
+  pub first-lent : StatesLent (p .first) s1
+  pub second-lent : StatesLent (p .second) s2
 
 -- the search has begun: no state is taken up
 pub record Begun (p : Plan) (s1 s2 : List ℕ) (v : List ℕ) (r : Head) (w : List ℕ) : Type 0 where
