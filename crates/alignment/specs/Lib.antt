@@ -2,4 +2,7 @@
 pub mod Vertices
 pub mod Moves
 pub mod Plans
+pub mod Reading
+pub mod Searching
+pub mod Starting
 pub mod Exploring
