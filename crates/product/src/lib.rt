@@ -1,4 +1,5 @@
 // The aligned product as it is called.
+pub mod call;
 pub mod finish;
 pub mod judge;
 pub mod prepare;
