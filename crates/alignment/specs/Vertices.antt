@@ -2,11 +2,11 @@
 use mathlib.Core.Path.{_≡_}
 use mathlib.Core.Option.{Option, none, some}
 use mathlib.Core.List.{List, _++_, map}
-use Prim.Native.Nat.{ℕ, _<_}
+use Prim.Native.Nat.{ℕ, _+_, _<_}
 use lib.ListN.{length}
 use Rattle.automata.specs.Product as automata
-use Rattle.memory.specs.Region.{rows}
-use Rattle.memory.specs.Endian.{toLe}
+use Rattle.memory.specs.Region.{part, rows}
+use Rattle.memory.specs.Endian.{le, toLe}
 use Rattle.alignment.specs.declared.vertex.Vertex.{Vertex}
 
 -- the number that stands for a place: 65535 where the path has ended
@@ -38,3 +38,7 @@ PlaceBelow n (some q) = q < n
 -- a state of the product of automata with n and with m states
 abbrev pub VertexBelow : ℕ → ℕ → automata.Vertex → Type 0
 VertexBelow n m c = PlaceBelow n (c .0) × PlaceBelow m (c .1)
+
+-- the state by value whose row stands at place at
+abbrev pub vertexAt : ℕ → List ℕ → Vertex
+vertexAt at w = record { first = le (part at 2 w); second = le (part (at + 2) 2 w) }

@@ -2,4 +2,7 @@
 pub mod Answers
 pub mod Fillable
 pub mod Distances
+pub mod Spots
 pub mod Moves
+pub mod Sweeps
+pub mod Ends

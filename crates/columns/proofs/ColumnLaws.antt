@@ -1,5 +1,5 @@
 -- A table whose tapes are chosen: its records are those of the table, each with the labels of the chosen tapes.
-use Prim.Native.Nat.{ℕ, zero, suc, _+_, _-_, _*_, _≤_, _<_, min}
+use Prim.Native.Nat.{ℕ, _+_, _-_, _*_, _≤_, min}
 use mathlib.Core.Path.{_≡_, refl, sym, ap, ap₂, subst, _∙_}
 use mathlib.Core.List.{List, [], _∷_, _++_, map}
 use native.Mathlib.Omega.{arith}
@@ -9,7 +9,7 @@ use Rattle.automata.specs.Lists.{All}
 use Rattle.automata.specs.Records.{chunks, writeAll}
 use Rattle.automata.specs.Automaton.{Arc, Automaton}
 use Rattle.automata.specs.Table.{Label, WellFormed, WellFormedArc}
-use Rattle.automata.specs.Memory.{Memory, Holds, memoryOf, zeros, labelRecord, arcRecord, encodeStates, encodeArcs}
+use Rattle.automata.specs.Memory.{Memory, Holds, zeros, labelRecord, arcRecord, encodeStates, encodeArcs}
 use Rattle.automata.specs.Tapes.{chosen}
 use Rattle.automata.specs.Projection.{relabelledArc, projected}
 use Rattle.automata.specs.Answer.{ok}

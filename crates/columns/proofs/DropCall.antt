@@ -1,5 +1,5 @@
 -- The call that drops tapes, by its steps.
-use Prim.Native.Nat.{ℕ, _+_, _*_, _/_, _^_, _≤_, _<_}
+use Prim.Native.Nat.{ℕ, _*_, _/_, _^_, _≤_, _<_}
 use mathlib.Core.Path.{_≡_, refl, sym, ap, ap₂, _∙_}
 use mathlib.Core.Bool.{Bool, true, false, not}
 use mathlib.Core.List.{List}
@@ -15,10 +15,9 @@ use Rattle.automata.specs.Lists.{and}
 use Rattle.automata.specs.Answer.{_>>=_, Answer, ok, refused, forget}
 use Rattle.automata.specs.Space.{Space}
 use Rattle.automata.specs.Automaton.{Automaton}
-use Rattle.automata.specs.Table.{WellFormed}
 use Rattle.automata.specs.Memory.{Memory, Sound, memoryOf, decodeTable, tableOf, encodeArcs}
 use Rattle.automata.specs.Tapes.{dropAt}
-use Rattle.automata.specs.Projection.{droppable, relabelledArc, projected, without, dropTapes}
+use Rattle.automata.specs.Projection.{droppable, relabelledArc, without, dropTapes}
 use Rattle.automata.specs.Calls.Drop.{inMask, dropAnswer, dropOutcome}
 use Rattle.automata.specs.Calls.JoinSteps.{dropStep}
 use Rattle.automata.specs.Calls.Outcome.{TableCounts, spaceOf, put, madeOf, slicesOf}
@@ -36,7 +35,6 @@ use Rattle.memory.specs.declared.answer.Judged.{Judged}
 use Rattle.memory.specs.declared.answer.Judged.the-variants.{Fine, Refused}
 use Rattle.memory.proofs.AnswerLaws.{forget-ok}
 use Rattle.memory.proofs.TableLaws.{judged-sound}
-use Rattle.memory.proofs.SoundLaws.{few-tapes}
 use Rattle.columns.specs.Choice.{tapesLeft, Droppable}
 use Rattle.columns.specs.Results.{lentSpace, fitting, Copied}
 use Rattle.columns.proofs.ChoiceLaws.{left-few}

@@ -10,11 +10,11 @@ use lib.Dec.{ltb}
 use lib.Count.{ones}
 use lib.ListN.{length, getD, take, drop, length-map, length-append}
 use lib.Seq.{take-at, drop-drop, getD-take, getD-drop}
-use Rattle.automata.specs.Lists.{if, and, All}
+use Rattle.automata.specs.Lists.{if, All}
 use Rattle.automata.specs.Answer.{_>>=_, Answer, ok}
 use Rattle.automata.specs.Automaton.{Arc, Automaton, Tuple}
 use Rattle.automata.specs.Table.{WellFormed, WellFormedArc}
-use Rattle.automata.specs.Memory.{Memory, Sound, decodeTable, tableOf}
+use Rattle.automata.specs.Memory.{Memory, tableOf}
 use Rattle.automata.specs.Tapes.{dropAt, placeAfter, chosen, emptyTuple}
 use Rattle.automata.specs.Projection.{droppable, relabelledArc, projected, without}
 use Rattle.automata.specs.Calls.Drop.{inMask}
@@ -25,7 +25,7 @@ use Rattle.automata.proofs.TestFacts.{and-true, ltb-true}
 use Rattle.automata.proofs.TapeFacts.{length-dropAt, length-blank}
 use Rattle.automata.proofs.MaskFacts.{mask-left, droppable-mask}
 use Rattle.automata.proofs.SoundFacts.{sound-decoded, sound-well-formed, sound-holds}
-use Rattle.memory.specs.Region.{part, splice}
+use Rattle.memory.specs.Region.{splice}
 use Rattle.memory.proofs.Laws.{splice-front}
 use Rattle.memory.proofs.SoundLaws.{few-tapes}
 use Rattle.columns.specs.Choice.{Choice, tapesLeft, Droppable}

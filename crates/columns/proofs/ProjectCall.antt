@@ -1,15 +1,15 @@
 -- The call that chooses tapes, by its steps.
-use Prim.Native.Nat.{ℕ, zero, suc, _+_, _*_, _/_, _≤_, _<_}
-use mathlib.Core.Path.{_≡_, refl, sym, ap, ap₂, subst, _∙_}
+use Prim.Native.Nat.{ℕ, zero, _*_, _/_, _≤_, _<_}
+use mathlib.Core.Path.{_≡_, refl, sym, ap, ap₂, _∙_}
 use mathlib.Core.Bool.{Bool, true, false, not}
 use mathlib.Core.List.{List, [], _∷_}
 use native.Mathlib.Omega.{arith}
 use borrow.Author.Tests.{not-true, not-false, le-leb, lt-leb, lt-ltb, le-ltb}
 use lib.Dec.{T, leb, leb→le, ltb}
-use lib.ListN.{length, getD, take, length-map}
+use lib.ListN.{length, take, length-map}
 use lib.Seq.{take-all}
 use Rattle.automata.specs.Refusal as refusal
-use Rattle.automata.specs.Lists.{and, all, All}
+use Rattle.automata.specs.Lists.{and, all}
 use Rattle.automata.specs.Answer.{_>>=_, Answer, ok, refused, forget}
 use Rattle.automata.specs.Space.{Space}
 use Rattle.automata.specs.Automaton.{Automaton}

@@ -1,10 +1,10 @@
 -- Arcs whose states have higher numbers.
-use Prim.Native.Nat.{ℕ, zero, suc, _+_, _-_, _*_, _≤_, _<_}
+use Prim.Native.Nat.{ℕ, suc, _+_, _*_, _≤_, _<_}
 use mathlib.Core.Path.{_≡_, refl, sym, ap, ap₂, subst, _∙_}
 use mathlib.Core.List.{List, [], _∷_, _++_, map, append-assoc}
 use native.Mathlib.Nat.{add-zero}
 use native.Mathlib.Omega.{arith}
-use lib.ListN.{length, take, drop, length-append, length-drop}
+use lib.ListN.{length, drop, length-append, length-drop}
 use lib.Seq.{take-all, drop-drop}
 use Rattle.automata.specs.Lists.{All}
 use Rattle.automata.specs.Records.{chunks, writeAll}
@@ -15,7 +15,7 @@ use Rattle.automata.specs.Union.{shifted}
 use Rattle.automata.proofs.MemoryLaws.{arcRecord-lawful, arcRecord-width}
 use Rattle.memory.specs.Region.{part, splice}
 use Rattle.memory.specs.Endian.{le, toLe}
-use Rattle.memory.proofs.Laws.{length-part, part-part, part-splice-after, length-splice, drop-splice, splice-append, splice-self, splice-behind}
+use Rattle.memory.proofs.Laws.{length-part, part-part, part-splice-after, length-splice, drop-splice, splice-self, splice-behind}
 use Rattle.memory.proofs.EndianLaws.{length-toLe, le-toLe}
 use Rattle.columns.specs.Rewritten.{raisedArc}
 use Rattle.columns.specs.Results.{Raisable, AllRaisable}

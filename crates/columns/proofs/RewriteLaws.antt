@@ -6,10 +6,9 @@ use native.Mathlib.Nat.{add-zero}
 use native.Mathlib.Omega.{arith}
 use lib.ListN.{length, getD, take, drop, length-append, length-take, length-drop}
 use lib.Seq.{drop-drop}
-use Rattle.automata.specs.Records.{chunks, writeAll}
 use Rattle.automata.specs.Memory.{zeros}
 use Rattle.memory.specs.Region.{part, splice}
-use Rattle.memory.proofs.Laws.{length-part, part-suc, part-zero, part-part, length-splice, drop-splice, splice-none, splice-append, splice-self}
+use Rattle.memory.proofs.Laws.{length-part, part-suc, part-part, length-splice, drop-splice, splice-none, splice-append, splice-self}
 use Rattle.columns.specs.Rewritten.{rewritten, chosenLabels, chosenArc}
 
 -- ---- records in a loop

@@ -1,8 +1,8 @@
 -- The space of a result: what fits it, and the records of a table copied into it.
-use Prim.Native.Nat.{ℕ, _+_, _-_, _*_, _/_, _≤_, _<_, min}
-use mathlib.Core.Path.{_≡_, refl, sym, ap, ap₂, _∙_}
+use Prim.Native.Nat.{ℕ, _-_, _*_, _≤_, _<_}
+use mathlib.Core.Path.{_≡_, refl, sym, ap, _∙_}
 use mathlib.Core.Bool.{Bool, true, false}
-use mathlib.Core.List.{List, _++_}
+use mathlib.Core.List.{List}
 use native.Mathlib.Omega.{arith}
 use borrow.Author.Tests.{le-leb, lt-leb}
 use lib.Dec.{leb}
@@ -23,10 +23,10 @@ use Rattle.memory.specs.Region.{splice}
 use Rattle.memory.specs.Answers.{judgedAs, refusalNumber}
 use Rattle.memory.specs.declared.answer.Refusal.{Refusal}
 use Rattle.memory.specs.declared.answer.Judged.{Judged}
-use Rattle.memory.specs.declared.answer.Judged.the-variants.{Fine, Refused}
+use Rattle.memory.specs.declared.answer.Judged.the-variants.{Refused}
 use Rattle.memory.proofs.SoundLaws.{states-lent, arcs-lent}
 use Rattle.memory.proofs.Laws.{splice-front, splice-twice}
-use Rattle.columns.specs.Results.{lentSpace, fitting, Copies, Copied}
+use Rattle.columns.specs.Results.{fitting, Copies, Copied}
 
 -- ---- judgements
 

@@ -1,9 +1,8 @@
 -- The union of two tables, by its steps.
-use Prim.Native.Nat.{ℕ, zero, suc, _+_, _*_, _/_, _≤_, _<_}
-use mathlib.Core.Path.{_≡_, refl, sym, ap, ap₂, subst, _∙_}
-use mathlib.Core.Bool.{Bool, true, false}
+use Prim.Native.Nat.{ℕ, _+_, _*_, _/_, _≤_}
+use mathlib.Core.Path.{_≡_, sym, ap, ap₂, subst, _∙_}
+use mathlib.Core.Bool.{true, false}
 use mathlib.Core.List.{List, _++_, map}
-use native.Mathlib.Nat.{zero-add}
 use native.Mathlib.Omega.{arith}
 use borrow.Author.Tests.{eq-eqb, ne-eqb}
 use lib.Dec.{eqb, eqb→eq}
@@ -13,14 +12,14 @@ use Rattle.automata.specs.Refusal as refusal
 use Rattle.automata.specs.Lists.{All}
 use Rattle.automata.specs.Records.{chunks, writeAll}
 use Rattle.automata.specs.Answer.{_>>=_, Answer, ok, refused, forget}
-use Rattle.automata.specs.Space.{Space}
+use Rattle.automata.specs.Space.{Space, stateCap, arcCap}
 use Rattle.automata.specs.Automaton.{Automaton}
-use Rattle.automata.specs.Table.{WellFormed, WellFormedArc}
+use Rattle.automata.specs.Table.{WellFormed}
 use Rattle.automata.specs.Memory.{Memory, Sound, Holds, memoryOf, decodeTable, tableOf, arcRecord, stateRecord, encodeStates, encodeArcs}
-use Rattle.automata.specs.Union.{shifted, appended, union}
+use Rattle.automata.specs.Union.{fitted, shifted, appended, union}
 use Rattle.automata.specs.Calls.Union.{unionAnswer, unionOutcome}
-use Rattle.automata.specs.Calls.Outcome.{TableCounts, spaceOf, overwrite, countsOf, put, madeOf, slicesOf}
-use Rattle.automata.proofs.RecordFacts.{Sized, writeAll-append, chunks-writeAll}
+use Rattle.automata.specs.Calls.Outcome.{TableCounts, spaceOf, overwrite, put, madeOf, slicesOf}
+use Rattle.automata.proofs.RecordFacts.{writeAll-append}
 use Rattle.automata.proofs.AnswerFacts.{bind-ok, judge-ok}
 use Rattle.automata.proofs.CallTests.{union-tape, union-passed}
 use Rattle.automata.proofs.CallFacts.{put-refused, put-ok}
@@ -34,7 +33,7 @@ use Rattle.memory.specs.declared.answer.Judged.the-variants.{Fine, Refused}
 use Rattle.memory.proofs.Laws.{length-splice, splice-front, splice-twice, splice-behind}
 use Rattle.memory.proofs.AnswerLaws.{forget-ok}
 use Rattle.memory.proofs.TableLaws.{judged-sound}
-use Rattle.memory.proofs.SoundLaws.{few-tapes, few-states, few-arcs, states-lent, arcs-lent}
+use Rattle.memory.proofs.SoundLaws.{few-states, few-arcs, states-lent, arcs-lent}
 use Rattle.columns.specs.Rewritten.{rewritten, raisedArc}
 use Rattle.columns.specs.Results.{lentSpace, fitting, Copies, Copied, Raisable, AllRaisable, Appends}
 use Rattle.columns.proofs.ColumnLaws.{arcs-cut}
@@ -232,6 +231,50 @@ module _ (one two : Memory) (space : Space) (j : Judged) (e : judgedAs j ≡ for
           ap₂ (λ (i k : ℕ). i + k) (s .arcs) (t .arcs ∙ sym (length-map (Q .arcs) (shifted (length (P .states))))) ∙ sym (length-append (P .arcs) (map (shifted (length (P .states))) (Q .arcs))) in
           z ∙ ap₂ (λ (i k : ℕ). fitting i k space) x y ∙ fitted-counts space (appended P Q) ∙ sym (ap forget (two-is ∙ union-passed space P Q d))
 
+-- ---- what a judgement tells
+
+-- two tables that were read, with equal tape counts and a union that fits
+union-parts : (one two : Memory) (states arcs : ℕ) (P Q U : Automaton ℕ) → decodeTable one ≡ ok P → decodeTable two ≡ ok Q → P .tapes ≡ Q .tapes
+    → length (appended P Q .states) ≤ stateCap (lentSpace (states / 10) (arcs / 80)) → length (appended P Q .arcs) ≤ arcCap (lentSpace (states / 10) (arcs / 80)) → appended P Q ≡ U
+    → Appends one two states arcs × (U ≡ appended (tableOf one) (tableOf two))
+union-parts one two states arcs P Q U d e t f g u =
+    let s = sound one P d in
+    let r = sound two Q e in
+    let p : tableOf one ≡ P = tableOf-is one P d in
+    let q : tableOf two ≡ Q = tableOf-is two Q e in
+    let k = sound-holds one s in
+    let l = sound-holds two r in
+    let n₁ : one .states ≡ length (P .states) = k .states ∙ ap (λ (R : Automaton ℕ). length (R .states)) p in
+    let n₂ : two .states ≡ length (Q .states) = l .states ∙ ap (λ (R : Automaton ℕ). length (R .states)) q in
+    let i₁ : one .arcs ≡ length (P .arcs) = k .arcs ∙ ap (λ (R : Automaton ℕ). length (R .arcs)) p in
+    let i₂ : two .arcs ≡ length (Q .arcs) = l .arcs ∙ ap (λ (R : Automaton ℕ). length (R .arcs)) q in
+    let x = length-append (P .states) (Q .states) in
+    let y = length-append (P .arcs) (map (shifted (length (P .states))) (Q .arcs)) in
+    let z = length-map (Q .arcs) (shifted (length (P .states))) in (
+      record {
+        first-sound = s;
+        second-sound = r;
+        equal-tapes = k .tapes ∙ ap (λ (R : Automaton ℕ). R .tapes) p ∙ t ∙ sym (l .tapes ∙ ap (λ (R : Automaton ℕ). R .tapes) q);
+        few-states = omega (arith, n₁, n₂, x, f);
+        few-arcs = omega (arith, i₁, i₂, y, z, g);
+        states-fit = omega (arith, n₁, n₂, x, f);
+        arcs-fit = omega (arith, i₁, i₂, y, z, g);
+      },
+      sym u ∙ ap₂ appended (sym p) (sym q),
+    )
+
+-- what an answer tells
+union-answered : (one two : Memory) (states arcs : ℕ) (U : Automaton ℕ) → unionAnswer one two (lentSpace (states / 10) (arcs / 80)) ≡ ok U
+    → Appends one two states arcs × (U ≡ appended (tableOf one) (tableOf two))
+unfolding unionAnswer union
+union-answered one two states arcs U a =
+    let space = lentSpace (states / 10) (arcs / 80) in
+    let (P, d, a₁) = bind-ok (decodeTable one) (λ P. decodeTable two >>= λ Q. union space P Q) U a in
+    let (Q, e, a₂) = bind-ok (decodeTable two) (λ Q. union space P Q) U a₁ in
+    let (t, a₃) = judge-ok (eqb (P .tapes) (Q .tapes)) refusal.tape (fitted space (appended P Q)) U a₂ in
+    let (f, g, u) = fitted-ok space (appended P Q) U a₃ in
+    union-parts one two states arcs P Q U d e (eqb→eq (P .tapes) (Q .tapes) t) f g u
+
 -- ---- the whole call
 
 module _ (one two : Memory) (oldStates oldArcs : List ℕ) (j : Judged)
@@ -248,40 +291,10 @@ module _ (one two : Memory) (oldStates oldArcs : List ℕ) (j : Judged)
     -- what the judgement told
     union-told : Appends one two (length oldStates) (length oldArcs)
         × (unionAnswer one two (lentSpace (length oldStates / 10) (length oldArcs / 80)) ≡ ok (appended (tableOf one) (tableOf two)))
-    unfolding unionAnswer union
     union-told =
-        let space = lentSpace (length oldStates / 10) (length oldArcs / 80) in
-        let a = forget-ok (unionAnswer one two space) (sym e ∙ ap judgedAs h) in
-        let p = bind-ok (decodeTable one) (λ P. decodeTable two >>= λ Q. union space P Q) (a .0) (a .1) in
-        let P = p .0 in
-        let o = bind-ok (decodeTable two) (λ Q. union space P Q) (a .0) (p .2) in
-        let Q = o .0 in
-        let q = judge-ok (eqb (P .tapes) (Q .tapes)) _ _ (a .0) (o .2) in
-        let f = fitted-ok space (appended P Q) (a .0) (q .1) in
-        let s = sound one P (p .1) in
-        let t = sound two Q (o .1) in
-        let u : tableOf one ≡ P = tableOf-is one P (p .1) in
-        let v : tableOf two ≡ Q = tableOf-is two Q (o .1) in
-        let k = sound-holds one s in
-        let l = sound-holds two t in
-        let n₁ : one .states ≡ length (P .states) = k .states ∙ ap (λ (R : Automaton ℕ). length (R .states)) u in
-        let n₂ : two .states ≡ length (Q .states) = l .states ∙ ap (λ (R : Automaton ℕ). length (R .states)) v in
-        let i₁ : one .arcs ≡ length (P .arcs) = k .arcs ∙ ap (λ (R : Automaton ℕ). length (R .arcs)) u in
-        let i₂ : two .arcs ≡ length (Q .arcs) = l .arcs ∙ ap (λ (R : Automaton ℕ). length (R .arcs)) v in
-        let x = length-append (P .states) (Q .states) in
-        let y = length-append (P .arcs) (map (shifted (length (P .states))) (Q .arcs)) in
-        let z = length-map (Q .arcs) (shifted (length (P .states))) in (
-          record {
-            first-sound = s;
-            second-sound = t;
-            equal-tapes = k .tapes ∙ ap (λ (R : Automaton ℕ). R .tapes) u ∙ eqb→eq (P .tapes) (Q .tapes) (q .0) ∙ sym (l .tapes ∙ ap (λ (R : Automaton ℕ). R .tapes) v);
-            few-states = omega (arith, n₁, n₂, x, f .0);
-            few-arcs = omega (arith, i₁, i₂, y, z, f .1);
-            states-fit = omega (arith, n₁, n₂, x, f .0);
-            arcs-fit = omega (arith, i₁, i₂, y, z, f .1);
-          },
-          a .1 ∙ ap ok (sym (f .2) ∙ ap₂ appended (sym u) (sym v)),
-        )
+        let (U, a) = forget-ok (unionAnswer one two (lentSpace (length oldStates / 10) (length oldArcs / 80))) (sym e ∙ ap judgedAs h) in
+        let t = union-answered one two (length oldStates) (length oldArcs) U a in
+        (t .0, a ∙ ap ok (t .1))
 
     -- what the copies ask
     pub union-ready : Appends one two (length oldStates) (length oldArcs)

@@ -4,7 +4,7 @@ use mathlib.Core.Path.{_≡_}
 use mathlib.Core.Bool.{true}
 use mathlib.Core.List.{List}
 use lib.Dec.{leb}
-use lib.ListN.{length, take, drop}
+use lib.ListN.{length, take}
 use Rattle.automata.specs.Refusal as refusal
 use Rattle.automata.specs.Answer.{Answer, ok, judge}
 use Rattle.automata.specs.Space.{Space, stateCap, arcCap}

@@ -5,7 +5,6 @@ use native.Mathlib.Omega.{arith}
 use mathlib.Core.Path.{refl, _∙_}
 use Rattle.memory.proofs.SoundLaws.{few-states, few-arcs}
 use Rattle.columns.proofs.UnionCall.{first-copies, second-copies, raise-ready, union-made}
-use borrow.Author.Needs.{needs}
 use Rattle.columns.proofs.union.append.Statement.{statement}
 use Rattle.columns.proofs.union.append.Tie as tie
 use Rattle.columns.proofs.union.append.Reads as reads

@@ -1,0 +1,24 @@
+-- `cells::spot::spot_at` meets its contract. Assumes nothing.
+use Rattle.cells.proofs.SpanLaws.{spot-is}
+use borrow.Author.Needs.{needs}
+use Rattle.cells.proofs.spot.spot_at.Statement.{statement}
+use Rattle.cells.proofs.spot.spot_at.Tie as tie
+use Rattle.cells.proofs.spot.spot_at.Reads as reads
+use Rattle.cells.proofs.spot.spot_at.Lts as lts
+use Rattle.cells.proofs.spot.lengths_at.Reads as lengths-at-reads
+use Rattle.cells.proofs.spot.starts_at.Reads as starts-at-reads
+
+-- src/spot.rt:115:9
+starts-at-requires : tie.Need-starts-at-requires
+starts-at-requires c κs = search needs
+
+-- src/spot.rt:116:9
+lengths-at-requires : tie.Need-lengths-at-requires
+lengths-at-requires c κs = search needs
+
+-- src/spot.rt:111:1
+returns : tie.Need-returns
+returns c = spot-is _ _ _ _ _ (c .before .before .starts-at .ensures) (c .before .lengths-at .ensures)
+
+pub spot-at-spec : {M : Type 1} → statement M
+spot-at-spec = tie.close (tie.spec starts-at-requires lengths-at-requires returns)

@@ -1,0 +1,45 @@
+// The least weight of a tuple: combinations of positions are worked off from the last to the first, so that an arc with a symbol leads to one
+// that is done; the least over the initial states at the first is the answer.
+use crate::answer::Weight64;
+use crate::cell::clear_cells;
+use crate::ends::least_from;
+use crate::ends::start_states;
+use crate::relax::settle;
+use crate::spot::spans_of;
+use crate::spot::spot_at;
+use memory::answer::Counts;
+use tuple::Strings;
+ghost use mathlib.Core.Path.{_≡_};
+ghost use lib.ListN.{length};
+ghost use Rattle.automata.specs.Automaton.{Tuple};
+ghost use Rattle.automata.specs.OrderedSum.{ℕ-sum};
+ghost use Rattle.automata.specs.Lookup.{lookup};
+ghost use Rattle.automata.specs.Memory.{tableOf};
+ghost use Rattle.memory.specs.Answers.{lent};
+ghost use Rattle.tuple.specs.Strings.{Stands};
+ghost use Rattle.cells.specs.Answers.{optionAs};
+ghost use Rattle.cells.specs.Fillable.{Fillable};
+
+// The least weight of the strings in the table, or none.
+pub fn least_weight(
+    counts: Counts,
+    states: &[u8],
+    arcs: &[u8],
+    text: &[u8],
+    strings: Strings,
+    work: &mut [u8],
+) -> Weight64
+    requires { ⌜ Fillable (lent counts (now states) (now arcs)) (now text) strings (length (now work)) ⌝ }
+    ensures { λ r. ⌜ ((t : Tuple) → Stands (now (text .entry)) t strings → length t ≡ counts .tapes → optionAs r ≡ lookup ℕ-sum (tableOf (lent counts (now (states .entry)) (now (arcs .entry)))) t) ⌝ }
+{
+    let spans = spans_of(strings);
+    clear_cells(work);
+    start_states(states, counts.states, spans.all, work);
+    let mut left = spans.all;
+    while 0 < left {
+        left -= 1;
+        let spot = spot_at(strings, spans, left);
+        settle(counts, arcs, text, spot, work);
+    }
+    least_from(states, counts.states, spans.all, work)
+}

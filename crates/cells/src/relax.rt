@@ -1,0 +1,76 @@
+// Relaxation at one combination of positions: each arc whose labels continue the strings may lower the weight of its source.
+use crate::cell::cell_number;
+use crate::cell::lower;
+use crate::cell::weight_at;
+use crate::moves::Step;
+use crate::moves::moved_on;
+use crate::spot::Spot;
+use memory::answer::Counts;
+use memory::bytes::get16;
+use memory::bytes::get32;
+ghost use Prim.Native.Nat.{_<_, _*_};
+ghost use mathlib.Core.Path.{_≡_};
+ghost use Rattle.automata.specs.Lists.{or};
+ghost use Rattle.cells.specs.Sweeps.{Passable, Spaced, Ready, Visits, Sweeps, Settles};
+ghost use Rattle.cells.specs.Moves.{Laid};
+ghost use lib.ListN.{length};
+
+// The arc whose record stands at `at`. Tells whether the weight of its source became less.
+fn relax_arc(
+    counts: Counts,
+    arcs: &[u8],
+    at: usize,
+    text: &[u8],
+    spot: Spot,
+    work: &mut [u8],
+) -> bool
+    requires { ⌜ Laid (counts .tapes) (length (now text)) spot × Passable (counts .tapes) (counts .states) at (now arcs) (now text) spot × Spaced (counts .states) spot (now work) ⌝ }
+    ensures { λ r. ⌜ Visits (counts .tapes) at (now (arcs .entry)) (now (text .entry)) spot r (now (work .exit)) (now (work .entry)) ⌝ }
+{
+    let step = moved_on(arcs, at + 8, counts.tapes, text, spot);
+    let Step::Moved(by) = step else {
+        return false;
+    };
+    let source = cell_number(get16(arcs, at) as usize, spot.all, spot.number);
+    let target = cell_number(get16(arcs, at + 2) as usize, spot.all, spot.number + by);
+    let through = get32(arcs, at + 4) as u64 + weight_at(work, target);
+    lower(work, source, through)
+}
+
+// Whether either is so.
+fn either(a: bool, b: bool) -> bool
+    ensures { λ r. ⌜ r ≡ or a b ⌝ }
+{
+    if a {
+        return true;
+    }
+    b
+}
+
+// A round over all arcs. Tells whether some weight became less.
+fn relax_arcs(counts: Counts, arcs: &[u8], text: &[u8], spot: Spot, work: &mut [u8]) -> bool
+    requires { ⌜ Ready counts (now arcs) (now text) spot × Spaced (counts .states) spot (now work) ⌝ }
+    ensures { λ r. ⌜ Sweeps counts (now (arcs .entry)) (now (text .entry)) spot r (now (work .exit)) (now (work .entry)) ⌝ }
+{
+    let mut changed = false;
+    let mut at: usize = 0;
+    let mut left = counts.arcs;
+    while 0 < left {
+        let lowered = relax_arc(counts, arcs, at, text, spot, work);
+        changed = either(changed, lowered);
+        at += 80;
+        left -= 1;
+    }
+    changed
+}
+
+// Rounds until one changes nothing.
+pub fn settle(counts: Counts, arcs: &[u8], text: &[u8], spot: Spot, work: &mut [u8])
+    requires { ⌜ Ready counts (now arcs) (now text) spot × Spaced (counts .states) spot (now work) ⌝ }
+    ensures { λ _. ⌜ Settles counts (now (arcs .entry)) (now (text .entry)) spot (now (work .exit)) (now (work .entry)) ⌝ }
+{
+    let mut again = true;
+    while again {
+        again = relax_arcs(counts, arcs, text, spot, work);
+    }
+}

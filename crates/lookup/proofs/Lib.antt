@@ -1,0 +1,2 @@
+-- Laws of a lookup as it is called.
+pub mod CallLaws

@@ -1,0 +1,2 @@
+-- What the contracts of a lookup as it is called cite.
+pub mod Answers

@@ -1,0 +1,91 @@
+// The call: the table, the tuple and the work space judged in this order, the least weight, and work space cleared.
+use cells::answer::Weight64;
+use cells::fill::least_weight;
+use memory::answer::Counts;
+use memory::answer::Judged;
+use memory::answer::Refusal;
+use memory::bytes::zero;
+use memory::judge::judge;
+use tuple::Strings;
+use tuple::judge::judge_tuple;
+use tuple::size::combinations;
+ghost use mathlib.Core.Path.{_≡_};
+ghost use Prim.Native.Nat.{_*_, _≤_};
+ghost use Rattle.automata.specs.Answer.{ok};
+ghost use Rattle.automata.specs.Calls.Outcome.{foundOf};
+ghost use Rattle.automata.specs.Calls.Lookup.{lookupAnswer, lookupOutcome};
+ghost use Rattle.memory.specs.Answers.{judgedAs, lent};
+ghost use Rattle.tuple.specs.Positions.{positions, ShortStrings};
+ghost use Rattle.cells.specs.Answers.{optionAs};
+ghost use Rattle.lookup.specs.Answers.{weightAs, noneAfter};
+
+// What the call answers: the weight, none, or a refusal.
+pub enum WeightAnswer {
+    Weight(u64),
+    Nothing,
+    Refused(Refusal),
+}
+
+// A refusal of the table or of the tuple.
+fn refused_by(judged: Judged) -> WeightAnswer
+    ensures { λ r. ⌜ weightAs r ≡ noneAfter (judgedAs judged) ⌝ }
+{
+    match judged {
+        Judged::Fine => WeightAnswer::Nothing,
+        Judged::Refused(why) => WeightAnswer::Refused(why),
+    }
+}
+
+// The weight found, or none.
+fn answer_of(found: Weight64) -> WeightAnswer
+    ensures { λ r. ⌜ weightAs r ≡ ok (optionAs found) ⌝ }
+{
+    match found {
+        Weight64::Sum(w) => WeightAnswer::Weight(w),
+        Weight64::Nothing => WeightAnswer::Nothing,
+    }
+}
+
+// How many bytes of work space are needed: eight for each state and combination of positions.
+fn work_for(states: usize, strings: Strings) -> usize
+    requires { ⌜ (states ≤ 1024) × ShortStrings strings ⌝ }
+    ensures { λ r. ⌜ r ≡ 8 * (states * positions (strings .lengths)) ⌝ }
+{
+    8 * (states * combinations(strings))
+}
+
+// The answer of the call, with whatever is left in work space.
+fn find(counts: Counts, states: &[u8], arcs: &[u8], tuple: &[u8], work: &mut [u8]) -> WeightAnswer
+    ensures { λ r. ⌜ weightAs r ≡ lookupAnswer (lent counts (now (states .entry)) (now (arcs .entry))) (now (tuple .entry)) (now (work .entry)) ⌝ }
+{
+    let table = judge(counts, states, arcs);
+    let Judged::Fine = table else {
+        return refused_by(table);
+    };
+    let parsed = judge_tuple(tuple, counts.tapes);
+    let judged = parsed.judged;
+    let Judged::Fine = judged else {
+        return refused_by(judged);
+    };
+    let strings = parsed.strings;
+    if work.len() < work_for(counts.states, strings) {
+        return WeightAnswer::Refused(Refusal::Space);
+    }
+    let found = least_weight(counts, states, arcs, tuple, strings, work);
+    answer_of(found)
+}
+
+// The call `lookup`: the least weight of the successful paths of a table that spell a tuple, or none.
+pub fn lookup(
+    counts: Counts,
+    states: &[u8],
+    arcs: &[u8],
+    tuple: &[u8],
+    work: &mut [u8],
+) -> WeightAnswer
+    ensures { λ r. ⌜ foundOf (weightAs r) (now (work .exit)) ≡ lookupOutcome (lent counts (now (states .entry)) (now (arcs .entry))) (now (tuple .entry)) (now (work .entry)) ⌝ }
+{
+    let answer = find(counts, states, arcs, tuple, work);
+    zero(work);
+    answer
+}

@@ -1,0 +1,2 @@
+// The weight of a tuple as it is called.
+pub mod call;
