@@ -1,6 +1,7 @@
 // The calls for C, on numbers and byte slices. A slice is a pointer and a length; the slices of a call must not overlap.
 use crate::word::bytes_word;
 use crate::word::table_word;
+use crate::word::weight_word;
 use memory::answer::Counts;
 ghost use mathlib.Core.Path.{_≡_};
 ghost use Rattle.automata.specs.Memory.{memoryOf};
@@ -8,8 +9,13 @@ ghost use Rattle.automata.specs.Calls.Outcome.{slicesOf};
 ghost use Rattle.automata.specs.Calls.Read.{readOutcome};
 ghost use Rattle.automata.specs.Calls.Write.{writeOutcome};
 ghost use Rattle.automata.specs.Calls.Intersect.{intersectOutcome};
+ghost use Rattle.automata.specs.Calls.Product.{productOutcome};
+ghost use Rattle.automata.specs.Calls.Union.{unionOutcome};
+ghost use Rattle.automata.specs.Calls.Project.{projectOutcome};
+ghost use Rattle.automata.specs.Calls.Drop.{dropOutcome};
+ghost use Rattle.automata.specs.Calls.Lookup.{lookupOutcome};
 ghost use Rattle.pairs.specs.PairBytes.{pairsOf};
-ghost use Rattle.tomchoen.specs.Words.{tellsMade, toldMade, tellsBuilt, toldBuilt, tellsWritten, toldWritten};
+ghost use Rattle.tomchoen.specs.Words.{tellsMade, toldMade, tellsBuilt, toldBuilt, tellsWritten, toldWritten, tellsFound, toldFound};
 
 // Reads the text of a table.
 #[no_mangle]
@@ -73,4 +79,170 @@ pub extern "C" fn tomchoen_build(
         work,
     );
     table_word(answer)
+}
+
+// The aligned product of two tables.
+#[no_mangle]
+pub extern "C" fn tomchoen_product(
+    first_tapes: usize,
+    first_states: usize,
+    first_arcs: usize,
+    first_state_bytes: &[u8],
+    first_arc_bytes: &[u8],
+    second_tapes: usize,
+    second_states: usize,
+    second_arcs: usize,
+    second_state_bytes: &[u8],
+    second_arc_bytes: &[u8],
+    out_states: &mut [u8],
+    out_arcs: &mut [u8],
+    work: &mut [u8],
+) -> u64
+    ensures { λ r. ⌜ tellsBuilt r (now («out_states» .exit)) (now («out_arcs» .exit)) (now (work .exit)) ≡ toldBuilt (productOutcome (memoryOf «first_tapes» «first_states» «first_arcs» (now («first_state_bytes» .entry)) (now («first_arc_bytes» .entry))) (memoryOf «second_tapes» «second_states» «second_arcs» (now («second_state_bytes» .entry)) (now («second_arc_bytes» .entry))) (slicesOf (now («out_states» .entry)) (now («out_arcs» .entry))) (now (work .entry))) ⌝ }
+{
+    let first = Counts {
+        tapes: first_tapes,
+        states: first_states,
+        arcs: first_arcs,
+    };
+    let second = Counts {
+        tapes: second_tapes,
+        states: second_states,
+        arcs: second_arcs,
+    };
+    let answer = product::call::product(
+        first,
+        first_state_bytes,
+        first_arc_bytes,
+        second,
+        second_state_bytes,
+        second_arc_bytes,
+        out_states,
+        out_arcs,
+        work,
+    );
+    table_word(answer)
+}
+
+// Appends the second table to the first.
+#[no_mangle]
+pub extern "C" fn tomchoen_union(
+    first_tapes: usize,
+    first_states: usize,
+    first_arcs: usize,
+    first_state_bytes: &[u8],
+    first_arc_bytes: &[u8],
+    second_tapes: usize,
+    second_states: usize,
+    second_arcs: usize,
+    second_state_bytes: &[u8],
+    second_arc_bytes: &[u8],
+    out_states: &mut [u8],
+    out_arcs: &mut [u8],
+) -> u64
+    ensures { λ r. ⌜ tellsMade r (now («out_states» .exit)) (now («out_arcs» .exit)) ≡ toldMade (unionOutcome (memoryOf «first_tapes» «first_states» «first_arcs» (now («first_state_bytes» .entry)) (now («first_arc_bytes» .entry))) (memoryOf «second_tapes» «second_states» «second_arcs» (now («second_state_bytes» .entry)) (now («second_arc_bytes» .entry))) (slicesOf (now («out_states» .entry)) (now («out_arcs» .entry)))) ⌝ }
+{
+    let first = Counts {
+        tapes: first_tapes,
+        states: first_states,
+        arcs: first_arcs,
+    };
+    let second = Counts {
+        tapes: second_tapes,
+        states: second_states,
+        arcs: second_arcs,
+    };
+    let answer = columns::union::union(
+        first,
+        first_state_bytes,
+        first_arc_bytes,
+        second,
+        second_state_bytes,
+        second_arc_bytes,
+        out_states,
+        out_arcs,
+    );
+    table_word(answer)
+}
+
+// Chooses tapes, one byte a tape.
+#[no_mangle]
+pub extern "C" fn tomchoen_project(
+    tapes: usize,
+    states: usize,
+    arcs: usize,
+    state_bytes: &[u8],
+    arc_bytes: &[u8],
+    chosen: &[u8],
+    out_states: &mut [u8],
+    out_arcs: &mut [u8],
+) -> u64
+    ensures { λ r. ⌜ tellsMade r (now («out_states» .exit)) (now («out_arcs» .exit)) ≡ toldMade (projectOutcome (memoryOf tapes states arcs (now («state_bytes» .entry)) (now («arc_bytes» .entry))) (now (chosen .entry)) (slicesOf (now («out_states» .entry)) (now («out_arcs» .entry)))) ⌝ }
+{
+    let counts = Counts {
+        tapes,
+        states,
+        arcs,
+    };
+    let answer = columns::project::project(
+        counts,
+        state_bytes,
+        arc_bytes,
+        chosen,
+        out_states,
+        out_arcs,
+    );
+    table_word(answer)
+}
+
+// Drops the tapes marked in a mask.
+#[no_mangle]
+pub extern "C" fn tomchoen_drop(
+    tapes: usize,
+    states: usize,
+    arcs: usize,
+    state_bytes: &[u8],
+    arc_bytes: &[u8],
+    mask: u8,
+    out_states: &mut [u8],
+    out_arcs: &mut [u8],
+) -> u64
+    ensures { λ r. ⌜ tellsMade r (now («out_states» .exit)) (now («out_arcs» .exit)) ≡ toldMade (dropOutcome (memoryOf tapes states arcs (now («state_bytes» .entry)) (now («arc_bytes» .entry))) mask (slicesOf (now («out_states» .entry)) (now («out_arcs» .entry)))) ⌝ }
+{
+    let counts = Counts {
+        tapes,
+        states,
+        arcs,
+    };
+    let answer = columns::drop::drop_tapes(
+        counts,
+        state_bytes,
+        arc_bytes,
+        mask,
+        out_states,
+        out_arcs,
+    );
+    table_word(answer)
+}
+
+// Looks the weight of a tuple up.
+#[no_mangle]
+pub extern "C" fn tomchoen_lookup(
+    tapes: usize,
+    states: usize,
+    arcs: usize,
+    state_bytes: &[u8],
+    arc_bytes: &[u8],
+    tuple: &[u8],
+    work: &mut [u8],
+) -> u64
+    ensures { λ r. ⌜ tellsFound r (now (work .exit)) ≡ toldFound (lookupOutcome (memoryOf tapes states arcs (now («state_bytes» .entry)) (now («arc_bytes» .entry))) (now (tuple .entry)) (now (work .entry))) ⌝ }
+{
+    let counts = Counts {
+        tapes,
+        states,
+        arcs,
+    };
+    let answer = lookup::call::lookup(counts, state_bytes, arc_bytes, tuple, work);
+    weight_word(answer)
 }

@@ -1,4 +1,5 @@
 // An answer as one number, for callers in C: in the low byte 0 or the number of the refusal, above it what is told.
+use lookup::call::WeightAnswer;
 use memory::answer::Counts;
 use memory::answer::TableAnswer;
 use memory::answer::refusal_number;
@@ -7,7 +8,8 @@ ghost use mathlib.Core.Path.{_≡_};
 ghost use Prim.Native.Nat.{_+_, _*_, _≤_, _<_};
 ghost use Rattle.memory.specs.Answers.{tableAs};
 ghost use Rattle.text.specs.Answers.{writtenAs};
-ghost use Rattle.tomchoen.specs.Words.{tableWord, bytesWord, CountsFit, BytesFit};
+ghost use Rattle.lookup.specs.Answers.{weightAs};
+ghost use Rattle.tomchoen.specs.Words.{tableWord, bytesWord, weightWord, CountsFit, BytesFit, WeightFits};
 
 // The counts of a table: tapes from bit 8 on, states from bit 16 on, arcs from bit 32 on.
 fn counts_word(c: Counts) -> u64
@@ -44,5 +46,17 @@ pub fn bytes_word(answer: WriteAnswer) -> u64
     match answer {
         WriteAnswer::Bytes(n) => shifted(n as u64),
         WriteAnswer::Refused(why) => refusal_number(why) as u64,
+    }
+}
+
+// The weight of a tuple, from bit 8 on, 255 for none, or the refusal's number.
+pub fn weight_word(answer: WeightAnswer) -> u64
+    requires { ⌜ WeightFits (weightAs answer) ⌝ }
+    ensures { λ r. ⌜ r ≡ weightWord (weightAs answer) ⌝ }
+{
+    match answer {
+        WeightAnswer::Weight(w) => shifted(w),
+        WeightAnswer::Nothing => 255,
+        WeightAnswer::Refused(why) => refusal_number(why) as u64,
     }
 }
