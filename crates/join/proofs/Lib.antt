@@ -1,0 +1,3 @@
+-- Laws of a join as it is called.
+pub mod RoomLaws
+pub mod MaskLaws
