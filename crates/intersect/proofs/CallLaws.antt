@@ -27,7 +27,6 @@ use Rattle.memory.specs.declared.pair.PairList.{PairList}
 use Rattle.memory.specs.Answers.{judgedAs, refusalNumber}
 use Rattle.memory.specs.Pairs.{pairsAs}
 use Rattle.edges.specs.Edges.{HoldsEdges}
-use Rattle.pairs.specs.PairBytes.{pairsOf}
 use Rattle.workspace.specs.declared.room.Room.{Room}
 use Rattle.workspace.specs.Room.{Divides}
 use Rattle.intersect.specs.declared.prepare.Prepared.{Prepared}
@@ -119,21 +118,21 @@ module _ (m : Memory) (ps : List TapePair) (v : Config → Bool) (room : Room) (
 
 -- ---- the whole call
 
-module _ (m : Memory) (bytes : List ℕ) (D : ℕ) (oldStates oldArcs work : List ℕ) (r : Prepared)
-    (p : Prepares m bytes D (length oldStates / 10) (length oldArcs / 80) (length work) r) where
+module _ (m : Memory) (listed : List Pair) (D : ℕ) (oldStates oldArcs work : List ℕ) (r : Prepared)
+    (p : Prepares m listed D (length oldStates / 10) (length oldArcs / 80) (length work) r) where
   -- the slices, and what the call answers
   abbrev slices : Slices
   slices = slicesOf oldStates oldArcs
 
   abbrev answer : Answer (Automaton ℕ)
-  answer = intersectAnswer m (pairsOf bytes) D (spaceOf slices) work
+  answer = intersectAnswer m listed D (spaceOf slices) work
 
   -- a refusal before any configuration is reached
   pub call-refused : (why : Refusal) → r .judged ≡ Refused why → madeOf (refused (refusalNumber why)) oldStates oldArcs ≡ put answer slices
   call-refused why e =
       sym (put-refused slices (refusalNumber why))
       ∙ ap (λ (a : Answer (Automaton ℕ)). put a slices)
-      (sym (p .answer work refl ∙ ap (λ (j : Judged). judgedAs j >>= λ (u : Unit {0}). intersectOn D (spaceOf slices) (pairsOf bytes) (tableOf m)) e))
+      (sym (p .answer work refl ∙ ap (λ (j : Judged). judgedAs j >>= λ (u : Unit {0}). intersectOn D (spaceOf slices) listed (tableOf m)) e))
 
   -- the pairs with their limit, by value
   abbrev tapes : ℕ → PairList → List TapePair
@@ -148,7 +147,7 @@ module _ (m : Memory) (bytes : List ℕ) (D : ℕ) (oldStates oldArcs work : Lis
       z ∙ ap (λ (k : ℕ). put (tableBy m (tapes k (r .pairs)) (viable (closingTables (tableOf m) (tapes k (r .pairs)))) (spaceOf slices)) slices) l
       ∙ ap (λ (ps : List Pair). put (tableBy m (limited D ps) (viable (closingTables (tableOf m) (limited D ps))) (spaceOf slices)) slices) (p .pairs-are e)
       ∙ ap (λ (x : Answer (Automaton ℕ)). put x slices)
-      (sym (p .answer work refl ∙ ap (λ (j : Judged). judgedAs j >>= λ (u : Unit {0}). intersectOn D (spaceOf slices) (pairsOf bytes) (tableOf m)) e))
+      (sym (p .answer work refl ∙ ap (λ (j : Judged). judgedAs j >>= λ (u : Unit {0}). intersectOn D (spaceOf slices) listed (tableOf m)) e))
 
 -- Work space is zero afterwards.
 pub call-cleared : (m : Memory) (ps : List Pair) (D : ℕ) (s : Slices) (work zeroed : List ℕ) (n : ℕ) (a : Answer TableCounts) (states arcs : List ℕ)

@@ -20,7 +20,6 @@ use Rattle.memory.specs.declared.answer.Judged.the-variants.{Fine, Refused}
 use Rattle.memory.specs.Answers.{judgedAs}
 use Rattle.memory.proofs.TableLaws.{judged-sound}
 use Rattle.pairs.specs.declared.PairsJudged.{PairsJudged}
-use Rattle.pairs.specs.PairBytes.{pairsOf}
 use Rattle.pairs.specs.PairTests.{pairsAnswer}
 use Rattle.pairs.specs.Judgement.{KeepJudged}
 use Rattle.pairs.proofs.CallLaws.{intersect-then}
@@ -83,11 +82,11 @@ module _ (m : Memory) (ps : List Pair) (D states arcs work : ℕ) (t p j : Answe
           ∙ sym (ap (λ (a : Answer (Unit {0})). a >>= λ (u : Unit {0}). rest) (h ∙ ap (λ (a : Answer (Unit {0})). inTurn a p b) x))
 
 -- The judgements are those of the call.
-pub prepared : (m : Memory) (bytes : List ℕ) (D states arcs work : ℕ) (t j : Judged) (l : PairsJudged) (r : RoomAnswer)
-    → judgedAs t ≡ forget (decodeTable m) → KeepJudged bytes (m .tapes) D l → RoomFor states arcs (m .states) work r → judgedAs j ≡ inTurn (judgedAs t) (judgedAs (l .judged)) (r .enough)
-    → Prepares m bytes D states arcs work (record { judged = j; pairs = l .pairs; room = r .room })
-prepared m bytes D states arcs work t j l r e f g h = record {
-  answer = call-in-turn m (pairsOf bytes) D states arcs work (judgedAs t) (judgedAs (l .judged)) (judgedAs j) (r .enough) e (f .answer) (g .enough) h;
+pub prepared : (m : Memory) (ps : List Pair) (D states arcs work : ℕ) (t j : Judged) (l : PairsJudged) (r : RoomAnswer)
+    → judgedAs t ≡ forget (decodeTable m) → KeepJudged ps (m .tapes) D l → RoomFor states arcs (m .states) work r → judgedAs j ≡ inTurn (judgedAs t) (judgedAs (l .judged)) (r .enough)
+    → Prepares m ps D states arcs work (record { judged = j; pairs = l .pairs; room = r .room })
+prepared m ps D states arcs work t j l r e f g h = record {
+  answer = call-in-turn m ps D states arcs work (judgedAs t) (judgedAs (l .judged)) (judgedAs j) (r .enough) e (f .answer) (g .enough) h;
   sound = λ k. judged-sound m (sym e ∙ first k .1);
   pairs-are = λ k. f .pairs (second k);
   four = λ k. f .four (second k);

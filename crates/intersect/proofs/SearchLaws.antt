@@ -5,6 +5,7 @@ use mathlib.Core.List.{List, [], _∷_, _++_}
 use native.Mathlib.Omega.{arith}
 use lib.ListN.{length, replicate}
 use Rattle.automata.specs.Lists.{All}
+use Rattle.automata.specs.TapePair.{Pair}
 use Rattle.automata.specs.Config.{Config}
 use Rattle.automata.proofs.SoundFacts.{sound-holds}
 use Rattle.memory.specs.declared.answer.Judged.the-variants.{Fine}
@@ -64,10 +65,10 @@ module _ (p : Plan) (states arcs : List ℕ) (size : ℕ) (x : Explorable p stat
   }
 
 -- what was judged before the search is what it asks for
-pub explorable : (c : Counts) (states arcs bytes : List ℕ) (D forStates forArcs work limit : ℕ) (r : Prepared) → Prepares (lent c states arcs) bytes D forStates forArcs work r
+pub explorable : (c : Counts) (states arcs : List ℕ) (ps : List Pair) (D forStates forArcs work limit : ℕ) (r : Prepared) → Prepares (lent c states arcs) ps D forStates forArcs work r
     → r .judged ≡ Fine → limit ≡ D
     → Explorable (record { counts = c; pairs = r .pairs; limit = limit; room = r .room }) states arcs work
-explorable c states arcs bytes D forStates forArcs work limit r p e l =
+explorable c states arcs ps D forStates forArcs work limit r p e l =
     let d = p .divides e in
     record {
       sound = p .sound e;

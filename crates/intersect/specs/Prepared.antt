@@ -8,12 +8,12 @@ use Rattle.automata.specs.Refusal
 use Rattle.automata.specs.Limits.{maxDelay}
 use Rattle.automata.specs.Answer.{_>>=_, Answer, require}
 use Rattle.automata.specs.Memory.{Memory, Sound, tableOf}
+use Rattle.automata.specs.TapePair.{Pair}
 use Rattle.automata.specs.IntersectCall.{intersectOn}
 use Rattle.automata.specs.Calls.Intersect.{intersectAnswer}
 use Rattle.memory.specs.declared.answer.Judged.the-variants.{Fine}
 use Rattle.memory.specs.Answers.{judgedAs}
 use Rattle.memory.specs.Pairs.{pairsAs, Named}
-use Rattle.pairs.specs.PairBytes.{pairsOf}
 use Rattle.workspace.specs.Room.{lentSpace, Divides}
 use Rattle.intersect.specs.declared.prepare.Prepared.{Prepared}
 
@@ -22,11 +22,11 @@ abbrev pub inTurn : Answer (Unit {0}) → Answer (Unit {0}) → Bool → Answer 
 inTurn table pairs enough = table >>= λ t. pairs >>= λ p. require enough Refusal.space
 
 -- The first refusal is the call's, and where there is none the call goes on to reach configurations; what then is known of its parts.
-pub record Prepares (m : Memory) (bytes : List ℕ) (D states arcs work : ℕ) (r : Prepared) : Type 0 where
-  pub answer : (w : List ℕ) → length w ≡ work → intersectAnswer m (pairsOf bytes) D (lentSpace states arcs) w
-      ≡ (judgedAs (r .judged) >>= λ (u : Unit {0}). intersectOn D (lentSpace states arcs) (pairsOf bytes) (tableOf m))
+pub record Prepares (m : Memory) (ps : List Pair) (D states arcs work : ℕ) (r : Prepared) : Type 0 where
+  pub answer : (w : List ℕ) → length w ≡ work → intersectAnswer m ps D (lentSpace states arcs) w
+      ≡ (judgedAs (r .judged) >>= λ (u : Unit {0}). intersectOn D (lentSpace states arcs) ps (tableOf m))
   pub sound : r .judged ≡ Fine → Sound m
-  pub pairs-are : r .judged ≡ Fine → pairsAs (r .pairs) ≡ pairsOf bytes
+  pub pairs-are : r .judged ≡ Fine → pairsAs (r .pairs) ≡ ps
   pub four : r .judged ≡ Fine → length (r .pairs .pairs) ≡ 4
   pub named : r .judged ≡ Fine → Named (m .tapes) (r .pairs)
   pub limit-fits : r .judged ≡ Fine → D ≤ maxDelay

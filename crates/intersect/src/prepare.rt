@@ -9,6 +9,7 @@ use workspace::room::Room;
 use workspace::room::room_for;
 ghost use mathlib.Core.Path.{_≡_};
 ghost use Rattle.memory.specs.Answers.{judgedAs, lent};
+ghost use Rattle.pairs.specs.PairBytes.{pairsOf};
 ghost use Rattle.intersect.specs.Prepared.{inTurn, Prepares};
 
 // The first refusal, and where there is none the pairs by value and the parts of the work space.
@@ -46,7 +47,7 @@ pub fn prepare(
     lent_arcs: usize,
     work: usize,
 ) -> Prepared
-    ensures { λ r. ⌜ Prepares (lent counts (now (states .entry)) (now (arcs .entry))) (now (pairs .entry)) limit «lent_states» «lent_arcs» work r ⌝ }
+    ensures { λ r. ⌜ Prepares (lent counts (now (states .entry)) (now (arcs .entry))) (pairsOf (now (pairs .entry))) limit «lent_states» «lent_arcs» work r ⌝ }
 {
     let table = judge(counts, states, arcs);
     let listed = judge_pairs(pairs, counts.tapes, limit);

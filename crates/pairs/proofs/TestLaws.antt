@@ -69,8 +69,8 @@ module _ (bs : List ℕ) (once : Bool) where
 refused-not-fine : {A : Type 0} (j : Judged) (why : Refusal) → j ≡ Refused why → j ≡ Fine → A
 refused-not-fine j why e f = let z : _≡_ {A = ℕ} 0 1 = cc in absurd (omega arith)
 
-module _ (bs : List ℕ) (inside once : Bool) (limit : ℕ) (r : PairsJudged) where
-  settled-refused : (why : Refusal) → r .judged ≡ Refused why → tests inside once limit ≡ refused (refusalNumber why) → Settled bs inside once limit r
+module _ (ps : List Pair) (inside once : Bool) (limit : ℕ) (r : PairsJudged) where
+  settled-refused : (why : Refusal) → r .judged ≡ Refused why → tests inside once limit ≡ refused (refusalNumber why) → Settled ps inside once limit r
   settled-refused why e t =
       record {
         answer = ap judgedAs e ∙ sym t;
@@ -81,17 +81,17 @@ module _ (bs : List ℕ) (inside once : Bool) (limit : ℕ) (r : PairsJudged) wh
         limit-fits = λ f. refused-not-fine (r .judged) why e f;
       }
 
-  pub settled-tape : inside ≡ false → r .judged ≡ Refused Tape → Settled bs inside once limit r
+  pub settled-tape : inside ≡ false → r .judged ≡ Refused Tape → Settled ps inside once limit r
   settled-tape i e = settled-refused Tape e (rw i)
 
-  pub settled-pairs : inside ≡ true → once ≡ false → r .judged ≡ Refused Pairs → Settled bs inside once limit r
+  pub settled-pairs : inside ≡ true → once ≡ false → r .judged ≡ Refused Pairs → Settled ps inside once limit r
   settled-pairs i o e = settled-refused Pairs e (rw (i, o))
 
-  pub settled-limit : inside ≡ true → once ≡ true → 64 < limit → r .judged ≡ Refused Limit → Settled bs inside once limit r
+  pub settled-limit : inside ≡ true → once ≡ true → 64 < limit → r .judged ≡ Refused Limit → Settled ps inside once limit r
   settled-limit i o l e = settled-refused Limit e (rw (i, o, lt-leb limit 64 l))
 
-  pub settled-fine : inside ≡ true → once ≡ true → limit ≤ 64 → r .judged ≡ Fine → pairsAs (r .pairs) ≡ pairsOf bs → r .pairs .used ≤ 4 → length (r .pairs .pairs) ≡ 4
-      → Settled bs inside once limit r
+  pub settled-fine : inside ≡ true → once ≡ true → limit ≤ 64 → r .judged ≡ Fine → pairsAs (r .pairs) ≡ ps → r .pairs .used ≤ 4 → length (r .pairs .pairs) ≡ 4
+      → Settled ps inside once limit r
   settled-fine i o l e p u f =
       record {
         answer = ap judgedAs e ∙ sym (rw (i, o, le-leb limit 64 l) refl);
@@ -103,23 +103,23 @@ module _ (bs : List ℕ) (inside once : Bool) (limit : ℕ) (r : PairsJudged) wh
       }
 
 -- ---- the two judgements
-module _ (bs : List ℕ) (limit : ℕ) (inside once : Bool) (r : PairsJudged) (s : Settled bs inside once limit r) where
-  tapes-sided : (n m : ℕ) → inside ≡ within n m (pairsOf bs) → r .judged ≡ Fine → Sided n m (r .pairs)
+module _ (ps : List Pair) (limit : ℕ) (inside once : Bool) (r : PairsJudged) (s : Settled ps inside once limit r) where
+  tapes-sided : (n m : ℕ) → inside ≡ within n m ps → r .judged ≡ Fine → Sided n m (r .pairs)
   tapes-sided n m i f = sided n m (r .pairs) (s .four f) (s .used-fit f) (ap (within n m) (s .pairs f) ∙ sym i ∙ s .all-inside f)
 
-  pub keep-judged : (tapes : ℕ) → inside ≡ within tapes tapes (pairsOf bs) → once ≡ and (leb (length (pairsOf bs)) maxPairs) (distinct (named (pairsOf bs)))
-      → KeepJudged bs tapes limit r
+  pub keep-judged : (tapes : ℕ) → inside ≡ within tapes tapes ps → once ≡ and (leb (length ps) maxPairs) (distinct (named ps))
+      → KeepJudged ps tapes limit r
   unfolding pairsAnswer
   keep-judged tapes i o =
       record {
-        answer = s .answer ∙ rw (i, o, within-named tapes (pairsOf bs)) refl;
+        answer = s .answer ∙ rw (i, o, within-named tapes ps) refl;
         pairs = s .pairs;
         four = s .four;
         tapes-named = λ f. named-sided tapes (r .pairs) (tapes-sided tapes tapes i f);
         limit-fits = s .limit-fits;
       }
 
-  pub join-judged : (n m : ℕ) → inside ≡ within n m (pairsOf bs) → once ≡ separate (pairsOf bs) → JoinJudged bs n m limit r
+  pub join-judged : (n m : ℕ) → inside ≡ within n m ps → once ≡ separate ps → JoinJudged ps n m limit r
   unfolding joinPairsAnswer
   join-judged n m i o =
       record {

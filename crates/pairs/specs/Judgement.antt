@@ -8,6 +8,7 @@ use lib.Dec.{ltb}
 use Rattle.automata.specs.Limits.{maxDelay}
 use Rattle.automata.specs.Lists.{if}
 use Rattle.automata.specs.Answer.{Answer}
+use Rattle.automata.specs.TapePair as automata
 use Rattle.automata.specs.Tapes.{moved}
 use Rattle.memory.specs.declared.answer.Judged.the-variants.{Fine}
 use Rattle.memory.specs.declared.pair.Pair.{Pair}
@@ -15,7 +16,6 @@ use Rattle.memory.specs.declared.pair.PairList.{PairList}
 use Rattle.memory.specs.Answers.{judgedAs}
 use Rattle.memory.specs.Pairs.{pairsAs, noPair, Named}
 use Rattle.pairs.specs.declared.PairsJudged.{PairsJudged}
-use Rattle.pairs.specs.PairBytes.{pairsOf}
 use Rattle.pairs.specs.PairTests.{tests, pairsAnswer, joinPairsAnswer}
 
 -- the first tape of a pair is among n, the second among m, counted from 1
@@ -31,29 +31,29 @@ pub record Sided (n m : ℕ) (ps : PairList) : Type 0 where
   pub each : (h : ℕ) → h < ps .used → Between n m (getD (ps .pairs) h noPair)
 
 -- The tests settled in their order, and where none fails the pairs by value.
-pub record Settled (bytes : List ℕ) (inside once : Bool) (limit : ℕ) (r : PairsJudged) : Type 0 where
+pub record Settled (ps : List automata.Pair) (inside once : Bool) (limit : ℕ) (r : PairsJudged) : Type 0 where
   pub answer : judgedAs (r .judged) ≡ tests inside once limit
-  pub pairs : r .judged ≡ Fine → pairsAs (r .pairs) ≡ pairsOf bytes
+  pub pairs : r .judged ≡ Fine → pairsAs (r .pairs) ≡ ps
   pub used-fit : r .judged ≡ Fine → r .pairs .used ≤ 4
   pub four : r .judged ≡ Fine → length (r .pairs .pairs) ≡ 4
   pub all-inside : r .judged ≡ Fine → inside ≡ true
   pub limit-fits : r .judged ≡ Fine → limit ≤ maxDelay
 
 -- A list of pairs judged: the answer that is called for, and where there is no refusal the pairs by value, what holds of their tapes, and the limit.
-pub record ListJudged (bytes : List ℕ) (limit : ℕ) (expected : Answer (Unit {0})) (Tapes : PairList → Type 0) (r : PairsJudged) : Type 0 where
+pub record ListJudged (ps : List automata.Pair) (limit : ℕ) (expected : Answer (Unit {0})) (Tapes : PairList → Type 0) (r : PairsJudged) : Type 0 where
   pub answer : judgedAs (r .judged) ≡ expected
-  pub pairs : r .judged ≡ Fine → pairsAs (r .pairs) ≡ pairsOf bytes
+  pub pairs : r .judged ≡ Fine → pairsAs (r .pairs) ≡ ps
   pub four : r .judged ≡ Fine → length (r .pairs .pairs) ≡ 4
   pub tapes-named : r .judged ≡ Fine → Tapes (r .pairs)
   pub limit-fits : r .judged ≡ Fine → limit ≤ maxDelay
 
 -- for an auto-intersection of a table with so many tapes
-abbrev pub KeepJudged : List ℕ → ℕ → ℕ → PairsJudged → Type 0
-KeepJudged bytes tapes limit r = ListJudged bytes limit (pairsAnswer tapes limit (pairsOf bytes)) (Named tapes) r
+abbrev pub KeepJudged : List automata.Pair → ℕ → ℕ → PairsJudged → Type 0
+KeepJudged ps tapes limit r = ListJudged ps limit (pairsAnswer tapes limit ps) (Named tapes) r
 
 -- for a join of tables with n and m tapes
-abbrev pub JoinJudged : List ℕ → ℕ → ℕ → ℕ → PairsJudged → Type 0
-JoinJudged bytes n m limit r = ListJudged bytes limit (joinPairsAnswer n m limit (pairsOf bytes)) (Sided n m) r
+abbrev pub JoinJudged : List automata.Pair → ℕ → ℕ → ℕ → PairsJudged → Type 0
+JoinJudged ps n m limit r = ListJudged ps limit (joinPairsAnswer n m limit ps) (Sided n m) r
 
 -- at most four pairs are used, and each second tape fits a byte once it is moved
 pub record Movable (by : ℕ) (ps : PairList) : Type 0 where

@@ -50,7 +50,7 @@ pub fn all_distinct(numbers: &[u8]) -> bool
 }
 
 // Whether j is one of n tapes, counted from 1.
-fn is_tape(n: usize, j: u8) -> bool
+pub fn is_tape(n: usize, j: u8) -> bool
     ensures { λ r. ⌜ r ≡ isTape n j ⌝ }
 {
     let tape = j as usize;
@@ -135,7 +135,7 @@ fn seconds_of(pairs: PairList) -> [u8; 4]
 }
 
 // Whether all tapes that the pairs name differ.
-fn named_once(pairs: PairList) -> bool
+pub fn named_once(pairs: PairList) -> bool
     requires { ⌜ pairs .used ≤ 4 ⌝ }
     ensures { λ r. ⌜ r ≡ distinct (named (pairsAs pairs)) ⌝ }
 {
@@ -150,7 +150,7 @@ fn named_once(pairs: PairList) -> bool
 }
 
 // Whether the first tapes differ and the second tapes differ.
-fn sides_once(pairs: PairList) -> bool
+pub fn sides_once(pairs: PairList) -> bool
     requires { ⌜ pairs .used ≤ 4 ⌝ }
     ensures { λ r. ⌜ r ≡ and (distinct (map (λ p. p .first) (pairsAs pairs))) (distinct (map (λ p. p .second) (pairsAs pairs))) ⌝ }
 {
@@ -194,7 +194,7 @@ pub struct PairsJudged {
 }
 
 // A refusal, with no pairs.
-fn refused(why: Refusal) -> PairsJudged
+pub fn refused(why: Refusal) -> PairsJudged
     ensures { λ r. ⌜ r .judged ≡ judged.Refused why ⌝ }
 {
     let none = Pair {
@@ -214,7 +214,7 @@ fn refused(why: Refusal) -> PairsJudged
 // The tests in their order: 5 where a tape is not there, 6 where a tape stands twice or there are too many pairs, 7 by the limit.
 fn settled(bytes: &[u8], inside: bool, once: bool, limit: usize) -> PairsJudged
     requires { ⌜ (once ≡ true → length (now bytes) / 2 ≤ 4) ⌝ }
-    ensures { λ r. ⌜ Settled (now (bytes .entry)) inside once limit r ⌝ }
+    ensures { λ r. ⌜ Settled (pairsOf (now (bytes .entry))) inside once limit r ⌝ }
 {
     if !inside {
         return refused(Refusal::Tape);
@@ -234,7 +234,7 @@ fn settled(bytes: &[u8], inside: bool, once: bool, limit: usize) -> PairsJudged
 
 // The pairs of an auto-intersection of a table: 5 over the whole list, then 6, then 7.
 pub fn judge_pairs(bytes: &[u8], tapes: usize, limit: usize) -> PairsJudged
-    ensures { λ r. ⌜ KeepJudged (now (bytes .entry)) tapes limit r ⌝ }
+    ensures { λ r. ⌜ KeepJudged (pairsOf (now (bytes .entry))) tapes limit r ⌝ }
 {
     let inside = all_within(bytes, tapes, tapes);
     let once = keep_once(bytes);
@@ -243,7 +243,7 @@ pub fn judge_pairs(bytes: &[u8], tapes: usize, limit: usize) -> PairsJudged
 
 // The pairs of a join of tables with n and m tapes: 5 over the whole list, then 6, then 7.
 pub fn judge_join_pairs(bytes: &[u8], n: usize, m: usize, limit: usize) -> PairsJudged
-    ensures { λ r. ⌜ JoinJudged (now (bytes .entry)) n m limit r ⌝ }
+    ensures { λ r. ⌜ JoinJudged (pairsOf (now (bytes .entry))) n m limit r ⌝ }
 {
     let inside = all_within(bytes, n, m);
     let once = join_once(bytes);
