@@ -1,0 +1,3 @@
+-- What the contracts over unions and columns of tables cite.
+pub mod Rewritten
+pub mod Choice
