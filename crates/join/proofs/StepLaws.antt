@@ -28,8 +28,22 @@ use Rattle.memory.specs.declared.pair.PairList.{PairList}
 use Rattle.memory.specs.Answers.{refusalNumber, countsAs, tableAs, lent}
 use Rattle.memory.specs.Pairs.{pairsAs, Named}
 use Rattle.pairs.specs.Judgement.{Moved}
+use Rattle.product.specs.Multiplied.{Multipliable}
 use Rattle.join.specs.Steps.{Keepable, Joinable}
 use Rattle.join.proofs.KeepLaws.{made-table, told}
+
+-- ---- the product
+
+-- it has all that it asks for
+pub product-ready : (a b : Memory) (pairs : PairList) (D forProductStates forProductArcs forStates forArcs work : ℕ)
+    → Joinable a b pairs D forProductStates forProductArcs forStates forArcs work → Multipliable a b forProductStates forProductArcs work
+unfolding joinWork
+product-ready a b pairs D forProductStates forProductArcs forStates forArcs work x = record {
+  first = x .first;
+  second = x .second;
+  tapes-fit = x .narrow;
+  work-fits = omega (arith, x .work-fits);
+}
 
 module _ (a b : Memory) (pairs : PairList) (D : ℕ) (p s : Slices) where
   -- the steps of the join
