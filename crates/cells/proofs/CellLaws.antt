@@ -1,18 +1,17 @@
 -- What loading and storing does to the cells.
 use mathlib.Core.Path.{_≡_, refl, sym, ap, subst, _∙_}
-use mathlib.Core.Bool.{Bool, true, false, false≢true}
+use mathlib.Core.Bool.{true, false, false≢true}
 use mathlib.Core.List.{List, [], _∷_, map}
-use Prim.Native.Nat.{ℕ, zero, suc, _+_, _-_, _*_, _/_, _≤_, _<_, _^_, min}
+use Prim.Native.Nat.{ℕ, zero, suc, _+_, _*_, _/_, _≤_, _<_, min}
 use native.Mathlib.Omega.{arith}
-use lib.ListN.{length, getD, set, take, drop, replicate, length-map, length-set, List·getD-map, List·getD-eq-default, length-replicate}
-use lib.Seq.{ext-getD, getD-set-same, getD-set-other, set-getD}
-use Rattle.automata.specs.Lists.{total}
+use lib.ListN.{length, getD, set, length-map, List·getD-map}
+use lib.Seq.{set-getD}
 use Rattle.memory.specs.Region.{part, splice, rows}
 use Rattle.memory.specs.Endian.{le, toLe}
 use Rattle.memory.proofs.EndianLaws.{length-toLe, le-toLe}
 use Rattle.memory.proofs.SpliceLaws.{length-splice}
 use Rattle.memory.proofs.RowLaws.{length-rows, getD-rows, rows-splice-row}
-use Rattle.cells.specs.Distances.{far, cellsOf, lowered, sum, Trend, Lowers}
+use Rattle.cells.specs.Distances.{cellsOf, lowered, sum, Lowers}
 
 -- a cell for each eight bytes
 pub length-cells : (w : List ℕ) → length (cellsOf w) ≡ length w / 8

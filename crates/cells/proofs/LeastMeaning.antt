@@ -1,20 +1,18 @@
 -- Once all combinations are done, the least over the initial states is the weight of the tuple.
-use mathlib.Core.Path.{_≡_, refl, sym, ap, ap₂, subst, _∙_}
-use mathlib.Core.Bool.{Bool, true, false}
-use mathlib.Core.Logic.{_⊎_, inl, inr}
-use mathlib.Core.Option.{Option, none, some, Option·none-ne-some, Option·some-injective}
+use mathlib.Core.Path.{_≡_, refl, sym, ap, ap₂, _∙_}
+use mathlib.Core.Option.{Option, none, some}
 use mathlib.Core.List.{List, [], _∷_}
-use Prim.Native.Nat.{ℕ, zero, suc, _+_, _-_, _*_, _≤_, _<_, min}
+use Prim.Native.Nat.{ℕ, zero, suc, _+_, _*_, _≤_, _<_, min}
 use native.Mathlib.Decide.{decLe}
 use native.Mathlib.Omega.{arith}
-use lib.ListN.{length, getD, getElem?}
+use lib.ListN.{length, getD}
 use borrow.Author.Tests.{lt-ltb, le-ltb, le-leb, lt-leb}
 use Rattle.automata.specs.Lists.{bind, total}
 use Rattle.automata.specs.OrderedSum.{ℕ-sum}
 use Rattle.automata.specs.Least.{lesser, plus, leastBelow}
 use Rattle.automata.specs.Automaton.{Automaton, size, initialOf, Tuple}
 use Rattle.automata.specs.Lookup.{best, arcsEnough, lookup}
-use Rattle.automata.specs.Calls.Work.{combinations, lookupWork}
+use Rattle.automata.specs.Calls.Work.{combinations}
 use Rattle.automata.specs.Memory.{Sound, tableOf}
 use Rattle.automata.proofs.SoundFacts.{sound-well-formed, sound-holds}
 use Rattle.automata.proofs.WellFormedFacts.{well-formed, weights-bounded}
@@ -24,7 +22,7 @@ use Rattle.memory.specs.Records.{optionOf, stateAt}
 use Rattle.memory.specs.declared.answer.Counts.{Counts}
 use Rattle.memory.specs.declared.record.Weight.{Weight}
 use Rattle.memory.specs.declared.record.Weight.the-variants.{Absent, Present}
-use Rattle.memory.proofs.SoundLaws.{state-loaded, states-lent, few-states}
+use Rattle.memory.proofs.SoundLaws.{state-loaded, few-states}
 use Rattle.tuple.specs.declared.Strings.{Strings}
 use Rattle.tuple.specs.Strings.{Stands}
 use Rattle.cells.specs.Distances.{far, weightOf}

@@ -1,16 +1,16 @@
 -- Comparing bytes, turn by turn, and the labels of an arc, tape by tape.
-use mathlib.Core.Path.{_≡_, refl, sym, ap, ap₂, subst, _∙_}
+use mathlib.Core.Path.{_≡_, sym}
 use mathlib.Core.Logic.{_≢_}
 use mathlib.Core.Bool.{Bool, true, false, not}
-use mathlib.Core.Option.{Option, none, some, Option·none-ne-some, Option·some-injective}
-use mathlib.Core.List.{List, [], _∷_, map}
-use Prim.Native.Nat.{ℕ, zero, suc, _+_, _-_, _*_, _≤_, _<_}
+use mathlib.Core.Option.{none, some, Option·none-ne-some, Option·some-injective}
+use mathlib.Core.List.{List}
+use Prim.Native.Nat.{ℕ, suc, _+_, _*_, _≤_, _<_}
 use native.Mathlib.Nat.{mul-le-mul}
 use native.Mathlib.Omega.{arith}
 use borrow.Author.Tests.{lt-ltb, le-ltb, not-true, not-false}
-use lib.Dec.{eqb, leb, ltb, eqb-refl}
-use lib.ListN.{length, getD, take, drop}
-use Rattle.automata.specs.Lists.{if, and, bind, sameList}
+use lib.Dec.{eqb, ltb, eqb-refl}
+use lib.ListN.{length, getD}
+use Rattle.automata.specs.Lists.{if, and, sameList}
 use Rattle.automata.proofs.TestFacts.{eqb-false, T-true}
 use Rattle.memory.specs.Region.{part}
 use Rattle.memory.proofs.PartLaws.{part-zero, part-suc}

@@ -1,20 +1,20 @@
 -- The moves of a combination of positions are those of left quotients.
 use mathlib.Core.Path.{_≡_, refl, sym, ap, ap₂, subst, _∙_}
 use mathlib.Core.Bool.{Bool, true, false, false≢true}
-use mathlib.Core.Option.{Option, none, some, Option·none-ne-some, Option·some-injective}
+use mathlib.Core.Option.{Option, none, some}
 use mathlib.Core.List.{List, [], _∷_, map}
-use Prim.Native.Nat.{ℕ, zero, suc, _+_, _-_, _*_, _≤_, _<_}
+use Prim.Native.Nat.{ℕ, zero, suc, _+_, _*_, _≤_, _<_}
 use native.Mathlib.Nat.{add-mul, add-zero, add-assoc}
 use native.Mathlib.Omega.{arith}
 use borrow.Author.Tests.{ltb-true, ltb-false}
 use lib.Dec.{eqb, ltb}
-use lib.ListN.{length, getD, take, drop, length-take}
+use lib.ListN.{length, getD, take, drop}
 use lib.Seq.{take-take}
 use Rattle.automata.specs.Lists.{if, and, bind, sameList, consBoth}
 use Rattle.automata.specs.Automaton.{Tuple}
 use Rattle.automata.specs.Lookup.{leftQuotient, leftQuotients}
 use Rattle.automata.specs.Calls.Work.{combinations}
-use Rattle.automata.proofs.Cells.{Positions, dropAll, moved, place, place-lt, leftQuotients-drop}
+use Rattle.automata.proofs.Cells.{Positions, dropAll, moved, place}
 use Rattle.memory.specs.Region.{part}
 use Rattle.memory.specs.Records.{labelAs, labelAt, labelsAt}
 use Rattle.memory.proofs.PartLaws.{length-part}

@@ -1,12 +1,12 @@
 -- Relaxation by an arc at a combination of positions keeps what is known of the numbers; where no arc changes anything, none can lower one.
-use mathlib.Core.Path.{_≡_, refl, sym, ap, ap₂, subst, _∙_}
-use mathlib.Core.Logic.{inl, inr, _≢_}
-use mathlib.Core.Option.{Option, none, some}
-use mathlib.Core.List.{List, [], _∷_}
-use Prim.Native.Nat.{ℕ, zero, suc, _+_, _*_, _≤_, _<_, min}
+use mathlib.Core.Path.{_≡_, refl, sym, ap, subst}
+use mathlib.Core.Logic.{inr, _≢_}
+use mathlib.Core.Option.{none, some}
+use mathlib.Core.List.{List}
+use Prim.Native.Nat.{ℕ, suc, _+_, _*_, _≤_, _<_, min}
 use native.Mathlib.Decide.{ℕ-discrete, decLe}
 use native.Mathlib.Omega.{arith}
-use lib.ListN.{length, getD, set, getElem?, length-set}
+use lib.ListN.{length, getD, getElem?, length-set}
 use lib.Seq.{getD-set-same, getD-set-other}
 use Rattle.automata.specs.OrderedSum.{ℕ-sum}
 use Rattle.automata.specs.Graph.{Within}
@@ -17,7 +17,7 @@ use Rattle.automata.proofs.LookupRuns.{Onward, onward-join}
 use Rattle.automata.proofs.Cells.{Positions, dropAll, moved, place, place-inj, cell, cell-lt, cell-inj, leftQuotients-drop}
 use Rattle.cells.specs.Distances.{far, lowered}
 use Rattle.cells.proofs.DistanceLaws.{val, Distances}
-use Rattle.cells.proofs.MoveMeaning.{shift, place-moved}
+use Rattle.cells.proofs.MoveMeaning.{place-moved}
 use Rattle.cells.proofs.SweepLaws.{lowered-le}
 
 -- the number found, where it is less than the one there

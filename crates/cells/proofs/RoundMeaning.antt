@@ -1,11 +1,11 @@
 -- Rounds over the arc records at a combination of positions are relaxation by the arcs of the table.
-use mathlib.Core.Path.{_≡_, refl, sym, ap, ap₂, subst, _∙_}
+use mathlib.Core.Path.{_≡_, refl, sym, ap, subst, _∙_}
 use mathlib.Core.Option.{Option, none, some, Option·none-ne-some, Option·some-injective}
-use mathlib.Core.List.{List, [], _∷_, map}
-use Prim.Native.Nat.{ℕ, zero, suc, _+_, _*_, _≤_, _<_, min}
+use mathlib.Core.List.{List, _∷_, map}
+use Prim.Native.Nat.{ℕ, zero, suc, _+_, _*_, _≤_, _<_}
 use native.Mathlib.Nat.{add-assoc, zero-add}
 use native.Mathlib.Omega.{arith}
-use lib.ListN.{length, getD, take, set, getElem?, length-set}
+use lib.ListN.{length, getD, take, getElem?, length-set}
 use lib.Seq.{ext-getD}
 use Rattle.automata.specs.Lists.{All}
 use Rattle.automata.specs.Rounds.{iterate}
@@ -23,12 +23,12 @@ use Rattle.memory.specs.Endian.{le}
 use Rattle.memory.specs.Answers.{lent}
 use Rattle.memory.specs.Records.{labelAs, labelAt, labelsAt, contentAt, arcAt, arcAs, Padded}
 use Rattle.memory.specs.declared.answer.Counts.{Counts}
-use Rattle.memory.proofs.SoundLaws.{few-tapes, few-states, arcs-lent, arc-loaded, arc-canonical, arc-source, arc-target}
+use Rattle.memory.proofs.SoundLaws.{few-tapes, arcs-lent, arc-loaded, arc-canonical, arc-source, arc-target}
 use Rattle.memory.specs.declared.record.Label.{Label}
 use Rattle.cells.specs.declared.spot.Spot.{Spot}
 use Rattle.cells.specs.Moves.{movesFrom, Laid, Labelled, Spotted}
-use Rattle.cells.specs.Distances.{far, cellsOf, lowered}
-use Rattle.cells.specs.Sweeps.{passed, visited, swept, roundOf, Passable, Spaced, Ready, Settles}
+use Rattle.cells.specs.Distances.{cellsOf, lowered}
+use Rattle.cells.specs.Sweeps.{passed, visited, swept, roundOf, Passable, Ready, Settles}
 use Rattle.cells.proofs.DistanceLaws.{val, Distances}
 use Rattle.cells.proofs.MoveMeaning.{where?, shift, place-moved, labelled, moves-mean}
 use Rattle.cells.proofs.SweepLaws.{visited-le, swept-le}

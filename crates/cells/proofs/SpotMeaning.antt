@@ -14,10 +14,8 @@ use Rattle.automata.proofs.Cells.{Positions, place}
 use Rattle.memory.specs.Region.{part}
 use Rattle.tuple.specs.declared.Strings.{Strings}
 use Rattle.tuple.specs.Strings.{Stands}
-use Rattle.cells.specs.declared.spot.Spot.{Spot}
 use Rattle.cells.specs.declared.spot.Spans.{Spans}
-use Rattle.cells.specs.Moves.{Laid, Spotted}
-use Rattle.cells.specs.Spots.{spanOf, Spanned, digit, eightOf, spotOf, Placed, Positive}
+use Rattle.cells.specs.Spots.{spanOf, Spanned, digit, eightOf, spotOf, Positive}
 use Rattle.cells.proofs.RoundMeaning.{AtSpot}
 
 -- ---- positions by their number

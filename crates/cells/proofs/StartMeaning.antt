@@ -1,13 +1,13 @@
 -- The cells with the final weights at the last combination of positions, and all others with the number for "none".
-use mathlib.Core.Path.{_≡_, refl, sym, ap, ap₂, subst, _∙_}
-use mathlib.Core.Bool.{Bool, true, false, false≢true}
-use mathlib.Core.Option.{Option, none, some, Option·none-ne-some, Option·some-injective}
+use mathlib.Core.Path.{_≡_, refl, sym, ap, subst, _∙_}
+use mathlib.Core.Bool.{true, false≢true}
+use mathlib.Core.Option.{none, some, Option·none-ne-some, Option·some-injective}
 use mathlib.Core.List.{List, [], _∷_}
-use Prim.Native.Nat.{ℕ, zero, suc, _+_, _-_, _*_, _/_, _≤_, _<_, min}
+use Prim.Native.Nat.{ℕ, zero, suc, _+_, _-_, _*_, _≤_, _<_}
 use native.Mathlib.Nat.{suc-mul}
 use native.Mathlib.Decide.{ℕ-discrete, decLe}
 use native.Mathlib.Omega.{arith}
-use lib.ListN.{length, getD, drop, replicate, getElem?, length-drop, length-replicate, getD-replicate, drop-of-length-le, List·getD-eq-default}
+use lib.ListN.{length, getD, drop, replicate, length-drop, length-replicate, getD-replicate, drop-of-length-le, List·getD-eq-default}
 use lib.Arith.{digits-lt}
 use lib.Seq.{ext-getD}
 use Rattle.automata.specs.OrderedSum.{ℕ-sum}
@@ -25,7 +25,7 @@ use Rattle.automata.proofs.Cells.{Positions, dropAll, place, place-lt, cell, ce
 use Rattle.memory.specs.Region.{part}
 use Rattle.memory.specs.Endian.{le}
 use Rattle.memory.specs.Answers.{lent}
-use Rattle.memory.specs.Records.{optionOf, stateAs, stateAt}
+use Rattle.memory.specs.Records.{optionOf, stateAt}
 use Rattle.memory.specs.declared.answer.Counts.{Counts}
 use Rattle.memory.specs.declared.record.Weight.{Weight}
 use Rattle.memory.specs.declared.record.Weight.the-variants.{Absent, Present}

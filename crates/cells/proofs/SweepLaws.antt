@@ -1,8 +1,8 @@
 -- One arc and a round over the arcs, from what each call gave.
-use mathlib.Core.Path.{_≡_, refl, sym, ap, ap₂, subst, _∙_}
+use mathlib.Core.Path.{_≡_, refl, sym, ap, subst, _∙_}
 use mathlib.Core.Bool.{Bool, true, false, false≢true}
 use mathlib.Core.Option.{Option, none, some}
-use mathlib.Core.List.{List, [], _∷_}
+use mathlib.Core.List.{List}
 use Prim.Native.Nat.{ℕ, zero, suc, _+_, _-_, _*_, _≤_, _<_, min}
 use native.Mathlib.Omega.{arith}
 use lib.Arith.{digits-lt}
@@ -11,7 +11,6 @@ use lib.Seq.{getD-set-same, getD-set-other, set-out}
 use native.Mathlib.Decide.{ℕ-discrete, decLe}
 use Rattle.automata.specs.Lists.{or}
 use Rattle.automata.specs.Rounds.{iterate}
-use Rattle.automata.proofs.RoundFacts.{iterate-inner}
 use Rattle.memory.specs.Region.{part}
 use Rattle.memory.specs.Endian.{le}
 use Rattle.memory.specs.declared.answer.Counts.{Counts}
@@ -19,7 +18,7 @@ use Rattle.cells.specs.declared.spot.Spot.{Spot}
 use Rattle.cells.specs.declared.moves.Step.{Step}
 use Rattle.cells.specs.declared.moves.Step.the-variants.{Moved, Stuck}
 use Rattle.cells.specs.Moves.{stepAs, movesFrom, Laid}
-use Rattle.cells.specs.Distances.{far, cellsOf, lowered, sum, Trend, Lowers}
+use Rattle.cells.specs.Distances.{cellsOf, lowered, sum, Trend, Lowers}
 use Rattle.cells.specs.Sweeps.{passed, visited, swept, roundOf, Passable, Spaced, Ready, Visits, Sweeps, Settles}
 
 -- the cell of a state and a combination lies in the work space

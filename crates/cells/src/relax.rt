@@ -8,7 +8,7 @@ use crate::spot::Spot;
 use memory::answer::Counts;
 use memory::bytes::get16;
 use memory::bytes::get32;
-ghost use Prim.Native.Nat.{_<_, _*_};
+ghost use Prim.Native.Nat.{_<_};
 ghost use mathlib.Core.Path.{_≡_};
 ghost use Rattle.automata.specs.Lists.{or};
 ghost use Rattle.cells.specs.Sweeps.{Passable, Spaced, Ready, Visits, Sweeps, Settles};

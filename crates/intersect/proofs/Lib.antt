@@ -5,3 +5,4 @@ pub mod PrepareLaws
 pub mod CallLaws
 pub mod ConfigRows
 pub mod SearchLaws
+pub mod StepLaws

@@ -7,13 +7,18 @@ use lib.ListN.{length, replicate}
 use Rattle.automata.specs.Lists.{All}
 use Rattle.automata.specs.TapePair.{Pair}
 use Rattle.automata.specs.Config.{Config}
+use Rattle.automata.specs.Limits.{maxDelay}
+use Rattle.automata.specs.Memory.{Sound}
 use Rattle.automata.proofs.SoundFacts.{sound-holds}
 use Rattle.memory.specs.declared.answer.Judged.the-variants.{Fine}
 use Rattle.memory.specs.declared.answer.Counts.{Counts}
+use Rattle.memory.specs.declared.pair.PairList.{PairList}
 use Rattle.memory.specs.Answers.{lent}
+use Rattle.memory.specs.Pairs.{Named}
 use Rattle.configuration.specs.Configs.{configBytes}
 use Rattle.trimming.specs.Rows.{RowOf, RowsOf}
 use Rattle.trimming.proofs.StateModel.{rows-of-codes}
+use Rattle.workspace.specs.declared.room.Room.{Room}
 use Rattle.workspace.specs.Room.{Divides}
 use Rattle.exploration.specs.declared.plan.Plan.{Plan}
 use Rattle.exploration.specs.Held.{configOf, rowOf, Stored}
@@ -64,20 +69,25 @@ module _ (p : Plan) (states arcs : List ℕ) (size : ℕ) (x : Explorable p stat
     searched = searched;
   }
 
--- what was judged before the search is what it asks for
-pub explorable : (c : Counts) (states arcs : List ℕ) (ps : List Pair) (D forStates forArcs work limit : ℕ) (r : Prepared) → Prepares (lent c states arcs) ps D forStates forArcs work r
-    → r .judged ≡ Fine → limit ≡ D
-    → Explorable (record { counts = c; pairs = r .pairs; limit = limit; room = r .room }) states arcs work
-explorable c states arcs ps D forStates forArcs work limit r p e l =
-    let d = p .divides e in
-    record {
-      sound = p .sound e;
-      named = p .named e;
-      four-pairs = p .four e;
-      limit-fits = omega (arith, p .limit-fits e);
-      configs-fit = d .configs-fit;
-      edges-fit = d .edges-fit;
-      delays-fit = d .delays-fit;
-      few-states = omega (arith, d .state-cap);
-      few-arcs = omega (arith, d .arc-cap);
-    }
+-- a table, pairs of its tapes, a limit and the parts of the work space are what the search asks for
+pub searchable : (c : Counts) (states arcs : List ℕ) (pairs : PairList) (limit : ℕ) (room : Room) (forStates forArcs work : ℕ)
+    → Sound (lent c states arcs) → Named (c .tapes) pairs → length (pairs .pairs) ≡ 4 → limit ≤ maxDelay → Divides forStates forArcs (c .states) work room
+    → Explorable (record { counts = c; pairs = pairs; limit = limit; room = room }) states arcs work
+searchable c states arcs pairs limit room forStates forArcs work s n f l d = record {
+  sound = s;
+  named = n;
+  four-pairs = f;
+  limit-fits = omega (arith, l);
+  configs-fit = d .configs-fit;
+  edges-fit = d .edges-fit;
+  delays-fit = d .delays-fit;
+  few-states = omega (arith, d .state-cap);
+  few-arcs = omega (arith, d .arc-cap);
+}
+
+-- what was judged before the search
+pub explorable : (c : Counts) (states arcs : List ℕ) (ps : List Pair) (D forStates forArcs work : ℕ) (r : Prepared)
+    → Prepares (lent c states arcs) ps D forStates forArcs work r → r .judged ≡ Fine
+    → Explorable (record { counts = c; pairs = r .pairs; limit = D; room = r .room }) states arcs work
+explorable c states arcs ps D forStates forArcs work r p e =
+    searchable c states arcs (r .pairs) D (r .room) forStates forArcs work (p .sound e) (p .named e) (p .four e) (p .limit-fits e) (p .divides e)

@@ -2,3 +2,4 @@
 pub mod Standing
 pub mod Searched
 pub mod Prepared
+pub mod Step

@@ -14,6 +14,8 @@ use Rattle.automata.specs.Calls.Intersect.{intersectAnswer}
 use Rattle.memory.specs.declared.answer.Judged.the-variants.{Fine}
 use Rattle.memory.specs.Answers.{judgedAs}
 use Rattle.memory.specs.Pairs.{pairsAs, Named}
+use Rattle.pairs.specs.declared.PairsJudged.{PairsJudged}
+use Rattle.pairs.specs.Judgement.{KeepJudged}
 use Rattle.workspace.specs.Room.{lentSpace, Divides}
 use Rattle.intersect.specs.declared.prepare.Prepared.{Prepared}
 
@@ -31,3 +33,12 @@ pub record Prepares (m : Memory) (ps : List Pair) (D states arcs work : ℕ) (r 
   pub named : r .judged ≡ Fine → Named (m .tapes) (r .pairs)
   pub limit-fits : r .judged ≡ Fine → D ≤ maxDelay
   pub divides : r .judged ≡ Fine → Divides states arcs (m .states) work (r .room)
+
+-- so for whatever pairs and limit the list was judged
+abbrev pub PreparesFor : Memory → PairsJudged → ℕ → ℕ → ℕ → Prepared → Type 0
+PreparesFor m listed states arcs work r = (ps : List Pair) (D : ℕ) → KeepJudged ps (m .tapes) D listed → Prepares m ps D states arcs work r
+
+-- pairs were judged for a table with so many tapes, with this limit
+pub record Listed (tapes limit : ℕ) (listed : PairsJudged) : Type 0 where
+  pub pairs : List Pair
+  pub judged : KeepJudged pairs tapes limit listed

@@ -3,3 +3,4 @@ pub mod call;
 pub mod finish;
 pub mod keep;
 pub mod prepare;
+pub mod step;

@@ -4,13 +4,12 @@ use memory::answer::Judged;
 use memory::answer::Refusal;
 use memory::judge::judge;
 use memory::pair::PairList;
-use pairs::judge_pairs;
+use pairs::PairsJudged;
 use workspace::room::Room;
 use workspace::room::room_for;
 ghost use mathlib.Core.Path.{_≡_};
 ghost use Rattle.memory.specs.Answers.{judgedAs, lent};
-ghost use Rattle.pairs.specs.PairBytes.{pairsOf};
-ghost use Rattle.intersect.specs.Prepared.{inTurn, Prepares};
+ghost use Rattle.intersect.specs.Prepared.{inTurn, PreparesFor};
 
 // The first refusal, and where there is none the pairs by value and the parts of the work space.
 pub struct Prepared {
@@ -36,21 +35,19 @@ fn in_turn(table: Judged, pairs: Judged, enough: bool) -> Judged
     }
 }
 
-// The table, the pairs and the work space of so many bytes for a result of so many states and arcs, judged in this order.
+// The table, the pairs that were judged and the work space of so many bytes for a result of so many states and arcs, in this order.
 pub fn prepare(
     counts: Counts,
     states: &[u8],
     arcs: &[u8],
-    pairs: &[u8],
-    limit: usize,
+    listed: PairsJudged,
     lent_states: usize,
     lent_arcs: usize,
     work: usize,
 ) -> Prepared
-    ensures { λ r. ⌜ Prepares (lent counts (now (states .entry)) (now (arcs .entry))) (pairsOf (now (pairs .entry))) limit «lent_states» «lent_arcs» work r ⌝ }
+    ensures { λ r. ⌜ PreparesFor (lent counts (now (states .entry)) (now (arcs .entry))) listed «lent_states» «lent_arcs» work r ⌝ }
 {
     let table = judge(counts, states, arcs);
-    let listed = judge_pairs(pairs, counts.tapes, limit);
     let answer = room_for(lent_states, lent_arcs, counts.states, work);
     let fit = listed.judged;
     let list = listed.pairs;

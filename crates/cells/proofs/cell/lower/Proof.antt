@@ -9,33 +9,26 @@ use Rattle.cells.proofs.cell.lower.Lts as lts
 use Rattle.cells.proofs.cell.weight_at.Reads as weight-at-reads
 use Rattle.memory.proofs.bytes.put64.Reads as put64-reads
 
--- src/cell.rt:30:12
 weight-at-requires : tie.Need-weight-at-requires
 weight-at-requires c κs = search needs
 
--- src/cell.rt:31:21
 mul-put64 : tie.Need-mul-put64
 mul-put64 c = search needs
 
--- src/cell.rt:31:9
 put64-requires : tie.Need-put64-requires
 put64-requires c κs = search needs
 
--- src/cell.rt:32:9
 same-length : tie.Need-same-length
 same-length c = search needs
 
--- src/cell.rt:32:9
 returns : tie.Need-returns
 returns c =
     let s = c .before .before .before .before .before .before .before .before in
     lowers-stored _ _ _ _ (s .pre) (c .before .before .before .before .before .weight-at .ensures) _ (c .before .before .before .before .if1 .taken) (search needs) (c .before .before .put64 .ensures)
 
--- src/cell.rt:26:1
 same-length-2 : tie.Need-same-length-2
 same-length-2 c = search needs
 
--- src/cell.rt:26:1
 returns-2 : tie.Need-returns-2
 returns-2 c =
     let s = c .before .before .before .before in

@@ -8,15 +8,12 @@ use Rattle.cells.proofs.cell.weight_at.Reads as reads
 use Rattle.cells.proofs.cell.weight_at.Lts as lts
 use Rattle.memory.proofs.bytes.get64.Reads as get64-reads
 
--- src/cell.rt:22:17
 mul-get64 : tie.Need-mul-get64
 mul-get64 c = search needs
 
--- src/cell.rt:22:5
 get64-requires : tie.Need-get64-requires
 get64-requires c κs = search needs
 
--- src/cell.rt:18:1
 returns : tie.Need-returns
 returns c = c .get64 .ensures ∙ cells-get _ _ (c .before .before .pre)
 

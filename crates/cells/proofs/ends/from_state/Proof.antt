@@ -1,8 +1,7 @@
 -- `cells::ends::from_state` meets its contract. Assumes nothing.
 use Rattle.cells.proofs.EndLaws.{from-none, from-some}
-use Prim.Native.Nat.{ℕ, _+_, _-_, _*_, _≤_, _<_}
-use mathlib.Core.Path.{_≡_, refl, sym, ap, subst, _∙_}
-use native.Mathlib.Omega.{arith}
+use Prim.Native.Nat.{ℕ, _≤_}
+use mathlib.Core.Path.{sym, ap, subst, _∙_}
 use denote.Ref.{now}
 use lib.ListN.{getD}
 use Rattle.cells.specs.Distances.{cellsOf}
@@ -15,39 +14,30 @@ use Rattle.cells.proofs.cell.cell_number.Reads as cell-number-reads
 use Rattle.cells.proofs.cell.weight_at.Reads as weight-at-reads
 use Rattle.memory.proofs.record.load_state.Reads as load-state-reads
 
--- src/ends.rt:48:36
 mul-load-state : tie.Need-mul-load-state
 mul-load-state c = search needs
 
--- src/ends.rt:48:9
 load-state-requires : tie.Need-load-state-requires
 load-state-requires c κs = search needs
 
--- src/ends.rt:50:25
 enum-known-initial : tie.Need-enum-known-initial
 enum-known-initial c = search needs
 
--- src/ends.rt:51:9
 enum-told : tie.Need-enum-told
 enum-told c = search needs
 
--- src/ends.rt:51:9
 returns : tie.Need-returns
 returns c = from-none _ _ _ _ _ (c .before .before .load-state .ensures) (c .enum-told .given .1)
 
--- src/ends.rt:53:9
 cell-number-requires : tie.Need-cell-number-requires
 cell-number-requires c κs = search needs
 
--- src/ends.rt:54:5
 cast-result : tie.Need-cast-result
 cast-result c = search needs
 
--- src/ends.rt:54:16
 weight-at-requires : tie.Need-weight-at-requires
 weight-at-requires c κs = search needs
 
--- src/ends.rt:54:5
 add-result : tie.Need-add-result
 add-result c =
     let s = c .before .before .before .before .before .before .before .before in
@@ -56,7 +46,6 @@ add-result c =
     let g : c .weight-at .result ≤ 1157442765409226768 = subst (λ (z : ℕ). z ≤ 1157442765409226768) (sym (f ∙ ap (λ (k : ℕ). getD (cellsOf (now (s .args .work))) k 0) e)) (s .pre .3) in
     search needs
 
--- src/ends.rt:44:1
 returns-2 : tie.Need-returns-2
 returns-2 c = from-some _ _ _ _ _ (c .before .before .before .before .before .load-state .ensures) _ _ _ (c .before .before .before .initial .given .1) (c .before .cell-number .ensures) (c .weight-at .ensures)
 

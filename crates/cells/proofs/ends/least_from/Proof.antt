@@ -1,7 +1,7 @@
 -- `cells::ends::least_from` meets its contract. Assumes nothing.
 use Rattle.cells.proofs.EndLaws.{state-room, least-turn, least-first, answer-some, answer-none}
-use Prim.Native.Nat.{ℕ, _+_, _-_, _*_, _≤_, _<_}
-use mathlib.Core.Path.{_≡_, refl, sym, ap, _∙_}
+use Prim.Native.Nat.{_-_, _≤_}
+use mathlib.Core.Path.{_≡_, refl}
 use native.Mathlib.Omega.{arith}
 use Rattle.cells.specs.Distances.{cellsOf}
 use Rattle.cells.specs.Ends.{leastUpTo}
@@ -19,43 +19,35 @@ Inv-loop states count all work least₀ q₀ least q = (q ≤ count) × (least �
 abbrev μ-loop : tie.MeasureT-loop
 μ-loop states count all work least₀ q₀ least q = count - q
 
--- src/ends.rt:74:5
 loop-holds : tie.Need-loop-holds Inv-loop μ-loop
 loop-holds c = (omega arith, least-first _ _ _)
 
--- src/ends.rt:75:31
 from-state-requires : tie.Need-from-state-requires Inv-loop μ-loop
 from-state-requires c κs =
     let s = c .before .before .before .before in
     let r = state-room _ _ _ _ _ _ (s .pre .0) refl (c .loop-test .taken) in
     (r .0, r .1, r .2, s .pre .1 _)
 
--- src/ends.rt:75:9
 lesser-requires : tie.Need-lesser-requires Inv-loop μ-loop
 lesser-requires c κs = search needs
 
--- src/ends.rt:76:9
 add-q : tie.Need-add-q Inv-loop μ-loop
 add-q c = search needs
 
--- src/ends.rt:74:5
 loop-less : tie.Need-loop-less Inv-loop μ-loop
 loop-less c = search needs
 
--- src/ends.rt:74:5
 loop-again : tie.Need-loop-again Inv-loop μ-loop
 loop-again c =
     let l = c .before .before .before .loop in
     (omega (arith, c .before .before .loop-test .taken), least-turn _ _ _ _ _ _ _ (l .inv .1) (c .before .from-state .ensures) (c .lesser .ensures))
 
--- src/ends.rt:79:9
 returns : tie.Need-returns Inv-loop μ-loop
 returns c =
     let l = c .before .before .loop in
     let e : l .q ≡ c .before .before .before .before .before .args .count = omega (arith, l .inv .0, c .before .loop-test .left) in
     answer-some _ _ _ _ _ _ (l .inv .1) e (c .if1 .taken)
 
--- src/ends.rt:68:1
 returns-2 : tie.Need-returns-2 Inv-loop μ-loop
 returns-2 c =
     let l = c .before .before .loop in

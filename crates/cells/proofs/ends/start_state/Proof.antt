@@ -1,8 +1,5 @@
 -- `cells::ends::start_state` meets its contract. Assumes nothing.
 use Rattle.cells.proofs.EndLaws.{starts-none, starts-some}
-use Prim.Native.Nat.{ℕ, _+_, _-_, _*_, _≤_, _<_}
-use mathlib.Core.Path.{_≡_, refl, sym, _∙_}
-use native.Mathlib.Omega.{arith}
 use borrow.Author.Needs.{needs}
 use Rattle.cells.proofs.ends.start_state.Statement.{statement}
 use Rattle.cells.proofs.ends.start_state.Tie as tie
@@ -12,47 +9,36 @@ use Rattle.cells.proofs.cell.cell_number.Reads as cell-number-reads
 use Rattle.cells.proofs.cell.lower.Reads as lower-reads
 use Rattle.memory.proofs.record.load_state.Reads as load-state-reads
 
--- src/ends.rt:20:36
 mul-load-state : tie.Need-mul-load-state
 mul-load-state c = search needs
 
--- src/ends.rt:20:9
 load-state-requires : tie.Need-load-state-requires
 load-state-requires c κs = search needs
 
--- src/ends.rt:22:25
 enum-known-last : tie.Need-enum-known-last
 enum-known-last c = search needs
 
--- src/ends.rt:23:9
 enum-told : tie.Need-enum-told
 enum-told c = search needs
 
--- src/ends.rt:23:9
 returns : tie.Need-returns
 returns c = starts-none _ _ _ _ (c .before .before .load-state .ensures) _ (c .enum-told .given .1)
 
--- src/ends.rt:25:33
 sub-cell-number : tie.Need-sub-cell-number
 sub-cell-number c = search needs
 
--- src/ends.rt:25:9
 cell-number-requires : tie.Need-cell-number-requires
 cell-number-requires c κs = search needs
 
--- src/ends.rt:26:20
 cast-lower : tie.Need-cast-lower
 cast-lower c = search needs
 
--- src/ends.rt:26:5
 lower-requires : tie.Need-lower-requires
 lower-requires c κs = search needs
 
--- src/ends.rt:16:1
 same-length : tie.Need-same-length
 same-length c = search needs
 
--- src/ends.rt:16:1
 returns-2 : tie.Need-returns-2
 returns-2 c = starts-some _ _ _ _ (c .before .before .before .before .before .before .before .before .load-state .ensures) _ _ _ _ _ (c .before .before .before .before .before .before .last .given .1) (c .before .before .before .before .cell-number .ensures) (c .before .before .lower .ensures)
 

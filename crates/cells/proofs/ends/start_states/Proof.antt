@@ -1,7 +1,6 @@
 -- `cells::ends::start_states` meets its contract. Assumes nothing.
 use Rattle.cells.proofs.EndLaws.{state-room, Starting, start-first, start-turn, start-end}
-use Prim.Native.Nat.{ℕ, _+_, _-_, _*_, _≤_, _<_}
-use mathlib.Core.Path.{_≡_, refl, sym, _∙_}
+use Prim.Native.Nat.{_-_}
 use native.Mathlib.Omega.{arith}
 use borrow.Author.Needs.{needs}
 use Rattle.cells.proofs.ends.start_states.Statement.{statement}
@@ -16,38 +15,30 @@ Inv-loop states count all work₀ q₀ left₀ work q left = Starting states cou
 abbrev μ-loop : tie.MeasureT-loop
 μ-loop states count all work₀ q₀ left₀ work q left = left
 
--- src/ends.rt:36:5
 loop-holds : tie.Need-loop-holds Inv-loop μ-loop
 loop-holds c = start-first _ _ _ _
 
--- src/ends.rt:37:9
 start-state-requires : tie.Need-start-state-requires Inv-loop μ-loop
 start-state-requires c κs =
     let s = c .before .before .before .before .before in
     let l = c .before .before .loop in
     state-room _ _ _ _ _ _ (s .pre) (l .inv .same-length) (omega (arith, l .inv .place-is, c .before .loop-test .taken))
 
--- src/ends.rt:38:9
 add-q : tie.Need-add-q Inv-loop μ-loop
 add-q c = let l = c .before .before .before .before .before .loop in omega (arith, l .inv .place-is, c .before .before .before .before .loop-test .taken, c .before .before .before .before .before .before .before .before .pre .lent)
 
--- src/ends.rt:39:9
 sub-left : tie.Need-sub-left Inv-loop μ-loop
 sub-left c = search needs
 
--- src/ends.rt:36:5
 loop-less : tie.Need-loop-less Inv-loop μ-loop
 loop-less c = search needs
 
--- src/ends.rt:36:5
 loop-again : tie.Need-loop-again Inv-loop μ-loop
 loop-again c = let l = c .before .before .before .before .before .loop in start-turn _ _ _ _ _ (l .left) (l .left - 1) _ (l .inv) _ (omega (arith, c .before .before .before .before .loop-test .taken)) (c .before .before .start-state .ensures)
 
--- src/ends.rt:30:1
 same-length : tie.Need-same-length Inv-loop μ-loop
 same-length c = c .before .loop .inv .same-length
 
--- src/ends.rt:30:1
 returns : tie.Need-returns Inv-loop μ-loop
 returns c = let l = c .before .loop in start-end _ _ _ _ _ (l .left) (l .left) _ (l .inv) (omega (arith, c .loop-test .left))
 

@@ -1,10 +1,10 @@
 -- `cells::fill::least_weight` meets its contract. Assumes nothing.
 use Rattle.cells.proofs.FillLaws.{Filling, fillable-kept, placed, stated, positive, fill-start, fill-below, fill-stated, fill-requires, fill-turn, fill-end}
-use Prim.Native.Nat.{ℕ, _+_, _-_, _*_, _≤_, _<_}
-use lib.ListN.{length, length-replicate}
+use Prim.Native.Nat.{_-_, _<_}
+use lib.ListN.{length}
 use denote.Ref.{now}
 use Rattle.cells.proofs.StartMeaning.{sixteens}
-use mathlib.Core.Path.{_≡_, refl, sym, ap, _∙_}
+use mathlib.Core.Path.{sym, ap, _∙_}
 use native.Mathlib.Omega.{arith}
 use borrow.Author.Needs.{needs}
 use Rattle.cells.proofs.fill.least_weight.Statement.{statement}
@@ -24,24 +24,20 @@ Inv-loop counts states arcs text strings work₀ spans left₀ work left = Filli
 abbrev μ-loop : tie.MeasureT-loop
 μ-loop counts states arcs text strings work₀ spans left₀ work left = left
 
--- src/fill.rt:35:9
 spans-of-requires : tie.Need-spans-of-requires Inv-loop μ-loop
 spans-of-requires c κs =
     let s = c .before .before .before .before in
     let k : length (now (s .args .text)) < 18446744073709551616 = search needs in
     placed _ _ _ _ _ _ (s .pre) k
 
--- src/fill.rt:36:5
 clear-cells-requires : tie.Need-clear-cells-requires Inv-loop μ-loop
 clear-cells-requires c κs = search needs
 
--- src/fill.rt:37:5
 start-states-requires : tie.Need-start-states-requires Inv-loop μ-loop
 start-states-requires c κs =
     let s = c .before .before .before .before .before .before .before .before .before .before in
     stated _ _ _ _ _ _ (s .pre) _ (c .before .before .before .before .before .spans-of .ensures) _ (c .before .before .before .clear-cells .kept .0)
 
--- src/fill.rt:39:5
 loop-holds : tie.Need-loop-holds Inv-loop μ-loop
 loop-holds c =
     let s = c .before .before .before .before .before .before .before .before .before .before .before .before .before in
@@ -49,11 +45,9 @@ loop-holds c =
     let f = fillable-kept _ _ _ _ _ n (s .pre) in
     fill-start _ _ _ _ _ _ f _ (c .before .before .before .before .before .before .before .before .spans-of .ensures) _ _ (c .before .before .before .before .before .before .clear-cells .ensures ∙ ap sixteens (sym n)) (c .before .before .start-states .ensures)
 
--- src/fill.rt:40:9
 sub-left : tie.Need-sub-left Inv-loop μ-loop
 sub-left c = search needs
 
--- src/fill.rt:41:13
 spot-at-requires : tie.Need-spot-at-requires Inv-loop μ-loop
 spot-at-requires c κs =
     let s = c .before .before .before .before .before .before .before .before .before .before .before .before .before .before .before in
@@ -61,7 +55,6 @@ spot-at-requires c κs =
     let k : length (now (s .args .text)) < 18446744073709551616 = search needs in
     (placed _ _ _ _ _ _ (s .pre) k, positive _ _ _ _ _ _ (s .pre) _ (l .inv .spanned))
 
--- src/fill.rt:42:9
 settle-requires : tie.Need-settle-requires Inv-loop μ-loop
 settle-requires c κs =
     let s = c .before .before .before .before .before .before .before .before .before .before .before .before .before .before .before .before .before in
@@ -70,11 +63,9 @@ settle-requires c κs =
     let l = c .before .before .before .loop in
     fill-requires _ _ _ _ _ _ f _ (l .left) (l .left - 1) _ (l .inv) (omega (arith, c .before .before .loop-test .taken)) _ (c .before .spot-at .ensures)
 
--- src/fill.rt:39:5
 loop-less : tie.Need-loop-less Inv-loop μ-loop
 loop-less c = search needs
 
--- src/fill.rt:39:5
 loop-again : tie.Need-loop-again Inv-loop μ-loop
 loop-again c =
     let s = c .before .before .before .before .before .before .before .before .before .before .before .before .before .before .before .before .before .before .before .before in
@@ -83,7 +74,6 @@ loop-again c =
     let l = c .before .before .before .before .before .before .loop in
     fill-turn _ _ _ _ _ _ f _ (l .left) (l .left - 1) _ (l .inv) (omega (arith, c .before .before .before .before .before .loop-test .taken)) _ (c .before .before .before .before .spot-at .ensures) _ (c .before .before .settle .ensures)
 
--- src/fill.rt:44:5
 least-from-requires : tie.Need-least-from-requires Inv-loop μ-loop
 least-from-requires c κs =
     let s = c .before .before .before .before .before .before .before .before .before .before .before .before .before .before .before .before in
@@ -92,11 +82,9 @@ least-from-requires c κs =
     let l = c .before .before .loop in
     (fill-stated _ _ _ _ _ _ f _ (l .left) (l .left) _ (l .inv), fill-below _ _ _ _ _ _ f _ (l .left) (l .left) _ (l .inv))
 
--- src/fill.rt:24:1
 same-length : tie.Need-same-length Inv-loop μ-loop
 same-length c = c .before .before .before .loop .inv .same-length ∙ c .before .before .before .before .before .before .start-states .ensures .same-length ∙ c .before .before .before .before .before .before .before .before .before .before .clear-cells .kept .0
 
--- src/fill.rt:24:1
 returns : tie.Need-returns Inv-loop μ-loop
 returns c =
     let s = c .before .before .before .before .before .before .before .before .before .before .before .before .before .before .before .before .before in

@@ -9,37 +9,29 @@ use Rattle.cells.proofs.moves.move_tape.Reads as reads
 use Rattle.cells.proofs.moves.move_tape.Lts as lts
 use Rattle.cells.proofs.moves.same_bytes.Reads as same-bytes-reads
 
--- src/moves.rt:40:13
 shared-slice-read-n : tie.Need-shared-slice-read-n
 shared-slice-read-n c = search needs
 
--- src/moves.rt:40:13
 cast-n : tie.Need-cast-n
 cast-n c = search needs
 
--- src/moves.rt:42:9
 returns : tie.Need-returns
 returns c = move-long _ _ _ _ _ _ (c .if1 .taken)
 
--- src/moves.rt:44:26
 add-same-bytes : tie.Need-add-same-bytes
 add-same-bytes c = search needs
 
--- src/moves.rt:44:9
 same-bytes-requires : tie.Need-same-bytes-requires
 same-bytes-requires c κs = search needs
 
--- src/moves.rt:45:9
 returns-2 : tie.Need-returns-2
 returns-2 c = move-differs _ _ _ _ _ _ (omega (arith, c .before .before .if1 .left)) _ (c .before .same-bytes .ensures) (c .if2 .taken)
 
--- src/moves.rt:47:17
 mul-t11 : tie.Need-mul-t11
 mul-t11 c =
     let s = c .before .before .before .before .before .before in
     omega (arith, mul-le-mul (s .pre .1) (s .pre .3))
 
--- src/moves.rt:36:1
 returns-3 : tie.Need-returns-3
 returns-3 c = move-same _ _ _ _ _ _ (omega (arith, c .before .before .if1 .left)) _ (c .before .same-bytes .ensures) (c .if2 .left)
 

@@ -1,7 +1,7 @@
 -- `cells::moves::moved_on` meets its contract. Assumes nothing.
 use Rattle.cells.proofs.MoveLaws.{moves-stuck, moves-turn, turn-bound, moves-end}
 use Rattle.cells.specs.Moves.{movesFrom}
-use Prim.Native.Nat.{ℕ, _+_, _-_, _*_, _≤_, _<_}
+use Prim.Native.Nat.{ℕ, _+_, _-_, _*_, _≤_}
 use mathlib.Core.Path.{_≡_, refl, sym, subst, _∙_}
 use lib.ListN.{getD}
 use native.Mathlib.Omega.{arith}
@@ -20,35 +20,27 @@ Inv-loop arcs at tapes text spot total₀ from₀ h₀ left₀ total from h left
 abbrev μ-loop : tie.MeasureT-loop
 μ-loop arcs at tapes text spot total₀ from₀ h₀ left₀ total from h left = left
 
--- src/moves.rt:59:5
 loop-holds : tie.Need-loop-holds Inv-loop μ-loop
 loop-holds c = (search needs, omega arith, omega arith, refl)
 
--- src/moves.rt:60:48
 mul-move-tape : tie.Need-mul-move-tape Inv-loop μ-loop
 mul-move-tape c = search needs
 
--- src/moves.rt:60:48
 element-copy-out-move-tape : tie.Need-element-copy-out-move-tape Inv-loop μ-loop
 element-copy-out-move-tape c = search needs
 
--- src/moves.rt:60:64
 mul-move-tape-2 : tie.Need-mul-move-tape-2 Inv-loop μ-loop
 mul-move-tape-2 c = search needs
 
--- src/moves.rt:60:64
 element-copy-out-move-tape-2 : tie.Need-element-copy-out-move-tape-2 Inv-loop μ-loop
 element-copy-out-move-tape-2 c = search needs
 
--- src/moves.rt:60:81
 mul-move-tape-3 : tie.Need-mul-move-tape-3 Inv-loop μ-loop
 mul-move-tape-3 c = search needs
 
--- src/moves.rt:60:81
 element-copy-out-move-tape-3 : tie.Need-element-copy-out-move-tape-3 Inv-loop μ-loop
 element-copy-out-move-tape-3 c = search needs
 
--- src/moves.rt:60:13
 move-tape-requires : tie.Need-move-tape-requires Inv-loop μ-loop
 move-tape-requires c κs =
     let s = c .before .before .before .before .before .before .before in
@@ -62,22 +54,18 @@ move-tape-requires c κs =
       q .small (l .h),
     )
 
--- src/moves.rt:61:25
 enum-known-step : tie.Need-enum-known-step Inv-loop μ-loop
 enum-known-step c = search needs
 
--- src/moves.rt:62:13
 enum-told : tie.Need-enum-told Inv-loop μ-loop
 enum-told c = search needs
 
--- src/moves.rt:62:13
 returns : tie.Need-returns Inv-loop μ-loop
 returns c =
     let l = c .before .before .before .before .before .before .before .loop in
     let k = c .before .before .before .before .before .before .loop-test .taken in
     moves-stuck (l .left) (l .left - 1) _ _ _ _ _ _ _ (omega (arith, k)) (c .before .before .move-tape .ensures) (c .enum-told .given .1) ∙ l .inv .3
 
--- src/moves.rt:64:9
 add-total : tie.Need-add-total Inv-loop μ-loop
 add-total c =
     let s = c .before .before .before .before .before .before .before .before .before .before .before in
@@ -87,23 +75,18 @@ add-total c =
     (subst (λ (i : ℕ). getD (s .args .arcs .now) i 0 ≤ 8) (sym (l .inv .1)) (s .pre .0 .short (l .h) (omega (arith, k, s .pre .1 .few, l .inv .0)))) (s .pre .1 .small (l .h)) in
     omega (arith, b, k, l .inv .0, l .inv .2, s .pre .1 .few)
 
--- src/moves.rt:65:9
 add-from : tie.Need-add-from Inv-loop μ-loop
 add-from c = search needs
 
--- src/moves.rt:66:9
 add-h : tie.Need-add-h Inv-loop μ-loop
 add-h c = search needs
 
--- src/moves.rt:67:9
 sub-left : tie.Need-sub-left Inv-loop μ-loop
 sub-left c = search needs
 
--- src/moves.rt:59:5
 loop-less : tie.Need-loop-less Inv-loop μ-loop
 loop-less c = search needs
 
--- src/moves.rt:59:5
 loop-again : tie.Need-loop-again Inv-loop μ-loop
 loop-again c =
     let l = c .before .before .before .before .before .before .before .before .loop in
@@ -117,7 +100,6 @@ loop-again c =
       moves-turn (l .left) (l .left - 1) _ _ _ _ _ _ _ (omega (arith, k)) (c .before .before .before .move-tape .ensures) _ (c .before .step .given .1) ∙ l .inv .3,
     )
 
--- src/moves.rt:51:1
 returns-2 : tie.Need-returns-2 Inv-loop μ-loop
 returns-2 c = let l = c .before .loop in moves-end (l .left) _ _ _ _ _ _ (omega (arith, c .loop-test .left)) ∙ l .inv .3
 

@@ -4,8 +4,8 @@ use Rattle.automata.specs.Lists.{sameList}
 use Rattle.memory.specs.Region.{part}
 use lib.ListN.{length}
 use native.Mathlib.Omega.{arith}
-use Prim.Native.Nat.{_+_, _-_, _*_, _≤_}
-use mathlib.Core.Path.{_≡_, refl, sym, _∙_}
+use Prim.Native.Nat.{_+_, _-_, _≤_}
+use mathlib.Core.Path.{_≡_, _∙_}
 use borrow.Author.Needs.{needs}
 use Rattle.cells.proofs.moves.same_bytes.Statement.{statement}
 use Rattle.cells.proofs.moves.same_bytes.Tie as tie
@@ -19,41 +19,32 @@ Inv-loop x i y j n left₀ a₀ b₀ left a b =
 abbrev μ-loop : tie.MeasureT-loop
 μ-loop x i y j n left₀ a₀ b₀ left a b = left
 
--- src/moves.rt:24:5
 loop-holds : tie.Need-loop-holds Inv-loop μ-loop
 loop-holds c = search needs
 
--- src/moves.rt:25:12
 shared-slice-read-if1 : tie.Need-shared-slice-read-if1 Inv-loop μ-loop
 shared-slice-read-if1 c = search needs
 
--- src/moves.rt:25:20
 shared-slice-read-if1-2 : tie.Need-shared-slice-read-if1-2 Inv-loop μ-loop
 shared-slice-read-if1-2 c = search needs
 
--- src/moves.rt:26:13
 returns : tie.Need-returns Inv-loop μ-loop
 returns c =
     let l = c .before .before .before .before .loop in let k = c .before .before .before .loop-test .taken in
     same-not _ _ (l .left) (l .left - 1) _ _ (omega (arith, k)) (omega (arith, k, l .inv .0)) (omega (arith, k, l .inv .1)) (c .if1 .taken) ∙ l .inv .2
 
--- src/moves.rt:28:9
 add-a : tie.Need-add-a Inv-loop μ-loop
 add-a c = search needs
 
--- src/moves.rt:29:9
 add-b : tie.Need-add-b Inv-loop μ-loop
 add-b c = search needs
 
--- src/moves.rt:30:9
 sub-left : tie.Need-sub-left Inv-loop μ-loop
 sub-left c = search needs
 
--- src/moves.rt:24:5
 loop-less : tie.Need-loop-less Inv-loop μ-loop
 loop-less c = search needs
 
--- src/moves.rt:24:5
 loop-again : tie.Need-loop-again Inv-loop μ-loop
 loop-again c =
     let l = c .before .before .before .before .loop in let k = c .before .before .before .loop-test .taken in (
@@ -62,7 +53,6 @@ loop-again c =
       same-turn _ _ (l .left) (l .left - 1) _ _ (omega (arith, k)) (omega (arith, k, l .inv .0)) (omega (arith, k, l .inv .1)) (c .if1 .left) ∙ l .inv .2,
     )
 
--- src/moves.rt:17:1
 returns-2 : tie.Need-returns-2 Inv-loop μ-loop
 returns-2 c = same-end _ _ (c .before .loop .left) _ _ (omega (arith, c .loop-test .left)) ∙ c .before .loop .inv .2
 

@@ -1,7 +1,6 @@
 -- `cells::relax::relax_arc` meets its contract. Assumes nothing.
 use Rattle.cells.proofs.SweepLaws.{cell-fits, visits-stuck, leads-to, visits-moved}
-use Prim.Native.Nat.{ℕ, _+_, _*_, _≤_, _<_}
-use mathlib.Core.Path.{_≡_, sym, subst, _∙_}
+use Prim.Native.Nat.{_<_}
 use native.Mathlib.Omega.{arith}
 use borrow.Author.Needs.{needs}
 use Rattle.cells.proofs.relax.relax_arc.Statement.{statement}
@@ -15,35 +14,27 @@ use Rattle.cells.proofs.moves.moved_on.Reads as moved-on-reads
 use Rattle.memory.proofs.bytes.get16.Reads as get16-reads
 use Rattle.memory.proofs.bytes.get32.Reads as get32-reads
 
--- src/relax.rt:23:31
 add-moved-on : tie.Need-add-moved-on
 add-moved-on c = search needs
 
--- src/relax.rt:23:9
 moved-on-requires : tie.Need-moved-on-requires
 moved-on-requires c κs = search needs
 
--- src/relax.rt:24:21
 enum-known-step : tie.Need-enum-known-step
 enum-known-step c = search needs
 
--- src/relax.rt:25:9
 enum-told : tie.Need-enum-told
 enum-told c = search needs
 
--- src/relax.rt:25:9
 returns : tie.Need-returns
 returns c = visits-stuck _ _ _ _ _ _ (c .before .before .moved-on .ensures) _ (c .enum-told .given .1)
 
--- src/relax.rt:27:30
 get16-requires : tie.Need-get16-requires
 get16-requires c κs = search needs
 
--- src/relax.rt:27:30
 cast-cell-number : tie.Need-cast-cell-number
 cast-cell-number c = search needs
 
--- src/relax.rt:27:9
 cell-number-requires : tie.Need-cell-number-requires
 cell-number-requires c κs =
     let s = c .before .before .before .before .before .before .before .before in
@@ -51,26 +42,21 @@ cell-number-requires c κs =
     let f = cell-fits _ _ _ _ _ (s .pre .2) g (s .pre .2 .number-is) in
     search needs
 
--- src/relax.rt:28:42
 add-get16 : tie.Need-add-get16
 add-get16 c = search needs
 
--- src/relax.rt:28:30
 get16-requires-2 : tie.Need-get16-requires-2
 get16-requires-2 c κs = search needs
 
--- src/relax.rt:28:30
 cast-cell-number-2 : tie.Need-cast-cell-number-2
 cast-cell-number-2 c = search needs
 
--- src/relax.rt:28:70
 add-cell-number : tie.Need-add-cell-number
 add-cell-number c =
     let s = c .before .before .before .before .before .before .before .before .before .before .before in
     let l = leads-to _ _ _ _ _ _ (c .before .before .before .before .before .before .before .moved-on .ensures) _ _ (c .before .before .before .before .before .step .given .1) (s .pre .1) in
     search needs
 
--- src/relax.rt:28:9
 cell-number-requires-2 : tie.Need-cell-number-requires-2
 cell-number-requires-2 c κs =
     let s = c .before .before .before .before .before .before .before .before .before .before .before in
@@ -79,19 +65,15 @@ cell-number-requires-2 c κs =
     let f = cell-fits _ _ _ _ _ (s .pre .2) g l in
     search needs
 
--- src/relax.rt:29:31
 add-get32 : tie.Need-add-get32
 add-get32 c = search needs
 
--- src/relax.rt:29:19
 get32-requires : tie.Need-get32-requires
 get32-requires c κs = search needs
 
--- src/relax.rt:29:19
 cast-through : tie.Need-cast-through
 cast-through c = search needs
 
--- src/relax.rt:29:48
 weight-at-requires : tie.Need-weight-at-requires
 weight-at-requires c κs =
     let s = c .before .before .before .before .before .before .before .before .before .before .before .before .before .before in
@@ -100,14 +82,12 @@ weight-at-requires c κs =
     let f = cell-fits _ _ _ _ _ (s .pre .2) g l in
     omega (arith, f, c .before .before .cell-number2 .ensures)
 
--- src/relax.rt:29:19
 add-through : tie.Need-add-through
 add-through c =
     let s = c .before .before .before .before .before .before .before .before .before .before .before .before .before .before .before in
     let x = s .pre .2 .below (c .before .before .before .cell-number2 .result) in
     omega (arith, x, c .weight-at .ensures, c .before .before .get32 .ensures, s .pre .1 .light)
 
--- src/relax.rt:30:5
 lower-requires : tie.Need-lower-requires
 lower-requires c κs =
     let s = c .before .before .before .before .before .before .before .before .before .before .before .before .before .before .before .before in
@@ -115,11 +95,9 @@ lower-requires c κs =
     let f = cell-fits _ _ _ _ _ (s .pre .2) g (s .pre .2 .number-is) in
     omega (arith, f, c .before .before .before .before .before .before .before .cell-number .ensures)
 
--- src/relax.rt:19:1
 same-length : tie.Need-same-length
 same-length c = search needs
 
--- src/relax.rt:19:1
 returns-2 : tie.Need-returns-2
 returns-2 c =
     visits-moved _ _ _ _ _ _ (c .before .before .before .before .before .before .before .before .before .before .before .before .before .before .before .moved-on .ensures) _ _ _ _ _ _ _ _ _ _ (c .before .before .before .before .before .before .before .before .before .before .before .before .before .step .given .1) (c .before .before .before .before .before .before .before .before .before .before .before .get16 .ensures) (c .before .before .before .before .before .before .before .before .before .before .cell-number .ensures)

@@ -1,8 +1,6 @@
 -- `cells::relax::relax_arcs` meets its contract. Assumes nothing.
 use Rattle.cells.proofs.SweepLaws.{Sweeping, sweep-start, sweep-requires, sweep-turn, sweep-end}
-use Prim.Native.Nat.{ℕ, _+_, _-_, _*_, _≤_, _<_}
-use lib.ListN.{length}
-use mathlib.Core.Path.{_≡_, refl, sym, _∙_}
+use Prim.Native.Nat.{_-_}
 use native.Mathlib.Omega.{arith}
 use borrow.Author.Needs.{needs}
 use Rattle.cells.proofs.relax.relax_arcs.Statement.{statement}
@@ -18,47 +16,38 @@ Inv-loop counts arcs text spot work₀ changed₀ at₀ left₀ work changed at 
 abbrev μ-loop : tie.MeasureT-loop
 μ-loop counts arcs text spot work₀ changed₀ at₀ left₀ work changed at left = left
 
--- src/relax.rt:51:5
 loop-holds : tie.Need-loop-holds Inv-loop μ-loop
 loop-holds c = sweep-start _ _ _ _ _
 
--- src/relax.rt:52:13
 relax-arc-requires : tie.Need-relax-arc-requires Inv-loop μ-loop
 relax-arc-requires c κs =
     let s = c .before .before .before .before .before .before in
     let l = c .before .before .loop in
     sweep-requires _ _ _ _ _ _ _ (l .left) (l .left - 1) _ (l .inv) (omega (arith, c .before .loop-test .taken)) (s .pre .0) (s .pre .1)
 
--- src/relax.rt:53:9
 either-requires : tie.Need-either-requires Inv-loop μ-loop
 either-requires c κs = search needs
 
--- src/relax.rt:54:9
 add-at : tie.Need-add-at Inv-loop μ-loop
 add-at c =
     let s = c .before .before .before .before .before .before .before .before .before .before in
     let l = c .before .before .before .before .before .before .loop in
     omega (arith, l .inv .place-is, s .pre .0 .lent, c .before .before .before .before .before .loop-test .taken)
 
--- src/relax.rt:55:9
 sub-left : tie.Need-sub-left Inv-loop μ-loop
 sub-left c = search needs
 
--- src/relax.rt:51:5
 loop-less : tie.Need-loop-less Inv-loop μ-loop
 loop-less c = search needs
 
--- src/relax.rt:51:5
 loop-again : tie.Need-loop-again Inv-loop μ-loop
 loop-again c =
     let l = c .before .before .before .before .before .before .loop in
     sweep-turn _ _ _ _ _ _ _ (l .left) (l .left - 1) _ (l .inv) _ _ _ (omega (arith, c .before .before .before .before .before .loop-test .taken)) (c .before .before .before .relax-arc .ensures) (c .either .ensures)
 
--- src/relax.rt:44:1
 same-length : tie.Need-same-length Inv-loop μ-loop
 same-length c = c .before .loop .inv .same-length
 
--- src/relax.rt:44:1
 returns : tie.Need-returns Inv-loop μ-loop
 returns c = let l = c .before .loop in sweep-end _ _ _ _ _ _ _ (l .left) (l .left) _ (l .inv) (omega (arith, c .loop-test .left))
 

@@ -1,8 +1,5 @@
 -- `cells::relax::settle` meets its contract. Assumes nothing.
 use Rattle.cells.proofs.SweepLaws.{spaced-kept, Settling, remaining, settle-start, settle-turn, settle-less, settle-end}
-use mathlib.Core.Path.{_≡_, refl, sym, _∙_}
-use native.Mathlib.Omega.{arith}
-use borrow.Author.Needs.{needs}
 use Rattle.cells.proofs.relax.settle.Statement.{statement}
 use Rattle.cells.proofs.relax.settle.Tie as tie
 use Rattle.cells.proofs.relax.settle.Reads as reads
@@ -15,30 +12,24 @@ Inv-loop counts arcs text spot work₀ again₀ work again = Settling counts arc
 abbrev μ-loop : tie.MeasureT-loop
 μ-loop counts arcs text spot work₀ again₀ work again = remaining again work
 
--- src/relax.rt:66:5
 loop-holds : tie.Need-loop-holds Inv-loop μ-loop
 loop-holds c = settle-start _ _ _ _ _
 
--- src/relax.rt:67:9
 relax-arcs-requires : tie.Need-relax-arcs-requires Inv-loop μ-loop
 relax-arcs-requires c κs =
     let s = c .before .before .before .before .before .before in
     let l = c .before .before .loop in
     (s .pre .0, spaced-kept _ _ _ _ (l .inv .same-length) (l .inv .below) (s .pre .1))
 
--- src/relax.rt:66:5
 loop-less : tie.Need-loop-less Inv-loop μ-loop
 loop-less c = let l = c .before .before .before .before .before .loop in settle-less _ _ _ _ _ _ _ (l .inv) _ _ (c .before .before .before .before .loop-test .taken) (c .before .before .relax-arcs .ensures)
 
--- src/relax.rt:66:5
 loop-again : tie.Need-loop-again Inv-loop μ-loop
 loop-again c = let l = c .before .before .before .before .before .loop in settle-turn _ _ _ _ _ _ _ (l .inv) _ _ (c .before .before .relax-arcs .ensures)
 
--- src/relax.rt:61:1
 same-length : tie.Need-same-length Inv-loop μ-loop
 same-length c = c .before .loop .inv .same-length
 
--- src/relax.rt:61:1
 returns : tie.Need-returns Inv-loop μ-loop
 returns c = let l = c .before .loop in settle-end _ _ _ _ _ _ _ (l .inv) (c .loop-test .left)
 

@@ -1,5 +1,4 @@
 -- `cells::spot::left_at` meets its contract. Assumes nothing.
-use native.Mathlib.Omega.{arith}
 use borrow.Author.Needs.{needs}
 use Rattle.cells.proofs.spot.left_at.Statement.{statement}
 use Rattle.cells.proofs.spot.left_at.Tie as tie
@@ -7,23 +6,18 @@ use Rattle.cells.proofs.spot.left_at.Reads as reads
 use Rattle.cells.proofs.spot.left_at.Lts as lts
 use Rattle.cells.proofs.spot.position.Reads as position-reads
 
--- src/spot.rt:75:5
 mul-result : tie.Need-mul-result
 mul-result c = search needs
 
--- src/spot.rt:75:5
 element-copy-out-result : tie.Need-element-copy-out-result
 element-copy-out-result c = search needs
 
--- src/spot.rt:75:26
 position-requires : tie.Need-position-requires
 position-requires c κs = let s = c .before in (s .pre .2, s .pre .0 .short _, s .pre .1 _ (s .pre .2))
 
--- src/spot.rt:75:5
 sub-result : tie.Need-sub-result
 sub-result c = search needs
 
--- src/spot.rt:71:1
 returns : tie.Need-returns
 returns c = search needs
 

@@ -1,7 +1,7 @@
 -- `cells::spot::lengths_at` meets its contract. Assumes nothing.
 use Rattle.cells.proofs.SpanLaws.{eight-are}
 use Rattle.cells.specs.Spots.{digit}
-use Prim.Native.Nat.{ℕ, _+_, _-_}
+use Prim.Native.Nat.{ℕ, _-_}
 use lib.ListN.{getD}
 use borrow.Author.Needs.{needs}
 use Rattle.cells.proofs.spot.lengths_at.Statement.{statement}
@@ -10,39 +10,30 @@ use Rattle.cells.proofs.spot.lengths_at.Reads as reads
 use Rattle.cells.proofs.spot.lengths_at.Lts as lts
 use Rattle.cells.proofs.spot.left_at.Reads as left-at-reads
 
--- src/spot.rt:99:9
 left-at-requires : tie.Need-left-at-requires
 left-at-requires c κs = search needs
 
--- src/spot.rt:100:9
 left-at-requires-2 : tie.Need-left-at-requires-2
 left-at-requires-2 c κs = search needs
 
--- src/spot.rt:101:9
 left-at-requires-3 : tie.Need-left-at-requires-3
 left-at-requires-3 c κs = search needs
 
--- src/spot.rt:102:9
 left-at-requires-4 : tie.Need-left-at-requires-4
 left-at-requires-4 c κs = search needs
 
--- src/spot.rt:103:9
 left-at-requires-5 : tie.Need-left-at-requires-5
 left-at-requires-5 c κs = search needs
 
--- src/spot.rt:104:9
 left-at-requires-6 : tie.Need-left-at-requires-6
 left-at-requires-6 c κs = search needs
 
--- src/spot.rt:105:9
 left-at-requires-7 : tie.Need-left-at-requires-7
 left-at-requires-7 c κs = search needs
 
--- src/spot.rt:106:9
 left-at-requires-8 : tie.Need-left-at-requires-8
 left-at-requires-8 c κs = search needs
 
--- src/spot.rt:95:1
 returns : tie.Need-returns
 returns c =
     let s = c .before .before .before .before .before .before .before .before .args in

@@ -7,35 +7,27 @@ use Rattle.cells.proofs.spot.position.Tie as tie
 use Rattle.cells.proofs.spot.position.Reads as reads
 use Rattle.cells.proofs.spot.position.Lts as lts
 
--- src/spot.rt:57:17
 mul-count : tie.Need-mul-count
 mul-count c = search needs
 
--- src/spot.rt:57:17
 element-copy-out-count : tie.Need-element-copy-out-count
 element-copy-out-count c = search needs
 
--- src/spot.rt:57:17
 add-count : tie.Need-add-count
 add-count c = search needs
 
--- src/spot.rt:58:16
 mul-span : tie.Need-mul-span
 mul-span c = search needs
 
--- src/spot.rt:58:16
 element-copy-out-span : tie.Need-element-copy-out-span
 element-copy-out-span c = search needs
 
--- src/spot.rt:59:5
 div-result : tie.Need-div-result
 div-result c = search needs
 
--- src/spot.rt:59:5
 rem-result : tie.Need-rem-result
 rem-result c = search needs
 
--- src/spot.rt:53:1
 returns : tie.Need-returns
 returns c = (refl, digit-le _ _ _ _ refl)
 

@@ -10,71 +10,54 @@ use Rattle.cells.proofs.spot.spans_of.Reads as reads
 use Rattle.cells.proofs.spot.spans_of.Lts as lts
 use Rattle.cells.proofs.spot.times.Reads as times-reads
 
--- src/spot.rt:38:19
 element-copy-out-times : tie.Need-element-copy-out-times
 element-copy-out-times c = search needs
 
--- src/spot.rt:38:9
 times-requires : tie.Need-times-requires
 times-requires c κs = (c .before .pre .short 7, omega (arith))
 
--- src/spot.rt:39:19
 element-copy-out-times-2 : tie.Need-element-copy-out-times-2
 element-copy-out-times-2 c = search needs
 
--- src/spot.rt:39:9
 times-requires-2 : tie.Need-times-requires-2
 times-requires-2 c κs = (c .before .before .before .pre .short 6, omega (arith, c .before .times .ensures .1))
 
--- src/spot.rt:40:19
 element-copy-out-times-3 : tie.Need-element-copy-out-times-3
 element-copy-out-times-3 c = search needs
 
--- src/spot.rt:40:9
 times-requires-3 : tie.Need-times-requires-3
 times-requires-3 c κs = (c .before .before .before .before .before .pre .short 5, omega (arith, c .before .before .before .times .ensures .1, c .before .times2 .ensures .1))
 
--- src/spot.rt:41:19
 element-copy-out-times-4 : tie.Need-element-copy-out-times-4
 element-copy-out-times-4 c = search needs
 
--- src/spot.rt:41:9
 times-requires-4 : tie.Need-times-requires-4
 times-requires-4 c κs = (c .before .before .before .before .before .before .before .pre .short 4, omega (arith, c .before .before .before .before .before .times .ensures .1, c .before .before .before .times2 .ensures .1, c .before .times3 .ensures .1))
 
--- src/spot.rt:42:19
 element-copy-out-times-5 : tie.Need-element-copy-out-times-5
 element-copy-out-times-5 c = search needs
 
--- src/spot.rt:42:9
 times-requires-5 : tie.Need-times-requires-5
 times-requires-5 c κs = (c .before .before .before .before .before .before .before .before .before .pre .short 3, omega (arith, c .before .before .before .before .before .before .before .times .ensures .1, c .before .before .before .before .before .times2 .ensures .1, c .before .before .before .times3 .ensures .1, c .before .times4 .ensures .1))
 
--- src/spot.rt:43:19
 element-copy-out-times-6 : tie.Need-element-copy-out-times-6
 element-copy-out-times-6 c = search needs
 
--- src/spot.rt:43:9
 times-requires-6 : tie.Need-times-requires-6
 times-requires-6 c κs = (c .before .before .before .before .before .before .before .before .before .before .before .pre .short 2, omega (arith, c .before .before .before .before .before .before .before .before .before .times .ensures .1, c .before .before .before .before .before .before .before .times2 .ensures .1, c .before .before .before .before .before .times3 .ensures .1, c .before .before .before .times4 .ensures .1, c .before .times5 .ensures .1))
 
--- src/spot.rt:44:19
 element-copy-out-times-7 : tie.Need-element-copy-out-times-7
 element-copy-out-times-7 c = search needs
 
--- src/spot.rt:44:9
 times-requires-7 : tie.Need-times-requires-7
 times-requires-7 c κs = (c .before .before .before .before .before .before .before .before .before .before .before .before .before .pre .short 1, omega (arith, c .before .before .before .before .before .before .before .before .before .before .before .times .ensures .1, c .before .before .before .before .before .before .before .before .before .times2 .ensures .1, c .before .before .before .before .before .before .before .times3 .ensures .1, c .before .before .before .before .before .times4 .ensures .1, c .before .before .before .times5 .ensures .1, c .before .times6 .ensures .1))
 
--- src/spot.rt:45:21
 element-copy-out-times-8 : tie.Need-element-copy-out-times-8
 element-copy-out-times-8 c = search needs
 
--- src/spot.rt:45:9
 times-requires-8 : tie.Need-times-requires-8
 times-requires-8 c κs = (c .before .before .before .before .before .before .before .before .before .before .before .before .before .before .before .pre .short 0, omega (arith, c .before .before .before .before .before .before .before .before .before .before .before .before .before .times .ensures .1, c .before .before .before .before .before .before .before .before .before .before .before .times2 .ensures .1, c .before .before .before .before .before .before .before .before .before .times3 .ensures .1, c .before .before .before .before .before .before .before .times4 .ensures .1, c .before .before .before .before .before .times5 .ensures .1, c .before .before .before .times6 .ensures .1, c .before .times7 .ensures .1))
 
--- src/spot.rt:33:1
 returns : tie.Need-returns
 returns c =
     let s = c .before .before .before .before .before .before .before .before .before .before .before .before .before .before .before .before in

@@ -8,15 +8,12 @@ use Rattle.cells.proofs.spot.spot_at.Lts as lts
 use Rattle.cells.proofs.spot.lengths_at.Reads as lengths-at-reads
 use Rattle.cells.proofs.spot.starts_at.Reads as starts-at-reads
 
--- src/spot.rt:115:9
 starts-at-requires : tie.Need-starts-at-requires
 starts-at-requires c κs = search needs
 
--- src/spot.rt:116:9
 lengths-at-requires : tie.Need-lengths-at-requires
 lengths-at-requires c κs = search needs
 
--- src/spot.rt:111:1
 returns : tie.Need-returns
 returns c = spot-is _ _ _ _ _ (c .before .before .starts-at .ensures) (c .before .lengths-at .ensures)
 

@@ -9,23 +9,18 @@ use Rattle.cells.proofs.spot.start_at.Lts as lts
 use Rattle.cells.proofs.spot.position.Reads as position-reads
 use Rattle.cells.proofs.spot.whole.Reads as whole-reads
 
--- src/spot.rt:74:23
 mul-whole : tie.Need-mul-whole
 mul-whole c = search needs
 
--- src/spot.rt:74:23
 element-copy-out-whole : tie.Need-element-copy-out-whole
 element-copy-out-whole c = search needs
 
--- src/spot.rt:74:9
 whole-requires : tie.Need-whole-requires
 whole-requires c κs = search needs
 
--- src/spot.rt:75:13
 position-requires : tie.Need-position-requires
 position-requires c κs = let s = c .before .before in (s .pre .2, s .pre .0 .short _, s .pre .1 _ (s .pre .2))
 
--- src/spot.rt:75:5
 add-result : tie.Need-add-result
 add-result c =
     let s = c .before .before .before in
@@ -33,7 +28,6 @@ add-result c =
     let w = c .before .whole .ensures in
     ⊎-elim (λ z. omega (arith, z, f, w)) (λ z. omega (arith, z, f, w)) (s .pre .0 .fits _ (s .pre .2))
 
--- src/spot.rt:70:1
 returns : tie.Need-returns
 returns c = search needs
 

@@ -1,7 +1,7 @@
 -- `cells::spot::starts_at` meets its contract. Assumes nothing.
 use Rattle.cells.proofs.SpanLaws.{eight-are}
 use Rattle.cells.specs.Spots.{digit}
-use Prim.Native.Nat.{ℕ, _+_, _-_}
+use Prim.Native.Nat.{ℕ, _+_}
 use lib.ListN.{getD}
 use borrow.Author.Needs.{needs}
 use Rattle.cells.proofs.spot.starts_at.Statement.{statement}
@@ -10,39 +10,30 @@ use Rattle.cells.proofs.spot.starts_at.Reads as reads
 use Rattle.cells.proofs.spot.starts_at.Lts as lts
 use Rattle.cells.proofs.spot.start_at.Reads as start-at-reads
 
--- src/spot.rt:83:9
 start-at-requires : tie.Need-start-at-requires
 start-at-requires c κs = search needs
 
--- src/spot.rt:84:9
 start-at-requires-2 : tie.Need-start-at-requires-2
 start-at-requires-2 c κs = search needs
 
--- src/spot.rt:85:9
 start-at-requires-3 : tie.Need-start-at-requires-3
 start-at-requires-3 c κs = search needs
 
--- src/spot.rt:86:9
 start-at-requires-4 : tie.Need-start-at-requires-4
 start-at-requires-4 c κs = search needs
 
--- src/spot.rt:87:9
 start-at-requires-5 : tie.Need-start-at-requires-5
 start-at-requires-5 c κs = search needs
 
--- src/spot.rt:88:9
 start-at-requires-6 : tie.Need-start-at-requires-6
 start-at-requires-6 c κs = search needs
 
--- src/spot.rt:89:9
 start-at-requires-7 : tie.Need-start-at-requires-7
 start-at-requires-7 c κs = search needs
 
--- src/spot.rt:90:9
 start-at-requires-8 : tie.Need-start-at-requires-8
 start-at-requires-8 c κs = search needs
 
--- src/spot.rt:79:1
 returns : tie.Need-returns
 returns c =
     let s = c .before .before .before .before .before .before .before .before .args in

@@ -9,17 +9,14 @@ use Rattle.cells.proofs.spot.times.Tie as tie
 use Rattle.cells.proofs.spot.times.Reads as reads
 use Rattle.cells.proofs.spot.times.Lts as lts
 
--- src/spot.rt:29:6
 add-result : tie.Need-add-result
 add-result c = search needs
 
--- src/spot.rt:29:5
 mul-result : tie.Need-mul-result
 mul-result c =
     let k : c .args .size + 1 ≤ 65 = omega (arith, c .pre .0) in
     omega (arith, mul-le-mul k (c .pre .1))
 
--- src/spot.rt:25:1
 returns : tie.Need-returns
 returns c =
     let k : c .args .size + 1 ≤ 65 = omega (arith, c .pre .0) in

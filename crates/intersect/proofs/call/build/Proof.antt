@@ -10,8 +10,8 @@ use Rattle.intersect.proofs.call.build.Statement.{statement}
 use Rattle.intersect.proofs.call.build.Tie as tie
 use Rattle.intersect.proofs.call.build.Reads as reads
 use Rattle.intersect.proofs.call.build.Lts as lts
-use Rattle.intersect.proofs.call.reach.Reads as reach-reads
 use Rattle.intersect.proofs.prepare.prepare.Reads as prepare-reads
+use Rattle.intersect.proofs.step.reach.Reads as reach-reads
 
 prepare-requires : tie.Need-prepare-requires
 prepare-requires c κs = search needs
@@ -24,18 +24,20 @@ enum-told c = search needs
 
 cast-t21 : tie.Need-cast-t21
 cast-t21 c =
-    omega (arith, c .before .before .before .before .prepare .ensures .limit-fits (c .before .before .enum-told .given .1))
+    let s = c .before .before .before .before .before .before .before .before .before .before in
+    omega (arith, c .before .before .before .before .prepare .ensures (s .pre .pairs) (s .args .limit) (s .pre .judged) .limit-fits (c .before .before .enum-told .given .1))
 
 reach-requires : tie.Need-reach-requires
 reach-requires c κs =
-    let p = c .before .before .before .before .before .before .before .prepare .ensures in
+    let s = c .before .before .before .before .before .before .before .before .before .before .before .before .before in
+    let p = c .before .before .before .before .before .before .before .prepare .ensures (s .pre .pairs) (s .args .limit) (s .pre .judged) in
     let e = c .before .before .before .before .before .enum-told .given .1 in
-    (explorable _ _ _ _ _ _ _ _ _ _ p e refl, p .divides e)
+    (explorable _ _ _ _ _ _ _ _ _ p e, p .divides e)
 
 returns : tie.Need-returns
 returns c =
-    let s = c .before .before .before .before .before .before .before .before .before .before in
-    call-refused (lent (s .args .counts) (now (s .args .states)) (now (s .args .arcs))) _ _ (now (s .args .out-states)) (now (s .args .out-arcs)) (now (s .args .work)) _ (c .before .before .before .prepare .ensures) _ (c .before .judged .given .1)
+    let s = c .before .before .before .before .before .before .before .before .before in
+    λ ps k. call-refused (lent (s .args .counts) (now (s .args .states)) (now (s .args .arcs))) ps _ (now (s .args .out-states)) (now (s .args .out-arcs)) (now (s .args .work)) _ (c .before .before .before .prepare .ensures ps (s .args .limit) k) _ (c .before .judged .given .1)
 
 same-length : tie.Need-same-length
 same-length c = search needs
@@ -48,8 +50,8 @@ same-length-3 c = search needs
 
 returns-2 : tie.Need-returns-2
 returns-2 c =
-    let s = c .before .before .before .before .before .before .before .before .before .before .before .before .before .before .before .before .before .before .before .before .before in
-    call-settled (lent (s .args .counts) (now (s .args .states)) (now (s .args .arcs))) _ _ (now (s .args .out-states)) (now (s .args .out-arcs)) (now (s .args .work)) _ (c .before .before .before .before .before .before .before .before .before .before .before .before .before .before .prepare .ensures) _ refl (c .before .before .before .before .before .before .before .before .before .before .before .before .enum-told .given .1) _ _ _ (c .before .before .before .before .before .before .reach .ensures)
+    let s = c .before .before .before .before .before .before .before .before .before .before .before .before .before .before .before .before .before .before .before .before in
+    λ ps k. call-settled (lent (s .args .counts) (now (s .args .states)) (now (s .args .arcs))) ps _ (now (s .args .out-states)) (now (s .args .out-arcs)) (now (s .args .work)) _ (c .before .before .before .before .before .before .before .before .before .before .before .before .before .before .prepare .ensures ps (s .args .limit) k) _ refl (c .before .before .before .before .before .before .before .before .before .before .before .before .enum-told .given .1) _ _ _ (c .before .before .before .before .before .before .reach .ensures)
 
 pub build-spec : {M : Type 1} → statement M
 build-spec =

@@ -9,14 +9,10 @@ use Rattle.intersect.proofs.prepare.prepare.Reads as reads
 use Rattle.intersect.proofs.prepare.prepare.Lts as lts
 use Rattle.intersect.proofs.prepare.in_turn.Reads as in-turn-reads
 use Rattle.memory.proofs.judge.judge.Reads as judge-reads
-use Rattle.pairs.proofs.judge_pairs.Reads as judge-pairs-reads
 use Rattle.workspace.proofs.room.room_for.Reads as room-for-reads
 
 judge-requires : tie.Need-judge-requires
 judge-requires c κs = search needs
-
-judge-pairs-requires : tie.Need-judge-pairs-requires
-judge-pairs-requires c κs = search needs
 
 room-for-requires : tie.Need-room-for-requires
 room-for-requires c κs = search needs
@@ -26,10 +22,8 @@ in-turn-requires c κs = search needs
 
 returns : tie.Need-returns
 returns c =
-    let s = c .before .before .before .before .before .before .before .before .before in
-    prepared (lent (s .args .counts) (now (s .args .states)) (now (s .args .arcs))) _ _ _ _ _ (c .before .before .before .before .before .judge .result) _ _ _ (c .before .before .before .before .before .judge .ensures) (c .before .before .before .before .judge-pairs .ensures) (c .before .before .before .room-for .ensures) (c .in-turn .ensures)
+    let s = c .before .before .before .before .before .before .before in
+    λ ps D k. prepared (lent (s .args .counts) (now (s .args .states)) (now (s .args .arcs))) ps D _ _ _ (c .before .before .before .before .judge .result) _ _ _ (c .before .before .before .before .judge .ensures) k (c .before .before .before .room-for .ensures) (c .in-turn .ensures)
 
 pub prepare-spec : {M : Type 1} → statement M
-prepare-spec =
-    tie.close
-    (tie.spec judge-requires judge-pairs-requires room-for-requires in-turn-requires returns)
+prepare-spec = tie.close (tie.spec judge-requires room-for-requires in-turn-requires returns)

@@ -1,10 +1,10 @@
--- `intersect::call::reach` meets its contract. Assumes nothing.
+-- `intersect::step::reach` meets its contract. Assumes nothing.
 use Rattle.intersect.proofs.SearchLaws.{searched, settleable}
 use borrow.Author.Needs.{needs}
-use Rattle.intersect.proofs.call.reach.Statement.{statement}
-use Rattle.intersect.proofs.call.reach.Tie as tie
-use Rattle.intersect.proofs.call.reach.Reads as reads
-use Rattle.intersect.proofs.call.reach.Lts as lts
+use Rattle.intersect.proofs.step.reach.Statement.{statement}
+use Rattle.intersect.proofs.step.reach.Tie as tie
+use Rattle.intersect.proofs.step.reach.Reads as reads
+use Rattle.intersect.proofs.step.reach.Lts as lts
 use Rattle.intersect.proofs.finish.settle.Reads as settle-reads
 use Rattle.exploration.proofs.explore.explore.Reads as explore-reads
 

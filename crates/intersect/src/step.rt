@@ -1,0 +1,80 @@
+// The auto-intersection behind its tests: the search over the configurations, and the answer that it settles.
+use crate::finish::settle;
+use exploration::explore::explore;
+use exploration::plan::Plan;
+use memory::answer::Counts;
+use memory::answer::TableAnswer;
+use memory::pair::PairList;
+use workspace::room::room_for;
+ghost use mathlib.Core.Path.{_≡_};
+ghost use Prim.Native.Nat.{_/_};
+ghost use lib.ListN.{length};
+ghost use Rattle.automata.specs.Calls.Outcome.{spaceOf, put, madeOf, slicesOf};
+ghost use Rattle.automata.specs.Calls.JoinSteps.{intersectStep};
+ghost use Rattle.memory.specs.Answers.{lent, tableAs};
+ghost use Rattle.memory.specs.Pairs.{pairsAs};
+ghost use Rattle.workspace.specs.Room.{Divides};
+ghost use Rattle.exploration.specs.Plans.{Explorable, pairsIn, viableIn};
+ghost use Rattle.intersect.specs.Searched.{tableBy};
+ghost use Rattle.intersect.specs.Step.{Intersectable};
+
+// The search over the configurations of a plan, and the answer that it settles.
+pub fn reach(
+    plan: Plan,
+    states: &[u8],
+    arcs: &[u8],
+    out_states: &mut [u8],
+    out_arcs: &mut [u8],
+    work: &mut [u8],
+) -> TableAnswer
+    requires { ⌜ Explorable plan (now states) (now arcs) (length (now work)) × Divides (length (now «out_states») / 10) (length (now «out_arcs») / 80) (plan .counts .states) (length (now work)) (plan .room) ⌝ }
+    ensures { λ r. ⌜ madeOf (tableAs r) (now («out_states» .exit)) (now («out_arcs» .exit)) ≡ put (tableBy (lent (plan .counts) (now (states .entry)) (now (arcs .entry))) (pairsIn plan) (viableIn plan (now (states .entry)) (now (arcs .entry))) (spaceOf (slicesOf (now («out_states» .entry)) (now («out_arcs» .entry))))) (slicesOf (now («out_states» .entry)) (now («out_arcs» .entry))) ⌝ }
+{
+    let head = explore(plan, states, arcs, work);
+    let counts = plan.counts;
+    let room = plan.room;
+    settle(
+        counts,
+        room,
+        head.full,
+        head.late,
+        head.reached,
+        head.arcs,
+        states,
+        arcs,
+        work,
+        out_states,
+        out_arcs,
+    )
+}
+
+// The auto-intersection as a step: of a table that is known to be one, on pairs of its tapes, with work space that is enough. Work space is
+// not cleared.
+pub fn intersect_step(
+    counts: Counts,
+    states: &[u8],
+    arcs: &[u8],
+    pairs: PairList,
+    limit: usize,
+    out_states: &mut [u8],
+    out_arcs: &mut [u8],
+    work: &mut [u8],
+) -> TableAnswer
+    requires { ⌜ Intersectable (lent counts (now states) (now arcs)) pairs limit (length (now «out_states»)) (length (now «out_arcs»)) (length (now work)) ⌝ }
+    ensures { λ r. ⌜ madeOf (tableAs r) (now («out_states» .exit)) (now («out_arcs» .exit)) ≡ intersectStep (lent counts (now (states .entry)) (now (arcs .entry))) (pairsAs pairs) limit (slicesOf (now («out_states» .entry)) (now («out_arcs» .entry))) ⌝ }
+{
+    let answer = room_for(
+        out_states.len() / 10,
+        out_arcs.len() / 80,
+        counts.states,
+        work.len(),
+    );
+    let room = answer.room;
+    let plan = Plan {
+        counts,
+        pairs,
+        limit: limit as u8,
+        room,
+    };
+    reach(plan, states, arcs, out_states, out_arcs, work)
+}
