@@ -10,12 +10,13 @@ ghost use Rattle.automata.specs.Calls.Read.{readOutcome};
 ghost use Rattle.automata.specs.Calls.Write.{writeOutcome};
 ghost use Rattle.automata.specs.Calls.Intersect.{intersectOutcome};
 ghost use Rattle.automata.specs.Calls.Product.{productOutcome};
+ghost use Rattle.automata.specs.Calls.Join.{joinOutcome};
 ghost use Rattle.automata.specs.Calls.Union.{unionOutcome};
 ghost use Rattle.automata.specs.Calls.Project.{projectOutcome};
 ghost use Rattle.automata.specs.Calls.Drop.{dropOutcome};
 ghost use Rattle.automata.specs.Calls.Lookup.{lookupOutcome};
 ghost use Rattle.pairs.specs.PairBytes.{pairsOf};
-ghost use Rattle.tomchoen.specs.Words.{tellsMade, toldMade, tellsBuilt, toldBuilt, tellsWritten, toldWritten, tellsFound, toldFound};
+ghost use Rattle.tomchoen.specs.Words.{tellsMade, toldMade, tellsBuilt, toldBuilt, tellsJoined, toldJoined, tellsWritten, toldWritten, tellsFound, toldFound};
 
 // Reads the text of a table.
 #[no_mangle]
@@ -117,6 +118,57 @@ pub extern "C" fn tomchoen_product(
         second,
         second_state_bytes,
         second_arc_bytes,
+        out_states,
+        out_arcs,
+        work,
+    );
+    table_word(answer)
+}
+
+// Joins two tables on pairs of tapes, two bytes a pair.
+#[no_mangle]
+pub extern "C" fn tomchoen_join(
+    first_tapes: usize,
+    first_states: usize,
+    first_arcs: usize,
+    first_state_bytes: &[u8],
+    first_arc_bytes: &[u8],
+    second_tapes: usize,
+    second_states: usize,
+    second_arcs: usize,
+    second_state_bytes: &[u8],
+    second_arc_bytes: &[u8],
+    pairs: &[u8],
+    limit: usize,
+    product_states: &mut [u8],
+    product_arcs: &mut [u8],
+    out_states: &mut [u8],
+    out_arcs: &mut [u8],
+    work: &mut [u8],
+) -> u64
+    ensures { λ r. ⌜ tellsJoined r (now («out_states» .exit)) (now («out_arcs» .exit)) (now («product_states» .exit)) (now («product_arcs» .exit)) (now (work .exit)) ≡ toldJoined (joinOutcome (memoryOf «first_tapes» «first_states» «first_arcs» (now («first_state_bytes» .entry)) (now («first_arc_bytes» .entry))) (memoryOf «second_tapes» «second_states» «second_arcs» (now («second_state_bytes» .entry)) (now («second_arc_bytes» .entry))) (pairsOf (now (pairs .entry))) limit (slicesOf (now («product_states» .entry)) (now («product_arcs» .entry))) (slicesOf (now («out_states» .entry)) (now («out_arcs» .entry))) (now (work .entry))) ⌝ }
+{
+    let first = Counts {
+        tapes: first_tapes,
+        states: first_states,
+        arcs: first_arcs,
+    };
+    let second = Counts {
+        tapes: second_tapes,
+        states: second_states,
+        arcs: second_arcs,
+    };
+    let answer = join::call::join(
+        first,
+        first_state_bytes,
+        first_arc_bytes,
+        second,
+        second_state_bytes,
+        second_arc_bytes,
+        pairs,
+        limit,
+        product_states,
+        product_arcs,
         out_states,
         out_arcs,
         work,

@@ -1,3 +1,6 @@
+-- `tomchoen::c::tomchoen_drop` meets its contract. Assumes nothing.
+use Rattle.tomchoen.proofs.WordLaws.{made-told}
+use Rattle.tomchoen.proofs.FitLaws.{drop-counts}
 use borrow.Author.Needs.{needs}
 use Rattle.tomchoen.proofs.c.tomchoen_drop.Statement.{statement}
 use Rattle.tomchoen.proofs.c.tomchoen_drop.Tie as tie
@@ -6,25 +9,20 @@ use Rattle.tomchoen.proofs.c.tomchoen_drop.Lts as lts
 use Rattle.columns.proofs.drop.drop_tapes.Reads as drop-tapes-reads
 use Rattle.tomchoen.proofs.word.table_word.Reads as table-word-reads
 
--- src/c.rt:217:9
 drop-tapes-requires : tie.Need-drop-tapes-requires
 drop-tapes-requires c κs = search needs
 
--- src/c.rt:225:5
 table-word-requires : tie.Need-table-word-requires
-table-word-requires c κs = ?
+table-word-requires c κs = drop-counts _ _ _ _ _ _ (c .before .before .before .before .drop-tapes .ensures)
 
--- src/c.rt:199:1
 same-length : tie.Need-same-length
 same-length c = search needs
 
--- src/c.rt:199:1
 same-length-2 : tie.Need-same-length-2
 same-length-2 c = search needs
 
--- src/c.rt:199:1
 returns : tie.Need-returns
-returns c = ?
+returns c = made-told _ _ _ _ _ (c .before .before .before .before .before .drop-tapes .ensures) (c .table-word .ensures)
 
 pub tomchoen-drop-spec : {M : Type 1} → statement M
 tomchoen-drop-spec =

@@ -1,3 +1,6 @@
+-- `tomchoen::c::tomchoen_lookup` meets its contract. Assumes nothing.
+use Rattle.tomchoen.proofs.WordLaws.{found-told}
+use Rattle.tomchoen.proofs.WeightLaws.{lookup-weight}
 use borrow.Author.Needs.{needs}
 use Rattle.tomchoen.proofs.c.tomchoen_lookup.Statement.{statement}
 use Rattle.tomchoen.proofs.c.tomchoen_lookup.Tie as tie
@@ -6,21 +9,17 @@ use Rattle.tomchoen.proofs.c.tomchoen_lookup.Lts as lts
 use Rattle.lookup.proofs.call.lookup.Reads as lookup-reads
 use Rattle.tomchoen.proofs.word.weight_word.Reads as weight-word-reads
 
--- src/c.rt:246:9
 lookup-requires : tie.Need-lookup-requires
 lookup-requires c κs = search needs
 
--- src/c.rt:247:5
 weight-word-requires : tie.Need-weight-word-requires
-weight-word-requires c κs = ?
+weight-word-requires c κs = lookup-weight _ _ _ _ _ (c .before .before .lookup .ensures)
 
--- src/c.rt:229:1
 same-length : tie.Need-same-length
 same-length c = search needs
 
--- src/c.rt:229:1
 returns : tie.Need-returns
-returns c = ?
+returns c = found-told _ _ _ _ (c .before .before .before .lookup .ensures) (c .weight-word .ensures)
 
 pub tomchoen-lookup-spec : {M : Type 1} → statement M
 tomchoen-lookup-spec =

@@ -1,3 +1,6 @@
+-- `tomchoen::c::tomchoen_product` meets its contract. Assumes nothing.
+use Rattle.tomchoen.proofs.WordLaws.{built-told}
+use Rattle.tomchoen.proofs.FitLaws.{product-counts}
 use borrow.Author.Needs.{needs}
 use Rattle.tomchoen.proofs.c.tomchoen_product.Statement.{statement}
 use Rattle.tomchoen.proofs.c.tomchoen_product.Tie as tie
@@ -6,29 +9,23 @@ use Rattle.tomchoen.proofs.c.tomchoen_product.Lts as lts
 use Rattle.product.proofs.call.product.Reads as product-reads
 use Rattle.tomchoen.proofs.word.table_word.Reads as table-word-reads
 
--- src/c.rt:113:9
 product-requires : tie.Need-product-requires
 product-requires c κs = search needs
 
--- src/c.rt:124:5
 table-word-requires : tie.Need-table-word-requires
-table-word-requires c κs = ?
+table-word-requires c κs = product-counts _ _ _ _ _ _ _ _ (c .before .before .before .before .before .before .product .ensures)
 
--- src/c.rt:85:1
 same-length : tie.Need-same-length
 same-length c = search needs
 
--- src/c.rt:85:1
 same-length-2 : tie.Need-same-length-2
 same-length-2 c = search needs
 
--- src/c.rt:85:1
 same-length-3 : tie.Need-same-length-3
 same-length-3 c = search needs
 
--- src/c.rt:85:1
 returns : tie.Need-returns
-returns c = ?
+returns c = built-told _ _ _ _ _ _ (c .before .before .before .before .before .before .before .product .ensures) (c .table-word .ensures)
 
 pub tomchoen-product-spec : {M : Type 1} → statement M
 tomchoen-product-spec =

@@ -1,3 +1,8 @@
+-- `tomchoen::word::weight_word` meets its contract. Assumes nothing.
+use mathlib.Core.Path.{sym, ap, _∙_, subst}
+use Rattle.lookup.specs.Answers.{weightAs}
+use Rattle.lookup.specs.declared.call.WeightAnswer.{WeightAnswer}
+use Rattle.tomchoen.specs.Words.{weightWord, WeightFits}
 use borrow.Author.Needs.{needs}
 use Rattle.tomchoen.proofs.word.weight_word.Statement.{statement}
 use Rattle.tomchoen.proofs.word.weight_word.Tie as tie
@@ -6,39 +11,30 @@ use Rattle.tomchoen.proofs.word.weight_word.Lts as lts
 use Rattle.memory.proofs.answer.refusal_number.Reads as refusal-number-reads
 use Rattle.tomchoen.proofs.word.shifted.Reads as shifted-reads
 
--- src/word.rt:58:30
 enum-known-answer : tie.Need-enum-known-answer
 enum-known-answer c = search needs
 
--- src/word.rt:58:36
 shifted-requires : tie.Need-shifted-requires
-shifted-requires c κs = ?
+shifted-requires c κs = subst (λ (a : WeightAnswer). WeightFits (weightAs a)) (c .before .answer .given .1) (c .before .before .before .pre)
 
--- src/word.rt:59:34
 enum-told : tie.Need-enum-told
 enum-told c = search needs
 
--- src/word.rt:60:31
 enum-known-answer-2 : tie.Need-enum-known-answer-2
 enum-known-answer-2 c = search needs
 
--- src/word.rt:60:39
 refusal-number-requires : tie.Need-refusal-number-requires
 refusal-number-requires c κs = search needs
 
--- src/word.rt:60:39
 cast-result : tie.Need-cast-result
 cast-result c = search needs
 
--- src/word.rt:53:1
 returns : tie.Need-returns
-returns c = ?
+returns c = c .shifted .ensures ∙ ap (λ (a : WeightAnswer). weightWord (weightAs a)) (sym (c .before .before .answer .given .1))
 
--- src/word.rt:53:1
 returns-2 : tie.Need-returns-2
 returns-2 c = search needs
 
--- src/word.rt:53:1
 returns-3 : tie.Need-returns-3
 returns-3 c = search needs
 
