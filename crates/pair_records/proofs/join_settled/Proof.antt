@@ -1,0 +1,21 @@
+-- `pair_records::join_settled` meets its contract. Assumes nothing.
+use Rattle.pair_records.proofs.RecordLaws.{once-few, join-settles}
+use borrow.Author.Needs.{needs}
+use Rattle.pair_records.proofs.join_settled.Statement.{statement}
+use Rattle.pair_records.proofs.join_settled.Tie as tie
+use Rattle.pair_records.proofs.join_settled.Reads as reads
+use Rattle.pair_records.proofs.join_settled.Lts as lts
+use Rattle.pair_records.proofs.join_once.Reads as join-once-reads
+use Rattle.pair_records.proofs.settled.Reads as settled-reads
+
+join-once-requires : tie.Need-join-once-requires
+join-once-requires c κs = search needs
+
+settled-requires : tie.Need-settled-requires
+settled-requires c κs = let s = c .before in once-few (s .args .list) _ _ (c .join-once .ensures)
+
+returns : tie.Need-returns
+returns c = join-settles _ _ _ _ _ (c .settled .ensures) (c .before .join-once .ensures)
+
+pub join-settled-spec : {M : Type 1} → statement M
+join-settled-spec = tie.close (tie.spec join-once-requires settled-requires returns)

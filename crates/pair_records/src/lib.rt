@@ -1,0 +1,160 @@
+// Lists of pairs of tapes lent as records: each pair looked at, the first four read by value, and the list judged.
+use memory::answer::Judged;
+use memory::answer::Refusal;
+use memory::pair::Pair;
+use memory::pair::PairList;
+use pairs::PairsJudged;
+use pairs::is_tape;
+use pairs::named_once;
+use pairs::refused;
+use pairs::sides_once;
+ghost use mathlib.Core.Path.{_≡_};
+ghost use mathlib.Core.Bool.{true};
+ghost use mathlib.Core.List.{map};
+ghost use Prim.Native.Nat.{_≤_};
+ghost use lib.Dec.{leb};
+ghost use lib.ListN.{getD};
+ghost use Rattle.automata.specs.Limits.{maxPairs};
+ghost use Rattle.automata.specs.Lists.{and};
+ghost use Rattle.automata.specs.IntersectCall.{distinct, named};
+ghost use Rattle.automata.specs.Projection.{isTape};
+ghost use Rattle.automata.specs.Join.{within};
+ghost use Rattle.memory.specs.Pairs.{pairAs, pairsAs, noPair};
+ghost use Rattle.pairs.specs.Judgement.{Settled, KeepJudged, JoinJudged};
+ghost use Rattle.pair_records.specs.Records.{fourOf, readOf, sidesOnce, KeepSettles, JoinSettles};
+
+// The pair at a place, or a pair of zeros past the end.
+fn pair_or(pairs: &[Pair], i: usize) -> Pair
+    ensures { λ r. ⌜ r ≡ getD (now (pairs .entry)) i noPair ⌝ }
+{
+    if i < pairs.len() {
+        return pairs[i];
+    }
+    Pair {
+        first: 0,
+        second: 0,
+    }
+}
+
+// Four pairs and the number of pairs that were lent.
+fn gather(used: usize, a: Pair, b: Pair, c: Pair, d: Pair) -> PairList
+    ensures { λ r. ⌜ r ≡ fourOf used a b c d ⌝ }
+{
+    PairList {
+        pairs: [a, b, c, d],
+        used,
+    }
+}
+
+// How many pairs there are, and the first four of them.
+fn read_records(pairs: &[Pair]) -> PairList
+    ensures { λ r. ⌜ r ≡ readOf (now (pairs .entry)) ⌝ }
+{
+    let used = pairs.len();
+    let a = pair_or(pairs, 0);
+    let b = pair_or(pairs, 1);
+    let c = pair_or(pairs, 2);
+    let d = pair_or(pairs, 3);
+    gather(used, a, b, c, d)
+}
+
+// Whether the pairs so far were within, and this one has its first tape among n and its second among m.
+fn still_within(fine: bool, p: Pair, n: usize, m: usize) -> bool
+    ensures { λ r. ⌜ r ≡ and fine (and (isTape n (p .first)) (isTape m (p .second))) ⌝ }
+{
+    if !fine {
+        return false;
+    }
+    if !is_tape(n, p.first) {
+        return false;
+    }
+    is_tape(m, p.second)
+}
+
+// Whether every pair of the list has its first tape among n and its second among m.
+fn all_records_within(pairs: &[Pair], n: usize, m: usize) -> bool
+    ensures { λ r. ⌜ r ≡ within n m (map pairAs (now (pairs .entry))) ⌝ }
+{
+    let mut i = 0;
+    let mut fine = true;
+    while i < pairs.len() {
+        let p = pair_or(pairs, i);
+        fine = still_within(fine, p, n, m);
+        i += 1;
+    }
+    fine
+}
+
+// Test 6 of an auto-intersection: at most four pairs, and no tape named twice.
+fn keep_once(list: PairList) -> bool
+    ensures { λ r. ⌜ r ≡ and (leb (list .used) maxPairs) (distinct (named (pairsAs list))) ⌝ }
+{
+    if 4 < list.used {
+        return false;
+    }
+    named_once(list)
+}
+
+// Test 6 of a join: at most four pairs, and no tape twice on one side.
+fn join_once(pairs: PairList) -> bool
+    ensures { λ r. ⌜ r ≡ and (leb (pairs .used) maxPairs) (sidesOnce (pairsAs pairs)) ⌝ }
+{
+    if 4 < pairs.used {
+        return false;
+    }
+    sides_once(pairs)
+}
+
+// The tests in their order: 5 where a tape is not there, 6 where a tape stands twice or there are too many pairs, 7 by the limit.
+fn settled(list: PairList, inside: bool, once: bool, limit: usize) -> PairsJudged
+    requires { ⌜ (once ≡ true → list .used ≤ 4) ⌝ }
+    ensures { λ r. ⌜ Settled (pairsAs list) inside once limit r ⌝ }
+{
+    if !inside {
+        return refused(Refusal::Tape);
+    }
+    if !once {
+        return refused(Refusal::Pairs);
+    }
+    if 64 < limit {
+        return refused(Refusal::Limit);
+    }
+    PairsJudged {
+        judged: Judged::Fine,
+        pairs: list,
+    }
+}
+
+// The tests of an auto-intersection, on pairs by value.
+fn keep_settled(list: PairList, inside: bool, limit: usize) -> PairsJudged
+    ensures { λ r. ⌜ KeepSettles list inside limit r ⌝ }
+{
+    let once = keep_once(list);
+    settled(list, inside, once, limit)
+}
+
+// The tests of a join, on pairs by value.
+fn join_settled(list: PairList, inside: bool, limit: usize) -> PairsJudged
+    ensures { λ r. ⌜ JoinSettles list inside limit r ⌝ }
+{
+    let once = join_once(list);
+    settled(list, inside, once, limit)
+}
+
+// The pairs of an auto-intersection of a table: 5 over the whole list, then 6, then 7.
+pub fn judge_records(pairs: &[Pair], tapes: usize, limit: usize) -> PairsJudged
+    ensures { λ r. ⌜ KeepJudged (map pairAs (now (pairs .entry))) tapes limit r ⌝ }
+{
+    let inside = all_records_within(pairs, tapes, tapes);
+    let list = read_records(pairs);
+    keep_settled(list, inside, limit)
+}
+
+// The pairs of a join of tables with n and m tapes: 5 over the whole list, then 6, then 7.
+pub fn judge_join_records(pairs: &[Pair], n: usize, m: usize, limit: usize) -> PairsJudged
+    ensures { λ r. ⌜ JoinJudged (map pairAs (now (pairs .entry))) n m limit r ⌝ }
+{
+    let inside = all_records_within(pairs, n, m);
+    let list = read_records(pairs);
+    join_settled(list, inside, limit)
+}
