@@ -30,7 +30,7 @@ use Rattle.intersect.specs.Prepared.{inTurn, Prepares}
 -- ---- judgements in turn
 
 -- the tests before an answer, and the answer
-turn-then : {A : Type 0} (p : Answer (Unit {0})) (b : Bool) (n : ℕ) (rest : Answer A)
+pub turn-then : {A : Type 0} (p : Answer (Unit {0})) (b : Bool) (n : ℕ) (rest : Answer A)
     → (p >>= λ (u : Unit {0}). judge b n rest) ≡ ((p >>= λ (u : Unit {0}). require b n) >>= λ (u : Unit {0}). rest)
 turn-then (refused k) b n rest = refl
 turn-then (ok u) true n rest = refl

@@ -1,1 +1,3 @@
 -- What the contracts of a join cite.
+pub mod Judged
+pub mod Steps

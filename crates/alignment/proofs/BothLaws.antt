@@ -1,0 +1,137 @@
+-- All pairs of arcs, the first side's leading.
+use Prim.Native.Nat.{ℕ, _+_, _-_, _*_, _≤_, _<_}
+use mathlib.Core.Path.{_≡_, refl, sym, ap, _∙_, subst}
+use mathlib.Core.Bool.{true, false}
+use mathlib.Core.Option.{Option, none, some}
+use mathlib.Core.List.{List, [], _∷_, _++_, map, append-assoc, append-nil}
+use native.Mathlib.Omega.{arith}
+use lib.ListN.{length, take}
+use Rattle.automata.specs.OrderedSum.{ℕ-sum}
+use Rattle.automata.specs.Automaton.{Automaton, Arc, Content, content}
+use Rattle.automata.specs.System.{system, outAt}
+use Rattle.automata.specs.Product as automata
+use Rattle.automata.specs.Product.{bothContent, both, allBoth}
+use Rattle.memory.specs.Region.{part}
+use Rattle.memory.specs.Endian.{le}
+use Rattle.memory.specs.Records.{arcAs, arcAt}
+use Rattle.alignment.specs.declared.vertex.Vertex.{Vertex}
+use Rattle.alignment.specs.declared.plan.Plan.{Plan}
+use Rattle.alignment.specs.declared.head.Head.{Head}
+use Rattle.alignment.specs.Vertices.{placeNumber, vertexOf}
+use Rattle.alignment.specs.Moves.{by-both}
+use Rattle.alignment.specs.Reading.{ArcsLent, ReadsArcs}
+use Rattle.alignment.specs.Searching.{Step, Notes, Ready, Grows, outBy, onSecond, PassesSecond, TriesBoth, PassesBoth}
+use Rattle.alignment.proofs.NoteLaws.{grows-none, grows-then, grows-wider, ready-on, notes-none, notes-same}
+use Rattle.alignment.proofs.ReadLaws.{source-at, target-at, out-one, out-away, out-all, turn-start, turn-more, turn-full, turn-all}
+
+-- the pairs of steps of two lists and of a third
+both-append : (rs xs ys : List (Content ℕ × ℕ)) → _≡_ {A = List Step} (allBoth ℕ-sum (xs ++ ys) rs) (allBoth ℕ-sum xs rs ++ allBoth ℕ-sum ys rs)
+both-append rs [] ys = refl
+both-append rs (x ∷ xs) ys = ap {B = List Step} (λ l. map (both ℕ-sum x) rs ++ l) (both-append rs xs ys) ∙ sym (append-assoc (map (both ℕ-sum x) rs) (allBoth ℕ-sum xs rs) (allBoth ℕ-sum ys rs))
+
+-- ---- one arc of the first side
+
+module _ (p : Plan) (h : Head) (c : Vertex) (a1 a2 : List ℕ) (i : ℕ) (v : List ℕ) (q : Ready p h 8192 (length v)) (within : i < p .first .arcs)
+    (x : ℕ) (source-is : x ≡ le (part (80 * i) 2 a1)) where
+  abbrev arc : Arc ℕ
+  arc = arcAs (p .first .tapes) (arcAt (80 * i) a1)
+
+  -- it leaves another state
+  pub both-away : (x ≡ c .first → ⊥) → TriesBoth p h c a1 a2 i v h v
+  both-away n = record {
+    grows = grows-none p 8192 h v (q .fits);
+    meaning = λ A B b k l e.
+        let rs = outAt ℕ-sum (system B) (b .1) in
+        let o : outBy (arc ∷ []) (b .0) ≡ [] = out-away arc (b .0) (λ z. n (source-is ∙ sym (source-at (80 * i) a1) ∙ z ∙ sym (ap (λ (y : Vertex). y .first) e))) in
+        notes-same p A B b [] (allBoth ℕ-sum (outBy (arc ∷ []) (b .0)) rs) h h v v (sym (ap {B = List Step} (λ ss. allBoth ℕ-sum ss rs) o)) (notes-none p A B b h v);
+  }
+
+  -- it leaves the first side's state
+  pub both-there : x ≡ c .first → (t : ℕ) → t ≡ le (part (80 * i + 2) 2 a1) → (r : Head) (w : List ℕ) → PassesSecond p h c i t a2 v r w → TriesBoth p h c a1 a2 i v r w
+  both-there n t target-is r w a = record {
+    grows = a .grows;
+    meaning = λ A B b k l e. go A B b k l e (b .0) refl;
+  }
+    where
+      source : arc .source ≡ c .first
+      source = source-at (80 * i) a1 ∙ sym source-is ∙ n
+
+      target : t ≡ arc .target
+      target = target-is ∙ sym (target-at (80 * i) a1)
+
+      go : (A B : Automaton ℕ) (b : automata.Vertex) → ReadsArcs (p .first) a1 A → ReadsArcs (p .second) a2 B → c ≡ vertexOf b → (o : Option ℕ) → b .0 ≡ o
+          → Notes p A B b (allBoth ℕ-sum (outBy (arc ∷ []) (b .0)) (outAt ℕ-sum (system B) (b .1))) h v r w
+      go A B b k l e none f =
+          let s = source in
+          let z : c .first ≡ 65535 = ap (λ (y : Vertex). y .first) e ∙ ap placeNumber f in
+          absurd (omega (arith, s, z, k .source-fits i within, k .few-states))
+      go A B b k l e (some d) f =
+          let rs = outAt ℕ-sum (system B) (b .1) in
+          let s : arc .source ≡ d = source ∙ ap (λ (y : Vertex). y .first) e ∙ ap placeNumber f in
+          let o : outBy (arc ∷ []) (b .0) ≡ (content arc, arc .target) ∷ [] = ap (outBy (arc ∷ [])) f ∙ out-one arc d s in
+          let F : Content ℕ → Content ℕ = bothContent ℕ-sum (content arc) in
+          let steps : List Step = map (onSecond F (some (arc .target))) rs in
+          let whole : steps ≡ allBoth ℕ-sum (outBy (arc ∷ []) (b .0)) rs = sym (append-nil steps) ∙ sym (ap {B = List Step} (λ ss. allBoth ℕ-sum ss rs) o) in
+          notes-same p A B b steps (allBoth ℕ-sum (outBy (arc ∷ []) (b .0)) rs) h r v w whole
+          (a .meaning A B b F (some (arc .target)) (record {
+            reads = l;
+            few = k .few-states;
+            vertex-is = ap (λ (y : Vertex). y .second) e;
+            place-is = target;
+            below = k .target-fits i within;
+            carries = λ j y g. by-both (k .loaded i within) g;
+          }))
+
+-- ---- all of them
+
+-- the first i were looked at
+pub record PassingBoth (p : Plan) (h : Head) (c : Vertex) (a1 a2 : List ℕ) (v : List ℕ) (g : Head) (w : List ℕ) (i : ℕ) : Type 0 where
+  pub within : i ≤ p .first .arcs
+  pub opened : g .full ≡ false
+  pub grows : Grows p (8192 * i) h v g w
+  pub meaning : (A B : Automaton ℕ) (b : automata.Vertex) → ReadsArcs (p .first) a1 A → ReadsArcs (p .second) a2 B → c ≡ vertexOf b
+      → Notes p A B b (allBoth ℕ-sum (outBy (take i (A .arcs)) (b .0)) (outAt ℕ-sum (system B) (b .1))) h v g w
+
+module _ (p : Plan) (h : Head) (c : Vertex) (a1 a2 : List ℕ) (v : List ℕ) (q : Ready p h 67108864 (length v)) (lent-first : ArcsLent (p .first) a1) (lent-second : ArcsLent (p .second) a2) where
+  -- the pairs of steps with those of the second side
+  abbrev pairsWith : Automaton ℕ → automata.Vertex → List (Content ℕ × ℕ) → List Step
+  pairsWith B b ss = allBoth ℕ-sum ss (outAt ℕ-sum (system B) (b .1))
+
+  pub both-start : h .full ≡ false → PassingBoth p h c a1 a2 v h v 0
+  both-start f = record {
+    within = omega arith;
+    opened = f;
+    grows = grows-none p (8192 * 0) h v (q .fits);
+    meaning = λ A B b k l e. turn-start (pairsWith B b) refl (both-append (outAt ℕ-sum (system B) (b .1))) p A B b (A .arcs) (b .0) h v;
+  }
+
+  module _ (g : Head) (w : List ℕ) (i : ℕ) (t : PassingBoth p h c a1 a2 v g w i) where
+    pub both-requires : i < p .first .arcs
+        → (Ready p g 8192 (length w)) × (g .full ≡ false) × (ArcsLent (p .first) a1) × (i < p .first .arcs) × (ArcsLent (p .second) a2)
+    both-requires b = (ready-on p (8192 * i) 8192 67108864 h g v w q (t .grows) (omega (arith, b, lent-first .few)), t .opened, lent-first, b, lent-second)
+
+    module _ (b : i < p .first .arcs) (r : Head) (u : List ℕ) (z : TriesBoth p g c a1 a2 i w r u) where
+      next-grows : Grows p (8192 * (i + 1)) h v r u
+      next-grows = grows-then p (8192 * i) 8192 (8192 * (i + 1)) h g r v w u (t .grows) (z .grows) (omega arith)
+
+      next-means : (A B : Automaton ℕ) (d : automata.Vertex) → ReadsArcs (p .first) a1 A → ReadsArcs (p .second) a2 B → c ≡ vertexOf d
+          → Notes p A B d (allBoth ℕ-sum (outBy (take (i + 1) (A .arcs)) (d .0)) (outAt ℕ-sum (system B) (d .1))) h v r u
+      next-means A B d k l e = turn-more (pairsWith B d) refl (both-append (outAt ℕ-sum (system B) (d .1))) p A B d (A .arcs) (d .0) h v
+          i (arcAs (p .first .tapes) (arcAt (80 * i) a1)) g r w u (t .grows .taken) (t .meaning A B d k l e) (k .loaded i b) (z .meaning A B d k l e)
+
+      pub both-next : r .full ≡ false → PassingBoth p h c a1 a2 v r u (i + 1)
+      both-next f = record { within = omega arith; opened = f; grows = next-grows; meaning = next-means }
+
+      pub both-full : r .full ≡ true → PassesBoth p h c a1 a2 v r u
+      both-full f = record {
+        grows = grows-wider p (8192 * (i + 1)) 67108864 h r v u next-grows (omega (arith, b, lent-first .few));
+        meaning = λ A B d k l e. subst (λ (ss : List (Content ℕ × ℕ)). Notes p A B d (pairsWith B d ss) h v r u) (out-all A (d .0))
+            (turn-full (pairsWith B d) refl (both-append (outAt ℕ-sum (system B) (d .1))) p A B d (A .arcs) (d .0) h v (i + 1) r u f (next-means A B d k l e));
+      }
+
+    pub both-end : p .first .arcs ≤ i → PassesBoth p h c a1 a2 v g w
+    both-end b = record {
+      grows = grows-wider p (8192 * i) 67108864 h g v w (t .grows) (omega (arith, t .within, lent-first .few));
+      meaning = λ A B d k l e. subst (λ (ss : List (Content ℕ × ℕ)). Notes p A B d (pairsWith B d ss) h v g w) (out-all A (d .0))
+          (turn-all (pairsWith B d) refl (both-append (outAt ℕ-sum (system B) (d .1))) p A B d (A .arcs) (d .0) h v i g w (omega (arith, b, k .count)) (t .meaning A B d k l e));
+    }

@@ -1,0 +1,114 @@
+-- The arcs of the second side, with one move of the first side.
+use Prim.Native.Nat.{ℕ, _+_, _-_, _*_, _≤_, _<_}
+use mathlib.Core.Path.{_≡_, refl, sym, ap, _∙_, subst}
+use mathlib.Core.Bool.{true, false}
+use mathlib.Core.Option.{Option, none, some}
+use mathlib.Core.List.{List, [], _∷_, map}
+use native.Mathlib.Omega.{arith}
+use lib.ListN.{length, take}
+use Rattle.automata.specs.Automaton.{Automaton, Arc, Content, content}
+use Rattle.automata.specs.Product as automata
+use Rattle.automata.proofs.ListFacts
+use Rattle.memory.specs.Region.{part}
+use Rattle.memory.specs.Endian.{le}
+use Rattle.memory.specs.Records.{arcAs, arcAt}
+use Rattle.alignment.specs.declared.vertex.Vertex.{Vertex}
+use Rattle.alignment.specs.declared.plan.Plan.{Plan}
+use Rattle.alignment.specs.declared.head.Head.{Head}
+use Rattle.alignment.specs.Vertices.{placeNumber}
+use Rattle.alignment.specs.Reading.{ArcsLent}
+use Rattle.alignment.specs.Searching.{Step, Notes, Ready, Grows, Arrives, outBy, onSecond, BySecond, TriesSecond, PassesSecond}
+use Rattle.alignment.proofs.NoteLaws.{grows-none, grows-then, grows-wider, ready-on, notes-none, notes-same}
+use Rattle.alignment.proofs.ReadLaws.{source-at, target-at, out-one, out-away, out-all, turn-start, turn-more, turn-full, turn-all}
+
+-- ---- one arc
+
+module _ (p : Plan) (h : Head) (c : Vertex) (i to : ℕ) (arcs : List ℕ) (j : ℕ) (v : List ℕ) (q : Ready p h 1 (length v)) (within : j < p .second .arcs)
+    (x : ℕ) (source-is : x ≡ le (part (80 * j) 2 arcs)) where
+  abbrev arc : Arc ℕ
+  arc = arcAs (p .second .tapes) (arcAt (80 * j) arcs)
+
+  -- it leaves another state
+  pub second-away : (x ≡ c .second → ⊥) → TriesSecond p h c i to arcs j v h v
+  second-away n = record {
+    grows = grows-none p 1 h v (q .fits);
+    meaning = λ A B b F y k.
+        let e : outBy (arc ∷ []) (b .1) ≡ [] = out-away arc (b .1) (λ z. n (source-is ∙ sym (source-at (80 * j) arcs) ∙ z ∙ sym (k .vertex-is))) in
+        notes-same p A B b [] (map (onSecond F y) (outBy (arc ∷ []) (b .1))) h h v v (sym (ap (map (onSecond F y)) e)) (notes-none p A B b h v);
+  }
+
+  -- it leaves the second side's state
+  pub second-there : x ≡ c .second → (t : ℕ) → t ≡ le (part (80 * j + 2) 2 arcs) → (r : Head) (w : List ℕ) → Arrives p h (record { first = to; second = t }) i j v r w
+      → TriesSecond p h c i to arcs j v r w
+  second-there n t target-is r w a = record {
+    grows = a .grows;
+    meaning = λ A B b F y k. go A B b F y k (b .1) refl;
+  }
+    where
+      source : arc .source ≡ c .second
+      source = source-at (80 * j) arcs ∙ sym source-is ∙ n
+
+      target : t ≡ arc .target
+      target = target-is ∙ sym (target-at (80 * j) arcs)
+
+      go : (A B : Automaton ℕ) (b : automata.Vertex) (F : Content ℕ → Content ℕ) (y : Option ℕ) → BySecond p arcs c i to A B b F y
+          → (o : Option ℕ) → b .1 ≡ o → Notes p A B b (map (onSecond F y) (outBy (arc ∷ []) (b .1))) h v r w
+      go A B b F y k none e =
+          let s = source in
+          let z : c .second ≡ 65535 = k .vertex-is ∙ ap placeNumber e in
+          absurd (omega (arith, s, z, k .reads .source-fits j within, k .reads .few-states))
+      go A B b F y k (some d) e =
+          let s : arc .source ≡ d = source ∙ k .vertex-is ∙ ap placeNumber e in
+          let l : outBy (arc ∷ []) (b .1) ≡ (content arc, arc .target) ∷ [] = ap (outBy (arc ∷ [])) e ∙ out-one arc d s in
+          notes-same p A B b ((F (content arc), (y, some (arc .target))) ∷ []) (map (onSecond F y) (outBy (arc ∷ []) (b .1))) h r v w (sym (ap (map (onSecond F y)) l))
+          (a .meaning A B b (y, some (arc .target)) (F (content arc)) (k .few) (k .reads .few-states)
+          (λ z. record { first = k .place-is z; second = target z }) (k .below, k .reads .target-fits j within) (k .carries j arc (k .reads .loaded j within)))
+
+-- ---- all arcs
+
+-- the first j were looked at
+pub record PassingSecond (p : Plan) (h : Head) (c : Vertex) (i to : ℕ) (arcs : List ℕ) (v : List ℕ) (g : Head) (w : List ℕ) (j : ℕ) : Type 0 where
+  pub within : j ≤ p .second .arcs
+  pub opened : g .full ≡ false
+  pub grows : Grows p j h v g w
+  pub meaning : (A B : Automaton ℕ) (b : automata.Vertex) (F : Content ℕ → Content ℕ) (x : Option ℕ) → BySecond p arcs c i to A B b F x
+      → Notes p A B b (map (onSecond F x) (outBy (take j (B .arcs)) (b .1))) h v g w
+
+module _ (p : Plan) (h : Head) (c : Vertex) (i to : ℕ) (arcs : List ℕ) (v : List ℕ) (q : Ready p h 8192 (length v)) (lent : ArcsLent (p .second) arcs) where
+  pub second-start : h .full ≡ false → PassingSecond p h c i to arcs v h v 0
+  second-start f = record {
+    within = omega arith;
+    opened = f;
+    grows = grows-none p 0 h v (q .fits);
+    meaning = λ A B b F x k. turn-start (map (onSecond F x)) refl (ListFacts.map-append (onSecond F x)) p A B b (B .arcs) (b .1) h v;
+  }
+
+  module _ (g : Head) (w : List ℕ) (j : ℕ) (t : PassingSecond p h c i to arcs v g w j) where
+    pub second-requires : j < p .second .arcs → (Ready p g 1 (length w)) × (g .full ≡ false) × (ArcsLent (p .second) arcs) × (j < p .second .arcs)
+    second-requires b = (ready-on p j 1 8192 h g v w q (t .grows) (omega (arith, b, lent .few)), t .opened, lent, b)
+
+    module _ (b : j < p .second .arcs) (r : Head) (u : List ℕ) (z : TriesSecond p g c i to arcs j w r u) where
+      next-grows : Grows p (j + 1) h v r u
+      next-grows = grows-then p j 1 (j + 1) h g r v w u (t .grows) (z .grows) (omega arith)
+
+      next-means : (A B : Automaton ℕ) (d : automata.Vertex) (F : Content ℕ → Content ℕ) (x : Option ℕ) → BySecond p arcs c i to A B d F x
+          → Notes p A B d (map (onSecond F x) (outBy (take (j + 1) (B .arcs)) (d .1))) h v r u
+      next-means A B d F x k = turn-more (map (onSecond F x)) refl (ListFacts.map-append (onSecond F x)) p A B d (B .arcs) (d .1) h v
+          j (arcAs (p .second .tapes) (arcAt (80 * j) arcs)) g r w u (t .grows .taken) (t .meaning A B d F x k) (k .reads .loaded j b) (z .meaning A B d F x k)
+
+      pub second-next : r .full ≡ false → PassingSecond p h c i to arcs v r u (j + 1)
+      second-next f = record { within = omega arith; opened = f; grows = next-grows; meaning = next-means }
+
+      pub second-full : r .full ≡ true → PassesSecond p h c i to arcs v r u
+      second-full f = record {
+        grows = grows-wider p (j + 1) 8192 h r v u next-grows (omega (arith, b, lent .few));
+        meaning = λ A B d F x k. subst (λ (l : List (Content ℕ × ℕ)). Notes p A B d (map (onSecond F x) l) h v r u) (out-all B (d .1))
+            (turn-full (map (onSecond F x)) refl (ListFacts.map-append (onSecond F x)) p A B d (B .arcs) (d .1) h v (j + 1) r u f (next-means A B d F x k));
+      }
+
+    pub second-end : p .second .arcs ≤ j → PassesSecond p h c i to arcs v g w
+    second-end b = record {
+      grows = grows-wider p j 8192 h g v w (t .grows) (omega (arith, t .within, lent .few));
+      meaning = λ A B d F x k. subst (λ (l : List (Content ℕ × ℕ)). Notes p A B d (map (onSecond F x) l) h v g w) (out-all B (d .1))
+          (turn-all (map (onSecond F x)) refl (ListFacts.map-append (onSecond F x)) p A B d (B .arcs) (d .1) h v j g w (omega (arith, b, k .reads .count)) (t .meaning A B d F x k));
+    }

@@ -1,0 +1,67 @@
+-- The whole search: what it comes to are the reached states of the product and the moves between them.
+use mathlib.Core.Path.{_≡_}
+use mathlib.Core.Bool.{true, false}
+use mathlib.Core.List.{List}
+use Prim.Native.Nat.{ℕ, _≤_, _<_}
+use lib.ListN.{length}
+use Rattle.automata.specs.Lists.{All}
+use Rattle.automata.specs.OrderedSum.{ℕ-sum}
+use Rattle.automata.specs.Automaton.{Automaton, Content}
+use Rattle.automata.specs.Explore.{Edge, edges}
+use Rattle.automata.specs.Search.{searchFrom}
+use Rattle.automata.specs.Product as automata
+use Rattle.automata.specs.Product.{sameVertex, productSystem, productStates}
+use Rattle.alignment.specs.declared.plan.Plan.{Plan}
+use Rattle.alignment.specs.declared.head.Head.{Head}
+use Rattle.alignment.specs.Vertices.{HoldsVertices, VertexBelow}
+use Rattle.alignment.specs.Moves.{HoldsMoves}
+use Rattle.alignment.specs.Plans.{firstIn, secondIn}
+use Rattle.alignment.specs.Searching.{Comes, Tables, Reads}
+use Rattle.alignment.specs.Starting.{Open, startsOf}
+
+module _ (p : Plan) (s1 a1 s2 a2 : List ℕ) where
+  -- the reached states of the product, or more than there is room for
+  abbrev pub reachedIn : List automata.Vertex
+  reachedIn = productStates ℕ-sum (p .states) (firstIn p s1 a1) (secondIn p s2 a2)
+
+  -- the moves between them
+  abbrev pub edgesIn : List (Edge (Content ℕ))
+  edgesIn = edges sameVertex (productSystem ℕ-sum (firstIn p s1 a1) (secondIn p s2 a2) .out) (productStates ℕ-sum (p .states) (firstIn p s1 a1) (secondIn p s2 a2))
+
+-- the head r and the work space w hold the reached states and the moves between them
+pub record Held (p : Plan) (s1 a1 s2 a2 : List ℕ) (r : Head) (w : List ℕ) : Type 0 where
+  pub few : length (reachedIn p s1 a1 s2 a2) ≤ p .states
+  pub reached-is : r .reached ≡ length (reachedIn p s1 a1 s2 a2)
+  pub vertices : HoldsVertices (reachedIn p s1 a1 s2 a2) w
+  pub below : All (VertexBelow (length (firstIn p s1 a1 .states)) (length (secondIn p s2 a2 .states))) (reachedIn p s1 a1 s2 a2)
+  pub arcs-is : r .arcs ≡ length (edgesIn p s1 a1 s2 a2)
+  pub moves : HoldsMoves (firstIn p s1 a1) (secondIn p s2 a2) (reachedIn p s1 a1 s2 a2) (p .base) (p .arcs) (edgesIn p s1 a1 s2 a2) w
+
+-- ---- taking up all that is reached
+
+module _ (p : Plan) (A B : Automaton ℕ) where
+  -- the reached states of the product of A and B, or more than there is room for
+  abbrev pub reachedOf : List automata.Vertex
+  reachedOf = productStates ℕ-sum (p .states) A B
+
+  -- the head r and the work space w hold them and the moves between them, or the head is full and there are more than there is room for
+  abbrev pub ComesToReached : Head → List ℕ → Type 0
+  ComesToReached r w = Comes p A B r (record { vertices = reachedOf; edges = edges sameVertex (productSystem ℕ-sum A B .out) reachedOf }) w
+
+-- they may be taken up: nothing was yet
+pub record Runnable (p : Plan) (h : Head) (s1 a1 s2 a2 : List ℕ) (size : ℕ) : Type 0 where
+  pub open-still : Open p h size
+  pub tables : Tables p s1 a1 s2 a2
+  pub taken : h .taken ≡ 0
+  pub arcs-none : h .arcs ≡ 0
+
+-- they were taken up
+pub record Runs (p : Plan) (h : Head) (s1 a1 s2 a2 : List ℕ) (v : List ℕ) (r : Head) (w : List ℕ) : Type 0 where
+  pub same-length : length w ≡ length v
+  pub meaning : (A B : Automaton ℕ) → Reads p s1 a1 s2 a2 A B → Comes p A B h (searchFrom sameVertex (startsOf A B)) v → ComesToReached p A B r w
+
+-- what the whole search leaves: either all that is reached, or there is more than there is room for
+pub record Explored (p : Plan) (s1 a1 s2 a2 : List ℕ) (v : List ℕ) (r : Head) (w : List ℕ) : Type 0 where
+  pub same-length : length w ≡ length v
+  pub over : r .full ≡ true → p .states < length (reachedIn p s1 a1 s2 a2)
+  pub held : r .full ≡ false → Held p s1 a1 s2 a2 r w

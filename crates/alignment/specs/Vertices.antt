@@ -1,0 +1,44 @@
+-- States of a product in work space: a number for each side, and rows of four bytes.
+use mathlib.Core.Path.{_≡_}
+use mathlib.Core.Option.{Option, none, some}
+use mathlib.Core.List.{List, _++_, map}
+use Prim.Native.Nat.{ℕ, _+_, _<_}
+use lib.ListN.{length}
+use Rattle.automata.specs.Product as automata
+use Rattle.memory.specs.Region.{part, rows}
+use Rattle.memory.specs.Endian.{le, toLe}
+use Rattle.alignment.specs.declared.vertex.Vertex.{Vertex}
+
+-- the number that stands for a place: 65535 where the path has ended
+abbrev pub placeNumber : Option ℕ → ℕ
+placeNumber none = 65535
+placeNumber (some q) = q
+
+-- a state of the product by value
+abbrev pub vertexOf : automata.Vertex → Vertex
+vertexOf c = record { first = placeNumber (c .0); second = placeNumber (c .1) }
+
+-- the four bytes of a state by value
+unfoldable pub vertexBytes : Vertex → List ℕ
+vertexBytes v = toLe 2 (v .first) ++ toLe 2 (v .second)
+
+-- the row of a state
+abbrev pub rowOf : automata.Vertex → List ℕ
+rowOf c = vertexBytes (vertexOf c)
+
+-- the rows of cs stand one behind the other at the front of w
+abbrev pub HoldsVertices : List automata.Vertex → List ℕ → Type 0
+HoldsVertices cs w = rows 0 4 (length cs) w ≡ map rowOf cs
+
+-- a place has ended or is one of n
+abbrev pub PlaceBelow : ℕ → Option ℕ → Type 0
+PlaceBelow n none = Unit {0}
+PlaceBelow n (some q) = q < n
+
+-- a state of the product of automata with n and with m states
+abbrev pub VertexBelow : ℕ → ℕ → automata.Vertex → Type 0
+VertexBelow n m c = PlaceBelow n (c .0) × PlaceBelow m (c .1)
+
+-- the state by value whose row stands at place at
+abbrev pub vertexAt : ℕ → List ℕ → Vertex
+vertexAt at w = record { first = le (part at 2 w); second = le (part (at + 2) 2 w) }

@@ -1,0 +1,164 @@
+// The search over all states of the product that are reached.
+ghost use mathlib.Core.Path.{_≡_};
+ghost use mathlib.Core.Bool.{false};
+ghost use Prim.Native.Nat.{_<_};
+ghost use lib.ListN.{length};
+ghost use Rattle.alignment.specs.Plans.{Explorable};
+ghost use Rattle.alignment.specs.Reading.{StatesLent};
+ghost use Rattle.alignment.specs.Starting.{Open, Admits, StartsOne, StartsAll, StartsBoth, Beginnable, Begun};
+ghost use Rattle.alignment.specs.Exploring.{Runnable, Runs, Explored};
+use crate::head::Head;
+use crate::plan::Plan;
+use crate::vertex::Vertex;
+use crate::vertex::enter_vertex;
+use rows::Entered;
+
+impl Head {
+    // A state of the product in which a path starts.
+    fn admit(mut self, plan: Plan, d: Vertex, work: &mut [u8]) -> Head
+        requires { ⌜ (Open plan self (length (now work))) × (self .full ≡ false) ⌝ }
+        ensures { λ r. ⌜ Admits plan self d (now (work .entry)) r (now (work .exit)) ⌝ }
+    {
+        match enter_vertex(work, self.reached, plan.states, d) {
+            Entered::At(_) => self,
+            Entered::New(_) => {
+                self.reached += 1;
+                self
+            }
+            Entered::Full => {
+                self.full = true;
+                self
+            }
+        }
+    }
+
+    // The state with number `q` of the second side, with the state `x` of the first.
+    fn start_one(self, plan: Plan, x: u16, states: &[u8], q: usize, work: &mut [u8]) -> Head
+        requires { ⌜ (Open plan self (length (now work))) × (self .full ≡ false) × (StatesLent (plan .second) (now states)) × (q < plan .second .states) ⌝ }
+        ensures { λ r. ⌜ StartsOne plan self x (now (states .entry)) q (now (work .entry)) r (now (work .exit)) ⌝ }
+    {
+        if states[10 * q] == 0 {
+            return self;
+        }
+        let d = Vertex {
+            first: x,
+            second: q as u16,
+        };
+        self.admit(plan, d, work)
+    }
+
+    // All states of the second side, with the state `x` of the first.
+    fn start_all(mut self, plan: Plan, x: u16, states: &[u8], work: &mut [u8]) -> Head
+        requires { ⌜ (Open plan self (length (now work))) × (self .full ≡ false) × (StatesLent (plan .second) (now states)) ⌝ }
+        ensures { λ r. ⌜ StartsAll plan self x (now (states .entry)) (now (work .entry)) r (now (work .exit)) ⌝ }
+    {
+        let counts = plan.second;
+        let mut q: usize = 0;
+        while q < counts.states {
+            self = self.start_one(plan, x, states, q, work);
+            if self.full {
+                return self;
+            }
+            q += 1;
+        }
+        self
+    }
+
+    // The state with number `q` of the first side, with all of the second side.
+    fn start_both(
+        self,
+        plan: Plan,
+        first_states: &[u8],
+        q: usize,
+        second_states: &[u8],
+        work: &mut [u8],
+    ) -> Head
+        requires { ⌜ (Open plan self (length (now work))) × (self .full ≡ false) × (StatesLent (plan .first) (now «first_states»)) × (q < plan .first .states) × (StatesLent (plan .second) (now «second_states»)) ⌝ }
+        ensures { λ r. ⌜ StartsBoth plan self (now («first_states» .entry)) q (now («second_states» .entry)) (now (work .entry)) r (now (work .exit)) ⌝ }
+    {
+        if first_states[10 * q] == 0 {
+            return self;
+        }
+        self.start_all(plan, q as u16, second_states, work)
+    }
+}
+
+// All pairs of initial states, the first side's leading.
+fn begin(plan: Plan, first_states: &[u8], second_states: &[u8], work: &mut [u8]) -> Head
+    requires { ⌜ Beginnable plan (now «first_states») (now «second_states») (length (now work)) ⌝ }
+    ensures { λ r. ⌜ Begun plan (now («first_states» .entry)) (now («second_states» .entry)) (now (work .entry)) r (now (work .exit)) ⌝ }
+{
+    let counts = plan.first;
+    let mut head = Head {
+        taken: 0,
+        reached: 0,
+        arcs: 0,
+        full: false,
+    };
+    let mut q: usize = 0;
+    while q < counts.states {
+        head = head.start_both(plan, first_states, q, second_states, work);
+        if head.full {
+            return head;
+        }
+        q += 1;
+    }
+    head
+}
+
+// All states that are reached from those, taken up one after the other.
+fn run(
+    start: Head,
+    plan: Plan,
+    first_states: &[u8],
+    first_arcs: &[u8],
+    second_states: &[u8],
+    second_arcs: &[u8],
+    work: &mut [u8],
+) -> Head
+    requires { ⌜ Runnable plan start (now «first_states») (now «first_arcs») (now «second_states») (now «second_arcs») (length (now work)) ⌝ }
+    ensures { λ r. ⌜ Runs plan start (now («first_states» .entry)) (now («first_arcs» .entry)) (now («second_states» .entry)) (now («second_arcs» .entry)) (now (work .entry)) r (now (work .exit)) ⌝ }
+{
+    if start.full {
+        return start;
+    }
+    let mut head = start;
+    while head.taken < head.reached {
+        head = head.take_up(
+            plan,
+            first_states,
+            first_arcs,
+            second_states,
+            second_arcs,
+            work,
+        );
+        if head.full {
+            return head;
+        }
+    }
+    head
+}
+
+// The states in which paths start, and then all that are reached.
+pub fn explore(
+    plan: Plan,
+    first_states: &[u8],
+    first_arcs: &[u8],
+    second_states: &[u8],
+    second_arcs: &[u8],
+    work: &mut [u8],
+) -> Head
+    requires { ⌜ Explorable plan (now «first_states») (now «first_arcs») (now «second_states») (now «second_arcs») (length (now work)) ⌝ }
+    ensures { λ r. ⌜ Explored plan (now («first_states» .entry)) (now («first_arcs» .entry)) (now («second_states» .entry)) (now («second_arcs» .entry)) (now (work .entry)) r (now (work .exit)) ⌝ }
+{
+    let head = begin(plan, first_states, second_states, work);
+    run(
+        head,
+        plan,
+        first_states,
+        first_arcs,
+        second_states,
+        second_arcs,
+        work,
+    )
+}

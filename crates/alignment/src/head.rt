@@ -1,0 +1,271 @@
+// The head of the search over the states of a product, and what it leaves in the work space.
+ghost use mathlib.Core.Path.{_≡_};
+ghost use mathlib.Core.Bool.{false};
+ghost use Prim.Native.Nat.{_+_, _*_, _≤_, _<_};
+ghost use lib.ListN.{length};
+ghost use Rattle.alignment.specs.Moves.{keptMove};
+ghost use Rattle.alignment.specs.Reading.{StatesLent, ArcsLent};
+ghost use Rattle.alignment.specs.Searching.{counted, Ready, Arrives, TriesSecond, PassesSecond, TriesFirst, PassesFirst, TriesBoth, PassesBoth, TellsEnd, EndsFirst, EndsSecond, Tables, TakesUp};
+use crate::plan::Plan;
+use crate::vertex::Move;
+use crate::vertex::Vertex;
+use crate::vertex::enter_vertex;
+use crate::vertex::keep_move;
+use crate::vertex::load_vertex;
+use memory::answer::Counts;
+use memory::bytes::get16;
+use memory::record::ResultState;
+use rows::Entered;
+
+// How many states were taken up and how many reached, how many arcs there are between them, and whether there were more states than there is
+// room for.
+pub struct Head {
+    pub taken: usize,
+    pub reached: usize,
+    pub arcs: usize,
+    pub full: bool,
+}
+
+// Whether a path may end in the place with number `x`: it has ended there already, or the state has a final weight.
+pub fn may_end(counts: Counts, states: &[u8], x: u16) -> bool
+    requires { ⌜ StatesLent counts (now states) ⌝ }
+    ensures { λ r. ⌜ TellsEnd counts (now (states .entry)) x r ⌝ }
+{
+    let q = x as usize;
+    if counts.states <= q {
+        return true;
+    }
+    if states[10 * q + 5] == 0 {
+        return false;
+    }
+    true
+}
+
+impl Head {
+    // A move from the state that is taken up.
+    fn note(mut self, plan: Plan, work: &mut [u8], i: u16, j: u16, to: ResultState) -> Head
+        requires { ⌜ (plan .base + 16 * plan .arcs ≤ length (now work)) × (self .taken < 1024) × (self .arcs < 1000000000000) ⌝ }
+        ensures { λ r. ⌜ (r ≡ counted self) × (now (work .exit) ≡ keptMove (plan .base) (plan .arcs) (self .arcs) (record { from = record { 0 = self .taken }; first = i; second = j; to = to }) (now (work .entry))) ⌝ }
+    {
+        let m = Move {
+            from: ResultState(self.taken as u16),
+            first: i,
+            second: j,
+            to,
+        };
+        keep_move(work, plan.base, plan.arcs, self.arcs, m);
+        self.arcs += 1;
+        self
+    }
+
+    // A move by the arcs with numbers `i` and `j` to the state `to`.
+    fn arrive(mut self, plan: Plan, to: Vertex, i: u16, j: u16, work: &mut [u8]) -> Head
+        requires { ⌜ (Ready plan self 1 (length (now work))) × (self .full ≡ false) ⌝ }
+        ensures { λ r. ⌜ Arrives plan self to i j (now (work .entry)) r (now (work .exit)) ⌝ }
+    {
+        match enter_vertex(work, self.reached, plan.states, to) {
+            Entered::At(state) => self.note(plan, work, i, j, state),
+            Entered::New(state) => {
+                self.reached += 1;
+                self.note(plan, work, i, j, state)
+            }
+            Entered::Full => {
+                self.full = true;
+                self
+            }
+        }
+    }
+
+    // The arc with number `j` of the second side, with a move of the first side by the arc `i` to the place `to`.
+    fn try_second(
+        self,
+        plan: Plan,
+        c: Vertex,
+        i: u16,
+        to: u16,
+        arcs: &[u8],
+        j: usize,
+        work: &mut [u8],
+    ) -> Head
+        requires { ⌜ (Ready plan self 1 (length (now work))) × (self .full ≡ false) × (ArcsLent (plan .second) (now arcs)) × (j < plan .second .arcs) ⌝ }
+        ensures { λ r. ⌜ TriesSecond plan self c i to (now (arcs .entry)) j (now (work .entry)) r (now (work .exit)) ⌝ }
+    {
+        let at = 80 * j;
+        if get16(arcs, at) != c.second {
+            return self;
+        }
+        let second = get16(arcs, at + 2);
+        let next = Vertex { first: to, second };
+        self.arrive(plan, next, i, j as u16, work)
+    }
+
+    // All arcs of the second side, with that move of the first side.
+    fn pass_second(
+        mut self,
+        plan: Plan,
+        c: Vertex,
+        i: u16,
+        to: u16,
+        arcs: &[u8],
+        work: &mut [u8],
+    ) -> Head
+        requires { ⌜ (Ready plan self 8192 (length (now work))) × (self .full ≡ false) × (ArcsLent (plan .second) (now arcs)) ⌝ }
+        ensures { λ r. ⌜ PassesSecond plan self c i to (now (arcs .entry)) (now (work .entry)) r (now (work .exit)) ⌝ }
+    {
+        let counts = plan.second;
+        let mut j: usize = 0;
+        while j < counts.arcs {
+            self = self.try_second(plan, c, i, to, arcs, j, work);
+            if self.full {
+                return self;
+            }
+            j += 1;
+        }
+        self
+    }
+
+    // The arc with number `i` of the first side, where the second side's path has ended.
+    fn try_first(self, plan: Plan, c: Vertex, arcs: &[u8], i: usize, work: &mut [u8]) -> Head
+        requires { ⌜ (Ready plan self 1 (length (now work))) × (self .full ≡ false) × (ArcsLent (plan .first) (now arcs)) × (i < plan .first .arcs) ⌝ }
+        ensures { λ r. ⌜ TriesFirst plan self c (now (arcs .entry)) i (now (work .entry)) r (now (work .exit)) ⌝ }
+    {
+        let at = 80 * i;
+        if get16(arcs, at) != c.first {
+            return self;
+        }
+        let first = get16(arcs, at + 2);
+        let next = Vertex {
+            first,
+            second: 65535,
+        };
+        self.arrive(plan, next, i as u16, 65535, work)
+    }
+
+    // All arcs of the first side, where the second side's path has ended.
+    fn pass_first(mut self, plan: Plan, c: Vertex, arcs: &[u8], work: &mut [u8]) -> Head
+        requires { ⌜ (Ready plan self 8192 (length (now work))) × (self .full ≡ false) × (ArcsLent (plan .first) (now arcs)) ⌝ }
+        ensures { λ r. ⌜ PassesFirst plan self c (now (arcs .entry)) (now (work .entry)) r (now (work .exit)) ⌝ }
+    {
+        let counts = plan.first;
+        let mut i: usize = 0;
+        while i < counts.arcs {
+            self = self.try_first(plan, c, arcs, i, work);
+            if self.full {
+                return self;
+            }
+            i += 1;
+        }
+        self
+    }
+
+    // The arc with number `i` of the first side, with all of the second side.
+    fn try_both(
+        self,
+        plan: Plan,
+        c: Vertex,
+        first_arcs: &[u8],
+        i: usize,
+        second_arcs: &[u8],
+        work: &mut [u8],
+    ) -> Head
+        requires { ⌜ (Ready plan self 8192 (length (now work))) × (self .full ≡ false) × (ArcsLent (plan .first) (now «first_arcs»)) × (i < plan .first .arcs) × (ArcsLent (plan .second) (now «second_arcs»)) ⌝ }
+        ensures { λ r. ⌜ TriesBoth plan self c (now («first_arcs» .entry)) (now («second_arcs» .entry)) i (now (work .entry)) r (now (work .exit)) ⌝ }
+    {
+        let at = 80 * i;
+        if get16(first_arcs, at) != c.first {
+            return self;
+        }
+        let to = get16(first_arcs, at + 2);
+        self.pass_second(plan, c, i as u16, to, second_arcs, work)
+    }
+
+    // All pairs of arcs, the first side's leading.
+    fn pass_both(
+        mut self,
+        plan: Plan,
+        c: Vertex,
+        first_arcs: &[u8],
+        second_arcs: &[u8],
+        work: &mut [u8],
+    ) -> Head
+        requires { ⌜ (Ready plan self 67108864 (length (now work))) × (self .full ≡ false) × (ArcsLent (plan .first) (now «first_arcs»)) × (ArcsLent (plan .second) (now «second_arcs»)) ⌝ }
+        ensures { λ r. ⌜ PassesBoth plan self c (now («first_arcs» .entry)) (now («second_arcs» .entry)) (now (work .entry)) r (now (work .exit)) ⌝ }
+    {
+        let counts = plan.first;
+        let mut i: usize = 0;
+        while i < counts.arcs {
+            self = self.try_both(plan, c, first_arcs, i, second_arcs, work);
+            if self.full {
+                return self;
+            }
+            i += 1;
+        }
+        self
+    }
+
+    // The second side's arcs, where the first side's path may end.
+    fn after_first(
+        self,
+        plan: Plan,
+        c: Vertex,
+        first_states: &[u8],
+        second_arcs: &[u8],
+        work: &mut [u8],
+    ) -> Head
+        requires { ⌜ (Ready plan self 8192 (length (now work))) × (StatesLent (plan .first) (now «first_states»)) × (ArcsLent (plan .second) (now «second_arcs»)) ⌝ }
+        ensures { λ r. ⌜ EndsFirst plan self c (now («first_states» .entry)) (now («second_arcs» .entry)) (now (work .entry)) r (now (work .exit)) ⌝ }
+    {
+        if self.full {
+            return self;
+        }
+        if !may_end(plan.first, first_states, c.first) {
+            return self;
+        }
+        self.pass_second(plan, c, 65535, 65535, second_arcs, work)
+    }
+
+    // The first side's arcs, where the second side's path may end.
+    fn after_second(
+        self,
+        plan: Plan,
+        c: Vertex,
+        first_arcs: &[u8],
+        second_states: &[u8],
+        work: &mut [u8],
+    ) -> Head
+        requires { ⌜ (Ready plan self 8192 (length (now work))) × (ArcsLent (plan .first) (now «first_arcs»)) × (StatesLent (plan .second) (now «second_states»)) ⌝ }
+        ensures { λ r. ⌜ EndsSecond plan self c (now («first_arcs» .entry)) (now («second_states» .entry)) (now (work .entry)) r (now (work .exit)) ⌝ }
+    {
+        if self.full {
+            return self;
+        }
+        if !may_end(plan.second, second_states, c.second) {
+            return self;
+        }
+        self.pass_first(plan, c, first_arcs, work)
+    }
+
+    // The next state: all moves out of it, unless the states are full.
+    pub fn take_up(
+        mut self,
+        plan: Plan,
+        first_states: &[u8],
+        first_arcs: &[u8],
+        second_states: &[u8],
+        second_arcs: &[u8],
+        work: &mut [u8],
+    ) -> Head
+        requires { ⌜ (Ready plan self 67125248 (length (now work))) × (self .full ≡ false) × (Tables plan (now «first_states») (now «first_arcs») (now «second_states») (now «second_arcs»)) ⌝ }
+        ensures { λ r. ⌜ TakesUp plan self (now («first_states» .entry)) (now («first_arcs» .entry)) (now («second_states» .entry)) (now («second_arcs» .entry)) (now (work .entry)) r (now (work .exit)) ⌝ }
+    {
+        let c = load_vertex(work, 4 * self.taken);
+        self = self.pass_both(plan, c, first_arcs, second_arcs, work);
+        self = self.after_first(plan, c, first_states, second_arcs, work);
+        self = self.after_second(plan, c, first_arcs, second_states, work);
+        if self.full {
+            return self;
+        }
+        self.taken += 1;
+        self
+    }
+}

@@ -1,0 +1,152 @@
+// The call: a refusal before any step, the steps, and the product's space and the work space cleared.
+use crate::judge::judge_join;
+use crate::steps::join_steps;
+use memory::answer::Counts;
+use memory::answer::Judged;
+use memory::answer::TableAnswer;
+use memory::bytes::zero;
+use pairs::PairsJudged;
+use pairs::judge_join_pairs;
+ghost use mathlib.Core.Path.{_≡_};
+ghost use mathlib.Core.List.{List};
+ghost use Rattle.automata.specs.TapePair.{Pair};
+ghost use Rattle.automata.specs.Calls.Outcome.{spaceOf, put, madeOf, joinedOf, slicesOf};
+ghost use Rattle.automata.specs.Calls.Join.{joinAnswer, joinOutcome};
+ghost use Rattle.memory.specs.Answers.{lent, tableAs};
+ghost use Rattle.pairs.specs.PairBytes.{pairsOf};
+ghost use Rattle.pairs.specs.Judgement.{JoinJudged};
+ghost use Rattle.join.specs.Judged.{Listed};
+
+// The answer of the call on pairs that were judged, with whatever is left in the product's space and in work space.
+fn build(
+    first: Counts,
+    first_states: &[u8],
+    first_arcs: &[u8],
+    second: Counts,
+    second_states: &[u8],
+    second_arcs: &[u8],
+    listed: PairsJudged,
+    limit: usize,
+    product_states: &mut [u8],
+    product_arcs: &mut [u8],
+    out_states: &mut [u8],
+    out_arcs: &mut [u8],
+    work: &mut [u8],
+) -> TableAnswer
+    requires { ⌜ Listed (first .tapes) (second .tapes) limit listed ⌝ }
+    ensures { λ r. ⌜ ((ps : List Pair) → JoinJudged ps (first .tapes) (second .tapes) limit listed → madeOf (tableAs r) (now («out_states» .exit)) (now («out_arcs» .exit)) ≡ put (joinAnswer (lent first (now («first_states» .entry)) (now («first_arcs» .entry))) (lent second (now («second_states» .entry)) (now («second_arcs» .entry))) ps limit (spaceOf (slicesOf (now («product_states» .entry)) (now («product_arcs» .entry)))) (spaceOf (slicesOf (now («out_states» .entry)) (now («out_arcs» .entry)))) (now (work .entry))) (slicesOf (now («out_states» .entry)) (now («out_arcs» .entry)))) ⌝ }
+{
+    let judged = judge_join(
+        first,
+        first_states,
+        first_arcs,
+        second,
+        second_states,
+        second_arcs,
+        listed,
+        product_states.len() / 10,
+        product_arcs.len() / 80,
+        out_states.len() / 10,
+        out_arcs.len() / 80,
+        work.len(),
+    );
+    match judged {
+        Judged::Refused(why) => TableAnswer::Refused(why),
+        Judged::Fine => {
+            let list = listed.pairs;
+            join_steps(
+                first,
+                first_states,
+                first_arcs,
+                second,
+                second_states,
+                second_arcs,
+                list,
+                limit,
+                product_states,
+                product_arcs,
+                out_states,
+                out_arcs,
+                work,
+            )
+        }
+    }
+}
+
+// The join on pairs that were judged for these tables and this limit. The product's space and the work space are zero afterwards.
+pub fn join_judged(
+    first: Counts,
+    first_states: &[u8],
+    first_arcs: &[u8],
+    second: Counts,
+    second_states: &[u8],
+    second_arcs: &[u8],
+    listed: PairsJudged,
+    limit: usize,
+    product_states: &mut [u8],
+    product_arcs: &mut [u8],
+    out_states: &mut [u8],
+    out_arcs: &mut [u8],
+    work: &mut [u8],
+) -> TableAnswer
+    requires { ⌜ Listed (first .tapes) (second .tapes) limit listed ⌝ }
+    ensures { λ r. ⌜ ((ps : List Pair) → JoinJudged ps (first .tapes) (second .tapes) limit listed → joinedOf (tableAs r) (now («out_states» .exit)) (now («out_arcs» .exit)) (now («product_states» .exit)) (now («product_arcs» .exit)) (now (work .exit)) ≡ joinOutcome (lent first (now («first_states» .entry)) (now («first_arcs» .entry))) (lent second (now («second_states» .entry)) (now («second_arcs» .entry))) ps limit (slicesOf (now («product_states» .entry)) (now («product_arcs» .entry))) (slicesOf (now («out_states» .entry)) (now («out_arcs» .entry))) (now (work .entry))) ⌝ }
+{
+    let answer = build(
+        first,
+        first_states,
+        first_arcs,
+        second,
+        second_states,
+        second_arcs,
+        listed,
+        limit,
+        product_states,
+        product_arcs,
+        out_states,
+        out_arcs,
+        work,
+    );
+    zero(product_states);
+    zero(product_arcs);
+    zero(work);
+    answer
+}
+
+// The join of the table in `first_states` and `first_arcs` with that in `second_states` and `second_arcs`, on pairs of a tape of the first and one
+// of the second: the product in its own space, what agrees on the pairs into `out_states` and `out_arcs`, and the second tapes dropped there. The
+// product's space and the work space are zero afterwards.
+pub fn join(
+    first: Counts,
+    first_states: &[u8],
+    first_arcs: &[u8],
+    second: Counts,
+    second_states: &[u8],
+    second_arcs: &[u8],
+    pairs: &[u8],
+    limit: usize,
+    product_states: &mut [u8],
+    product_arcs: &mut [u8],
+    out_states: &mut [u8],
+    out_arcs: &mut [u8],
+    work: &mut [u8],
+) -> TableAnswer
+    ensures { λ r. ⌜ joinedOf (tableAs r) (now («out_states» .exit)) (now («out_arcs» .exit)) (now («product_states» .exit)) (now («product_arcs» .exit)) (now (work .exit)) ≡ joinOutcome (lent first (now («first_states» .entry)) (now («first_arcs» .entry))) (lent second (now («second_states» .entry)) (now («second_arcs» .entry))) (pairsOf (now (pairs .entry))) limit (slicesOf (now («product_states» .entry)) (now («product_arcs» .entry))) (slicesOf (now («out_states» .entry)) (now («out_arcs» .entry))) (now (work .entry)) ⌝ }
+{
+    let listed = judge_join_pairs(pairs, first.tapes, second.tapes, limit);
+    join_judged(
+        first,
+        first_states,
+        first_arcs,
+        second,
+        second_states,
+        second_arcs,
+        listed,
+        limit,
+        product_states,
+        product_arcs,
+        out_states,
+        out_arcs,
+        work,
+    )
+}

@@ -1,0 +1,44 @@
+-- `product::call::product_step` meets its contract. Assumes nothing.
+use Rattle.product.proofs.CallLaws.{explorable, settleable, stepped}
+use mathlib.Core.Path.{refl}
+use borrow.Author.Needs.{needs}
+use Rattle.product.proofs.call.product_step.Statement.{statement}
+use Rattle.product.proofs.call.product_step.Tie as tie
+use Rattle.product.proofs.call.product_step.Reads as reads
+use Rattle.product.proofs.call.product_step.Lts as lts
+use Rattle.product.proofs.finish.settle.Reads as settle-reads
+use Rattle.product.proofs.prepare.plan_for.Reads as plan-for-reads
+use Rattle.alignment.proofs.explore.explore.Reads as explore-reads
+
+plan-for-requires : tie.Need-plan-for-requires
+plan-for-requires c κs = search needs
+
+explore-requires : tie.Need-explore-requires
+explore-requires c κs = explorable _ _ _ _ _ _ _ _ _ (c .before .before .before .before .before .before .before .before .before .pre) _ (c .before .plan-for .ensures)
+
+settle-requires : tie.Need-settle-requires
+settle-requires c κs = settleable _ _ _ _ _ _ _ _ _ (c .before .before .before .before .before .before .before .before .before .before .before .before .before .before .before .pre) _ (c .before .before .before .before .before .before .before .plan-for .ensures) _ _ _ refl (c .before .before .before .before .before .explore .ensures)
+
+same-length : tie.Need-same-length
+same-length c = search needs
+
+same-length-2 : tie.Need-same-length-2
+same-length-2 c = search needs
+
+same-length-3 : tie.Need-same-length-3
+same-length-3 c = search needs
+
+returns : tie.Need-returns
+returns c = stepped _ _ _ _ _ _ _ _ _ (c .before .before .before .before .before .before .before .before .before .before .before .before .before .before .before .before .before .before .before .before .pre) _ (c .before .before .before .before .before .before .before .before .before .before .before .before .plan-for .ensures) _ _ (c .before .before .before .before .settle .ensures)
+
+pub product-step-spec : {M : Type 1} → statement M
+product-step-spec =
+    tie.close
+    (tie.spec
+    plan-for-requires
+    explore-requires
+    settle-requires
+    same-length
+    same-length-2
+    same-length-3
+    returns)

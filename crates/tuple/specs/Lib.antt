@@ -1,0 +1,2 @@
+-- What the contracts on a tuple's strings cite.
+pub mod Strings
