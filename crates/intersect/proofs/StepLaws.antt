@@ -2,8 +2,6 @@
 use Prim.Native.Nat.{ℕ, _/_}
 use mathlib.Core.Path.{_≡_, sym, ap, _∙_}
 use mathlib.Core.List.{List}
-use native.Mathlib.Omega.{arith}
-use lib.ListN.{length}
 use borrow.Author.Tests.{le-leb}
 use Rattle.automata.specs.Answer.{_>>=_, Answer}
 use Rattle.automata.specs.Automaton.{Automaton}

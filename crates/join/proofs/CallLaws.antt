@@ -1,5 +1,5 @@
 -- The call by its steps: what each way out of it answers, and what it leaves.
-use Prim.Native.Nat.{ℕ, _/_}
+use Prim.Native.Nat.{ℕ}
 use mathlib.Core.Path.{_≡_, refl, sym, ap, subst, _∙_}
 use mathlib.Core.List.{List}
 use native.Mathlib.Omega.{arith}
@@ -12,7 +12,7 @@ use Rattle.automata.specs.Table.{weightFits}
 use Rattle.automata.specs.TapePair.{Pair}
 use Rattle.automata.specs.Memory.{Memory, tableOf, zeros}
 use Rattle.automata.specs.Join.{within, joinSteps}
-use Rattle.automata.specs.Calls.Outcome.{Slices, TableCounts, spaceOf, put, conclude, madeOf, joinedOf, slicesOf}
+use Rattle.automata.specs.Calls.Outcome.{Slices, TableCounts, spaceOf, put, conclude, madeOf, joinedOf}
 use Rattle.automata.specs.Calls.Join.{lentTo, joinAnswer, joinOutcome}
 use Rattle.automata.specs.Calls.JoinSteps.{joinByCalls}
 use Rattle.automata.proofs.CallFacts.{put-refused}

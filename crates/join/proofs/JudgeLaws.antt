@@ -16,7 +16,7 @@ use Rattle.automata.specs.Automaton.{Automaton}
 use Rattle.automata.specs.Table.{weightFits}
 use Rattle.automata.specs.TapePair.{Pair}
 use Rattle.automata.specs.Memory.{Memory, Sound, tableOf, decodeTable}
-use Rattle.automata.specs.Join.{within, separate, joinSteps, join}
+use Rattle.automata.specs.Join.{within, joinSteps, join}
 use Rattle.automata.specs.Calls.Work.{joinWork, enough}
 use Rattle.automata.specs.Calls.Join.{lentTo, joinAnswer}
 use Rattle.automata.proofs.AnswerFacts.{refused≢ok, judge-ok}

@@ -10,7 +10,6 @@ use lib.Dec.{eqb}
 use lib.ListN.{length, getD, take, drop, length-map, length-take, drop-of-length-le}
 use borrow.Author.Tests.{eq-eqb, ne-eqb}
 use Rattle.automata.specs.Lists.{if, any}
-use Rattle.automata.specs.Tapes.{seconds}
 use Rattle.automata.specs.TapePair as automata
 use Rattle.automata.specs.Calls.Drop.{maskBits, maskOf}
 use Rattle.memory.specs.declared.pair.Pair.{Pair}

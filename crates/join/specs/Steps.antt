@@ -1,8 +1,6 @@
 -- What the steps of a join ask for, once its tables, pairs, limit and work space are judged.
 use Prim.Native.Nat.{ℕ, _+_, _/_, _≤_}
-use mathlib.Core.Path.{_≡_}
 use lib.Dec.{T}
-use lib.ListN.{length}
 use Rattle.automata.specs.Limits.{maxTapes, maxDelay}
 use Rattle.automata.specs.Tapes.{seconds, placeAfter}
 use Rattle.automata.specs.Memory.{Memory, Sound}
