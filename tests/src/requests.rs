@@ -324,7 +324,7 @@ fn large_request(random: &mut Random) -> Request {
             let states = random.range(1, 1_023);
             let arcs = random.range(1, 8_191);
             let first = encode(&wheel(states, arcs, true));
-            let second = encode(&wheel(random.range(1_023, 1_025) - states, random.range(8_191, 8_193) - arcs, false));
+            let second = encode(&wheel((random.range(1_023, 1_025) - states).max(1), random.range(8_191, 8_193) - arcs, false));
             Request::Union { first, second, result }
         }
         1 => {
