@@ -7,10 +7,11 @@ use Rattle.automata.specs.Memory.{Sound, tableOf}
 use Rattle.memory.specs.Answers.{lent}
 use Rattle.alignment.specs.declared.plan.Plan.{Plan}
 
--- the two tables read, with the bytes of their records
+-- the first table read, with the bytes of its records
 abbrev pub firstIn : Plan → List ℕ → List ℕ → Automaton ℕ
 firstIn p states arcs = tableOf (lent (p .first) states arcs)
 
+-- the second table read
 abbrev pub secondIn : Plan → List ℕ → List ℕ → Automaton ℕ
 secondIn p states arcs = tableOf (lent (p .second) states arcs)
 

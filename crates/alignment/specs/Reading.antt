@@ -8,11 +8,12 @@ use Rattle.automata.specs.Automaton.{Automaton}
 use Rattle.memory.specs.declared.answer.Counts.{Counts}
 use Rattle.memory.specs.Records.{stateAs, stateAt, arcAs, arcAt}
 
--- the records of all states are lent, and of all arcs
+-- the records of all states are lent
 pub record StatesLent (counts : Counts) (bytes : List ℕ) : Type 0 where
   pub few : counts .states ≤ 1024
   pub lent : 10 * counts .states ≤ length bytes
 
+-- the records of all arcs are lent
 pub record ArcsLent (counts : Counts) (bytes : List ℕ) : Type 0 where
   pub few : counts .arcs ≤ 8192
   pub lent : 80 * counts .arcs ≤ length bytes

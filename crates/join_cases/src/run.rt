@@ -65,15 +65,17 @@ fn front_clear(bytes: &[u8], n: usize) -> bool {
     all_zero(&bytes[0..n])
 }
 
-// The same of the states, of the arcs and of the work space.
+// The same of the states.
 fn states_clear(bytes: &[u8; 600], n: usize) -> bool {
     front_clear(bytes, n)
 }
 
+// The same of the arcs.
 fn arcs_clear(bytes: &[u8; 16000], n: usize) -> bool {
     front_clear(bytes, n)
 }
 
+// The same of the work space.
 fn work_clear(bytes: &[u8; 31000], n: usize) -> bool {
     front_clear(bytes, n)
 }

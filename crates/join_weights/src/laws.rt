@@ -13,7 +13,7 @@ use crate::weights::weigh_steps;
 pub fn part_1() {
     let left = LEFT;
     let right = RIGHT;
-    // X joined to Y on 2 = 1: A by K and R: 1 + 5 + 100 + 50
+    // the left table joined to the right on 2 = 1: A by K and R: 1 + 5 + 100 + 50
     weigh(20, &left, &right, &[2u8, 1], 0, b"A\nK\nR\n");
     // exchanged: tapes K, R, A
     weigh(21, &right, &left, &[1u8, 2], 0, b"K\nR\nA\n");
@@ -36,7 +36,7 @@ pub fn part_2() {
     let left = LEFT;
     let other_left = OTHER_LEFT;
     let right = RIGHT;
-    // a union on the left: X gives 156, the other part 1 + 1 + 1 + 100 + 50, the lesser counts
+    // a union on the left: the first part gives 156, the other part 1 + 1 + 1 + 100 + 50, the lesser counts
     weigh_parts(
         27,
         &left,
@@ -80,7 +80,7 @@ pub fn part_2() {
         true,
         b"C\nK\nR\n",
     );
-    // a union on the right: Y with X and with the other part
+    // a union on the right: the right table with each part
     weigh_parts(
         31,
         &left,

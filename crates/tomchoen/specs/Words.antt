@@ -49,10 +49,11 @@ pub record ToldMade : Type 0 where
   pub word : ℕ
   pub result : Slices
 
--- the same by its parts, and of an outcome
+-- the same by its parts
 abbrev pub tellsMade : ℕ → List ℕ → List ℕ → ToldMade
 tellsMade word states arcs = record { word = word; result = slicesOf states arcs }
 
+-- of an outcome
 abbrev pub toldMade : Made → ToldMade
 toldMade o = record { word = tableWord (o .answer); result = o .result }
 
@@ -61,9 +62,11 @@ pub record ToldBuilt : Type 0 where
   pub made : ToldMade
   pub work : List ℕ
 
+-- the same by its parts
 abbrev pub tellsBuilt : ℕ → List ℕ → List ℕ → List ℕ → ToldBuilt
 tellsBuilt word states arcs work = record { made = tellsMade word states arcs; work = work }
 
+-- of an outcome
 abbrev pub toldBuilt : Built → ToldBuilt
 toldBuilt o = record { made = toldMade (o .made); work = o .work }
 
@@ -72,9 +75,11 @@ pub record ToldWritten : Type 0 where
   pub word : ℕ
   pub output : List ℕ
 
+-- the same by its parts
 abbrev pub tellsWritten : ℕ → List ℕ → ToldWritten
 tellsWritten word output = record { word = word; output = output }
 
+-- of an outcome
 abbrev pub toldWritten : Written → ToldWritten
 toldWritten o = record { word = bytesWord (o .answer); output = o .output }
 
@@ -84,10 +89,12 @@ pub record ToldJoined : Type 0 where
   pub product : Slices
   pub work : List ℕ
 
+-- the same by its parts
 abbrev pub tellsJoined : ℕ → List ℕ → List ℕ → List ℕ → List ℕ → List ℕ → ToldJoined
 tellsJoined word states arcs productStates productArcs work =
     record { made = tellsMade word states arcs; product = slicesOf productStates productArcs; work = work }
 
+-- of an outcome
 abbrev pub toldJoined : Joined → ToldJoined
 toldJoined o = record { made = toldMade (o .made); product = o .product; work = o .work }
 
@@ -96,8 +103,10 @@ pub record ToldFound : Type 0 where
   pub word : ℕ
   pub work : List ℕ
 
+-- the same by its parts
 abbrev pub tellsFound : ℕ → List ℕ → ToldFound
 tellsFound word work = record { word = word; work = work }
 
+-- of an outcome
 abbrev pub toldFound : Found → ToldFound
 toldFound o = record { word = weightWord (o .answer); work = o .work }
