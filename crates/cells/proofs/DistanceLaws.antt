@@ -20,6 +20,7 @@ use Rattle.automata.proofs.LookupFacts.{short-enough}
 use Rattle.automata.proofs.LookupBounds.{WeightsBounded, best-le}
 use Rattle.automata.proofs.Cells.{Positions, dropAll, moved, place, cell, leftQuotients-drop, beginnings, positions-beginnings, dropAll-beginnings}
 use Rattle.cells.specs.Distances.{far, weightOf}
+use Rattle.cells.proofs.MoveMeaning.{place-moved}
 
 module _ (A : Automaton ℕ) (t : Tuple) (xs : List ℕ) where
   -- the number of a state and positions
@@ -34,18 +35,18 @@ module _ (A : Automaton ℕ) (t : Tuple) (xs : List ℕ) where
     pub goes : (q : ℕ) (ps : List ℕ) → q < size A → Positions ps t → b ≤ place ps t → (e : ℕ) (a : Arc ℕ) → getElem? (A .arcs) e ≡ some a → a .source ≡ q
         → (rest : Tuple) → leftQuotients (a .labels) (dropAll ps t) ≡ some rest → val q ps ≤ a .weight + val (a .target) (moved ps (a .labels))
 
-  module _ (within : Within (graph A) (size A)) (d : Distances 0) where
-    -- it is at most the weight of any run
-    distances-bound : {q : ℕ} {r : List ℕ} {es : List (Arc ℕ)} {p : ℕ} (f : ℕ) (ps : List ℕ) → q < size A → Positions ps t
-        → Walk (graph A) q r es p → finalOf A p ≡ some f → Spells es (dropAll ps t) → val q ps ≤ onward ℕ-sum A es f
-    distances-bound {q} f ps lt h stop e s = d .ends q ps f lt h s e
-    distances-bound {q} f ps lt h (step {e = n} {a} {es} at from w) e s =
-        let (rest, b, s′) = spells-tail a es (dropAll ps t) s in
-        let (r, k) = leftQuotients-drop (a .labels) ps t rest h b in
-        let i : val (a .target) (moved ps (a .labels)) ≤ onward ℕ-sum A es f
-        = distances-bound f (moved ps (a .labels)) (within n a at .1) k w e (subst (λ z. Spells es z) r s′) in
-        omega (arith, d .goes q ps lt h (omega arith) n a at from rest b, i)
+  -- From a combination of positions that is at least b, no run is lighter.
+  pub distances-bound : Within (graph A) (size A) → (b : ℕ) → Distances b → {q : ℕ} {r : List ℕ} {es : List (Arc ℕ)} {p : ℕ} (f : ℕ) (ps : List ℕ) → q < size A → Positions ps t
+      → b ≤ place ps t → Walk (graph A) q r es p → finalOf A p ≡ some f → Spells es (dropAll ps t) → val q ps ≤ onward ℕ-sum A es f
+  distances-bound within b d {q} f ps lt h le stop e s = d .ends q ps f lt h s e
+  distances-bound within b d {q} f ps lt h le (step {e = n} {a} {es} at from w) e s =
+      let (rest, g, s′) = spells-tail a es (dropAll ps t) s in
+      let (r, k) = leftQuotients-drop (a .labels) ps t rest h g in
+      let i : val (a .target) (moved ps (a .labels)) ≤ onward ℕ-sum A es f
+      = distances-bound within b d f (moved ps (a .labels)) (within n a at .1) k (omega (arith, le, place-moved ps (a .labels) t h)) w e (subst (λ z. Spells es z) r s′) in
+      omega (arith, d .goes q ps lt h le n a at from rest g, i)
 
+  module _ (within : Within (graph A) (size A)) (d : Distances 0) where
     module _ (ok : WeightsBounded A) (few : size A ≤ 1024) (short : total length t ≤ 512) (q : ℕ) (lt : q < size A) where
       abbrev pub start : ℕ
       start = val q (beginnings t)
@@ -54,7 +55,7 @@ module _ (A : Automaton ℕ) (t : Tuple) (xs : List ℕ) where
       start-bound : (k w : ℕ) → Onward ℕ-sum A k q t w → start ≤ w
       start-bound k w o =
           let s : Spells (o .arcs) (dropAll (beginnings t) t) = subst (λ z. Spells (o .arcs) z) (sym (dropAll-beginnings t)) (o .spells) in
-          let i = distances-bound (o .final) (beginnings t) lt (positions-beginnings t) (o .leads .1) (o .ends) s in
+          let i = distances-bound within 0 d (o .final) (beginnings t) lt (positions-beginnings t) (omega arith) (o .leads .1) (o .ends) s in
           omega (arith, i, o .weight)
 
       -- where the number is a weight, `best` finds one that is no more

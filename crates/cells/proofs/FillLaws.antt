@@ -29,7 +29,8 @@ use Rattle.cells.specs.Sweeps.{Ready, Spaced, Settles}
 use Rattle.cells.proofs.CellLaws.{length-cells}
 use Rattle.cells.proofs.DistanceLaws.{Distances}
 use Rattle.cells.proofs.RoundMeaning.{AtSpot, ready, settled-done}
-use Rattle.cells.proofs.SpotMeaning.{digits, place-digits, combinations-positive, all-at, spans-positive, at-spot}
+use Rattle.cells.proofs.SpotMeaning.{digits, place-digits, all-at, spans-positive, at-spot}
+use Rattle.cells.proofs.MoveMeaning.{combinations-positive}
 use Rattle.cells.proofs.StartMeaning.{sixteens, begun-distances}
 use Rattle.cells.proofs.LeastMeaning.{stands-short, lookup-means}
 

@@ -5,6 +5,7 @@ pub mod CellLaws
 pub mod SweepLaws
 pub mod MoveMeaning
 pub mod RelaxLaws
+pub mod EmptyRounds
 pub mod RoundMeaning
 pub mod SpanLaws
 pub mod SpotMeaning

@@ -17,7 +17,7 @@ use Rattle.memory.proofs.PartLaws.{part-zero, part-suc}
 use Rattle.cells.specs.declared.spot.Spot.{Spot}
 use Rattle.cells.specs.declared.moves.Step.{Step}
 use Rattle.cells.specs.declared.moves.Step.the-variants.{Moved, Stuck}
-use Rattle.cells.specs.Moves.{stepAs, tapeMove, movesFrom}
+use Rattle.cells.specs.Moves.{stepAs, tapeMove, movesFrom, noSymbol}
 
 pub same-turn : (a b left rest : ℕ) (x y : List ℕ) → left ≡ suc rest → a < length x → b < length y → getD x a 0 ≡ getD y b 0
     → sameList (part (a + 1) rest x) (part (b + 1) rest y) ≡ sameList (part a left x) (part b left y)
@@ -75,3 +75,17 @@ module _ (left rest h from total : ℕ) (arcs text : List ℕ) (s : Spot) (r : S
 pub moves-end : (left h from total : ℕ) (arcs text : List ℕ) (s : Spot) → left ≡ 0 → some total ≡ movesFrom left h from total arcs text s
 unfolding movesFrom
 moves-end left h from total arcs text s d = rw d
+
+-- ---- labels that are all empty
+
+pub empty-turn : (from left rest : ℕ) (arcs : List ℕ) → left ≡ suc rest → getD arcs from 0 ≡ 0 → noSymbol rest (from + 9) arcs ≡ noSymbol left from arcs
+unfolding noSymbol
+empty-turn from left rest arcs d e = rw (d, e)
+
+pub empty-not : (from left rest : ℕ) (arcs : List ℕ) → left ≡ suc rest → getD arcs from 0 ≢ 0 → false ≡ noSymbol left from arcs
+unfolding noSymbol
+empty-not from left rest arcs d e = rw (d, eqb-false (getD arcs from 0) 0 e)
+
+pub empty-end : (from left : ℕ) (arcs : List ℕ) → left ≡ 0 → true ≡ noSymbol left from arcs
+unfolding noSymbol
+empty-end from left arcs d = rw d

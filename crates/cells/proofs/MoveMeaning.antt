@@ -4,7 +4,7 @@ use mathlib.Core.Bool.{Bool, true, false, false≢true}
 use mathlib.Core.Option.{Option, none, some}
 use mathlib.Core.List.{List, [], _∷_, map}
 use Prim.Native.Nat.{ℕ, zero, suc, _+_, _*_, _≤_, _<_}
-use native.Mathlib.Nat.{add-mul, add-zero, add-assoc}
+use native.Mathlib.Nat.{add-mul, add-zero, add-assoc, mul-pos, mul-le-mul}
 use native.Mathlib.Omega.{arith}
 use borrow.Author.Tests.{ltb-true, ltb-false}
 use lib.Dec.{eqb, ltb}
@@ -19,7 +19,7 @@ use Rattle.memory.specs.Region.{part}
 use Rattle.memory.specs.Records.{labelAs, labelAt, labelsAt}
 use Rattle.memory.proofs.PartLaws.{length-part}
 use Rattle.cells.specs.declared.spot.Spot.{Spot}
-use Rattle.cells.specs.Moves.{tapeMove, movesFrom, Spotted}
+use Rattle.cells.specs.Moves.{tapeMove, movesFrom, noSymbol, Spotted}
 
 -- ---- left quotients by a comparison
 
@@ -64,6 +64,10 @@ label-part : (arcs : List ℕ) (at : ℕ) → getD arcs at 0 ≤ 8 → labelAs (
 unfolding labelAt part
 label-part arcs at h = take-take (getD arcs at 0) 8 (drop (at + 1) arcs) h
 
+-- so long is it
+label-length : (arcs : List ℕ) (at : ℕ) → at + 9 ≤ length arcs → getD arcs at 0 ≤ 8 → length (labelAs (labelAt at arcs)) ≡ getD arcs at 0
+label-length arcs at lent short = ap length (label-part arcs at short) ∙ length-part (at + 1) (getD arcs at 0) arcs (omega arith)
+
 part-take : (n m start : ℕ) (text : List ℕ) → n ≤ m → part start n text ≡ take n (part start m text)
 unfolding part
 part-take n m start text h = sym (take-take n m (drop start text) h)
@@ -87,7 +91,7 @@ tape-means arcs at text start size span lent short within = go (ltb size n) refl
     x-is = label-part arcs at short
 
     x-length : length x ≡ n
-    x-length = ap length x-is ∙ length-part (at + 1) n arcs (omega arith)
+    x-length = label-length arcs at lent short
 
     r-length : length r ≡ size
     r-length = length-part start size text within
@@ -107,6 +111,10 @@ tape-means arcs at text start size span lent short within = go (ltb size n) refl
         rw (quotient-same x r g, x-length)
 
 -- ---- all tapes
+
+pub combinations-positive : (t : Tuple) → 0 < combinations t
+combinations-positive [] = omega arith
+combinations-positive (s ∷ t) = mul-pos {m = suc (length s)} {n = combinations t} (omega arith) (combinations-positive t)
 
 -- by how much labels move the number of a combination
 abbrev pub shift : List (List ℕ) → Tuple → ℕ
@@ -202,3 +210,20 @@ moves-mean (suc n) h at k arcs text s (p ∷ ps) (x ∷ t) e pos sp lent short w
         ≡ where? (consBoth o (leftQuotients ls (dropAll ps t))) (k + (length l * combinations t + shift ls t))
     go none i = refl
     go (some r) i = i (length l * combinations t) ∙ end (leftQuotients ls (dropAll ps t)) ∙ inner r (leftQuotients ls (dropAll ps t))
+
+-- labels that move no position have no symbol
+pub shift-none : (n at : ℕ) (arcs : List ℕ) (t : Tuple) → length t ≡ n → at + 9 * n ≤ length arcs → ((i : ℕ) → i < n → getD arcs (at + 9 * i) 0 ≤ 8)
+    → shift (labelled n at arcs) t ≡ 0 → noSymbol n at arcs ≡ true
+unfolding noSymbol labelsAt
+shift-none zero at arcs t e lent short still = refl
+shift-none (suc n) at arcs [] e lent short still = absurd (omega (arith, e))
+shift-none (suc n) at arcs (x ∷ t) e lent short still =
+    let first : at + 9 * 0 ≡ at = omega arith in
+    let l = label-length arcs at (omega arith) (subst (λ (i : ℕ). getD arcs i 0 ≤ 8) first (short 0 (omega arith))) in
+    let k : ℕ = length (labelAs (labelAt at arcs)) in
+    let same : k ≤ k = omega arith in
+    let m = mul-le-mul same (combinations-positive t) in
+    let z : getD arcs at 0 ≡ 0 = omega (arith, m, l, still) in
+    let i = shift-none n (at + 9) arcs t (omega (arith, e)) (omega arith)
+    (λ i lt. let y : at + 9 * suc i ≡ at + 9 + 9 * i = omega arith in subst (λ (j : ℕ). getD arcs j 0 ≤ 8) y (short (suc i) (omega arith))) (omega (arith, still)) in
+    rw (z, i)

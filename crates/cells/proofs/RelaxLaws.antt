@@ -1,4 +1,4 @@
--- Relaxation by an arc at a combination of positions keeps what is known of the numbers; where no arc changes anything, none can lower one.
+-- Relaxation by an arc at a combination of positions keeps what is known of the numbers; the combination is done when no arc can lower one.
 use mathlib.Core.Path.{_≡_, refl, sym, ap, subst}
 use mathlib.Core.Logic.{inr, _≢_}
 use mathlib.Core.Option.{none, some}
@@ -115,10 +115,6 @@ module _ (A : Automaton ℕ) (within : Within (graph A) (size A)) (t : Tuple) (p
           d .goes q ps₂ lt h₂ le e₂ a₂ at₂ from₂ rest₂ b₂,
         );
   }
-
-  -- where it changes nothing, it lowers nothing
-  pub arc-still : after ≡ xs → val A t xs (a .source) ps ≤ through
-  arc-still f = omega (arith, lowered-same sourceCell through xs in-room, ap (λ (z : List ℕ). getD z sourceCell 0) f)
 
 -- ---- all arcs
 

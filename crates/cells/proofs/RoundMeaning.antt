@@ -1,12 +1,12 @@
 -- Rounds over the arc records at a combination of positions are relaxation by the arcs of the table.
 use mathlib.Core.Path.{_≡_, refl, sym, ap, subst, _∙_}
+use mathlib.Core.Bool.{Bool, true, false}
 use mathlib.Core.Option.{Option, none, some, Option·none-ne-some, Option·some-injective}
 use mathlib.Core.List.{List, _∷_, map}
-use Prim.Native.Nat.{ℕ, zero, suc, _+_, _*_, _≤_, _<_}
+use Prim.Native.Nat.{ℕ, zero, suc, _+_, _-_, _*_, _≤_, _<_}
 use native.Mathlib.Nat.{add-assoc, zero-add}
 use native.Mathlib.Omega.{arith}
-use lib.ListN.{length, getD, take, getElem?, length-set}
-use lib.Seq.{ext-getD}
+use lib.ListN.{length, getD, take, getElem?}
 use Rattle.automata.specs.Lists.{All}
 use Rattle.automata.specs.Rounds.{iterate}
 use Rattle.automata.specs.Automaton.{Automaton, Arc, size, graph, Tuple}
@@ -17,76 +17,66 @@ use Rattle.automata.specs.Memory.{Sound, tableOf}
 use Rattle.automata.proofs.SoundFacts.{sound-well-formed, sound-holds}
 use Rattle.automata.proofs.WellFormedFacts.{well-formed, weights-bounded}
 use Rattle.automata.proofs.ListFacts.{place-bound}
-use Rattle.automata.proofs.Cells.{Positions, dropAll, moved, place, place-lt, cell, leftQuotients-drop}
-use Rattle.memory.specs.Region.{part}
-use Rattle.memory.specs.Endian.{le}
+use Rattle.automata.proofs.Finite.{iterate-keeps}
+use Rattle.automata.proofs.Cells.{Positions, dropAll, moved, place, place-lt, cell, cell-lt, leftQuotients-drop}
 use Rattle.memory.specs.Answers.{lent}
 use Rattle.memory.specs.Records.{labelAs, labelAt, labelsAt, contentAt, arcAt, arcAs, Padded}
 use Rattle.memory.specs.declared.answer.Counts.{Counts}
 use Rattle.memory.proofs.SoundLaws.{few-tapes, arcs-lent, arc-loaded, arc-canonical, arc-source, arc-target}
 use Rattle.memory.specs.declared.record.Label.{Label}
 use Rattle.cells.specs.declared.spot.Spot.{Spot}
-use Rattle.cells.specs.Moves.{movesFrom, Laid, Labelled, Spotted}
+use Rattle.cells.specs.Moves.{movesFrom, noSymbol, Laid, Labelled, Spotted}
 use Rattle.cells.specs.Distances.{cellsOf, lowered}
-use Rattle.cells.specs.Sweeps.{passed, visited, swept, roundOf, Passable, Ready, Settles}
+use Rattle.cells.specs.Sweeps.{visited, taken, swept, roundOf, Passable, Ready, Settles}
 use Rattle.cells.proofs.DistanceLaws.{val, Distances}
-use Rattle.cells.proofs.MoveMeaning.{where?, shift, place-moved, labelled, moves-mean}
-use Rattle.cells.proofs.SweepLaws.{visited-le, swept-le}
-use Rattle.cells.proofs.RelaxLaws.{arc-keeps, arc-still, combination-done}
+use Rattle.cells.proofs.MoveMeaning.{where?, shift, place-moved, labelled, moves-mean, shift-none}
+use Rattle.cells.proofs.SweepLaws.{taken-cases, taken-le, swept-le, length-visited}
+use Rattle.cells.proofs.RelaxLaws.{lowered-same, arc-keeps}
+use Rattle.cells.proofs.EmptyRounds.{Bounded, bounded-start, bounded-next, bounded-done}
 
--- ---- rounds that change nothing
-
-length-visited : (tapes at : ℕ) (arcs text : List ℕ) (s : Spot) (xs : List ℕ) → length (visited tapes at arcs text s xs) ≡ length xs
-unfolding visited lowered
-length-visited tapes at arcs text s xs = go (movesFrom tapes 0 (at + 8) 0 arcs text s)
-  where
-    go : (o : Option ℕ) → length (passed o (le (part at 2 arcs)) (le (part (at + 2) 2 arcs)) (le (part (at + 4) 4 arcs)) s xs) ≡ length xs
-    go none = refl
-    go (some k) = length-set xs _ _
-
-swept-still : (tapes at n : ℕ) (arcs text : List ℕ) (s : Spot) (xs : List ℕ) → swept tapes at n arcs text s xs ≡ xs
-    → (i : ℕ) → i < n → visited tapes (at + 80 * i) arcs text s xs ≡ xs
-unfolding swept
-swept-still tapes at zero arcs text s xs e i lt = absurd (omega arith)
-swept-still tapes at (suc n) arcs text s xs e zero lt =
-    let z : at + 80 * 0 ≡ at = omega arith in
-    ap (λ (k : ℕ). visited tapes k arcs text s xs) z
-    ∙ ext-getD 0 (visited tapes at arcs text s xs) xs (length-visited tapes at arcs text s xs)
-    (λ j h. omega (
-      arith,
-      visited-le tapes at arcs text s xs j,
-      swept-le tapes (at + 80) n arcs text s (visited tapes at arcs text s xs) j,
-      ap (λ (ys : List ℕ). getD ys j 0) e,
-    ))
-swept-still tapes at (suc n) arcs text s xs e (suc i) lt =
-    let first : visited tapes at arcs text s xs ≡ xs
-    = ext-getD 0 (visited tapes at arcs text s xs) xs (length-visited tapes at arcs text s xs)
-    (λ j h. omega (
-      arith,
-      visited-le tapes at arcs text s xs j,
-      swept-le tapes (at + 80) n arcs text s (visited tapes at arcs text s xs) j,
-      ap (λ (ys : List ℕ). getD ys j 0) e,
-    )) in
-    let z : at + 80 * suc i ≡ at + 80 + 80 * i = omega arith in
-    ap (λ (k : ℕ). visited tapes k arcs text s xs) z
-    ∙ swept-still tapes (at + 80) n arcs text s xs (ap (swept tapes (at + 80) n arcs text s) (sym first) ∙ e) i (omega arith)
+-- ---- what a round keeps, and what it brings about
 
 -- what each arc keeps, a round keeps
-swept-keeps : (P : List ℕ → Type 0) (tapes at n : ℕ) (arcs text : List ℕ) (s : Spot)
-    → ((i : ℕ) → i < n → (xs : List ℕ) → P xs → P (visited tapes (at + 80 * i) arcs text s xs)) → (xs : List ℕ) → P xs → P (swept tapes at n arcs text s xs)
+swept-keeps : (P : List ℕ → Type 0) (only : Bool) (tapes at n : ℕ) (arcs text : List ℕ) (s : Spot)
+    → ((i : ℕ) → i < n → (xs : List ℕ) → P xs → P (visited tapes (at + 80 * i) arcs text s xs)) → (xs : List ℕ) → P xs → P (swept only tapes at n arcs text s xs)
 unfolding swept
-swept-keeps P tapes at zero arcs text s keep xs p = p
-swept-keeps P tapes at (suc n) arcs text s keep xs p =
+swept-keeps P only tapes at zero arcs text s keep xs p = p
+swept-keeps P only tapes at (suc n) arcs text s keep xs p =
     let z : at + 80 * 0 ≡ at = omega arith in
-    swept-keeps P tapes (at + 80) n arcs text s
+    swept-keeps P only tapes (at + 80) n arcs text s
     (λ i lt ys q.
     let y : at + 80 * suc i ≡ at + 80 + 80 * i = omega arith in
     subst (λ (k : ℕ). P (visited tapes k arcs text s ys)) y (keep (suc i) (omega arith) ys q))
-    (visited tapes at arcs text s xs) (subst (λ (k : ℕ). P (visited tapes k arcs text s xs)) z (keep 0 (omega arith) xs p))
+    (taken only tapes at arcs text s xs)
+    (taken-cases P only tapes at arcs text s xs p (subst (λ (k : ℕ). P (visited tapes k arcs text s xs)) z (keep 0 (omega arith) xs p)))
 
-iterate-keeps : (P : List ℕ → Type 0) (f : List ℕ → List ℕ) → ((xs : List ℕ) → P xs → P (f xs)) → (n : ℕ) (xs : List ℕ) → P xs → P (iterate n f xs)
-iterate-keeps P f keep zero xs p = p
-iterate-keeps P f keep (suc n) xs p = keep (iterate n f xs) (iterate-keeps P f keep n xs p)
+-- the numbers ys when an arc of a round from xs is taken: none is above that before the round, and none after the round above that after the arc
+record Midway (only : Bool) (tapes at n : ℕ) (arcs text : List ℕ) (s : Spot) (xs : List ℕ) (place : ℕ) : Type 0 where
+  numbers : List ℕ
+  same-length : length numbers ≡ length xs
+  before : (j : ℕ) → getD numbers j 0 ≤ getD xs j 0
+  after : (j : ℕ) → getD (swept only tapes at n arcs text s xs) j 0 ≤ getD (taken only tapes place arcs text s numbers) j 0
+
+swept-passes : (only : Bool) (tapes at n : ℕ) (arcs text : List ℕ) (s : Spot) (xs : List ℕ) (i : ℕ) → i < n → Midway only tapes at n arcs text s xs (at + 80 * i)
+unfolding swept
+swept-passes only tapes at zero arcs text s xs i lt = absurd (omega arith)
+swept-passes only tapes at (suc n) arcs text s xs zero lt =
+    let z : at ≡ at + 80 * 0 = omega arith in record {
+      numbers = xs;
+      same-length = refl;
+      before = λ j. omega arith;
+      after = λ j. subst (λ (k : ℕ). getD (swept only tapes (at + 80) n arcs text s (taken only tapes at arcs text s xs)) j 0 ≤ getD (taken only tapes k arcs text s xs) j 0) z
+          (swept-le only tapes (at + 80) n arcs text s (taken only tapes at arcs text s xs) j);
+    }
+swept-passes only tapes at (suc n) arcs text s xs (suc i) lt =
+    let z : at + 80 + 80 * i ≡ at + 80 * suc i = omega arith in
+    let m = swept-passes only tapes (at + 80) n arcs text s (taken only tapes at arcs text s xs) i (omega arith) in record {
+      numbers = m .numbers;
+      same-length = m .same-length ∙ taken-cases (λ (ys : List ℕ). length ys ≡ length xs) only tapes at arcs text s xs refl (length-visited tapes at arcs text s xs);
+      before = λ j. omega (arith, m .before j, taken-le only tapes at arcs text s xs j);
+      after = λ j. subst (λ (k : ℕ). getD (swept only tapes (at + 80) n arcs text s (taken only tapes at arcs text s xs)) j 0 ≤ getD (taken only tapes k arcs text s (m .numbers)) j 0) z
+          (m .after j);
+    }
 
 -- ---- the records of arcs
 
@@ -218,28 +208,73 @@ module _ (c : Counts) (states arcs text : List ℕ) (sound : Sound (lent c state
           subst (λ (ys : List ℕ). Distances table t ys (suc (place ps t))) (sym (visited-through e lt xs rest g))
           (arc-keeps table table-within t ps (spot .positions) xs room d e (arc e lt) (arc-at e lt) rest g)
 
-  round-keeps : (xs : List ℕ) → Kept xs → Kept (roundOf c arcs text s xs)
-  round-keeps xs k = swept-keeps Kept (c .tapes) 0 (c .arcs) arcs text s
+  round-keeps : (only : Bool) (xs : List ℕ) → Kept xs → Kept (roundOf only c arcs text s xs)
+  round-keeps only xs k = swept-keeps Kept only (c .tapes) 0 (c .arcs) arcs text s
       (λ i lt ys p. subst (λ (j : ℕ). Kept (visited (c .tapes) j arcs text s ys)) (sym (zero-add (80 * i))) (visited-keeps i lt ys p)) xs k
 
-  -- Once rounds have settled, the combination is done.
+  -- an arc that a round takes
+  round-brings : (only : Bool) (xs : List ℕ) → Kept xs → (e : ℕ) (lt : e < c .arcs) → ((ys : List ℕ) → taken only (c .tapes) (80 * e) arcs text s ys ≡ visited (c .tapes) (80 * e) arcs text s ys)
+      → (rest : Tuple) → leftQuotients (arc e lt .labels) (dropAll ps t) ≡ some rest
+      → val table t (roundOf only c arcs text s xs) (arc e lt .source) ps ≤ arc e lt .weight + val table t xs (arc e lt .target) (moved ps (arc e lt .labels))
+  unfolding Kept
+  round-brings only xs (room, d) e lt takes rest g =
+      let m = swept-passes only (c .tapes) 0 (c .arcs) arcs text s xs e lt in
+      let k : ℕ = cell (arc e lt .source) ps t in
+      let v : ℕ = arc e lt .weight + val table t (m .numbers) (arc e lt .target) (moved ps (arc e lt .labels)) in
+      let i : taken only (c .tapes) (0 + 80 * e) arcs text s (m .numbers) ≡ lowered k v (m .numbers)
+      = ap (λ (j : ℕ). taken only (c .tapes) j arcs text s (m .numbers)) (zero-add (80 * e)) ∙ takes (m .numbers) ∙ visited-through e lt (m .numbers) rest g in
+      let f : getD (taken only (c .tapes) (0 + 80 * e) arcs text s (m .numbers)) k 0 ≡ getD (lowered k v (m .numbers)) k 0 = ap (λ (ys : List ℕ). getD ys k 0) i in
+      let in-room : k < length (m .numbers)
+      = omega (arith, room, m .same-length, cell-lt (size table) (arc e lt .source) ps t (table-within e (arc e lt) (arc-at e lt) .0) (spot .positions)) in
+      omega (arith, m .after k, f, lowered-same k v (m .numbers) in-room, m .before (cell (arc e lt .target) (moved ps (arc e lt .labels)) t))
+
+  -- of any arc of the table
+  table-brings : (only : Bool) (xs : List ℕ) → Kept xs → (e : ℕ) (a : Arc ℕ) → getElem? (table .arcs) e ≡ some a
+      → ((lt : e < c .arcs) → shift (arc e lt .labels) t ≡ shift (a .labels) t → (ys : List ℕ) → taken only (c .tapes) (80 * e) arcs text s ys ≡ visited (c .tapes) (80 * e) arcs text s ys)
+      → (rest : Tuple) → leftQuotients (a .labels) (dropAll ps t) ≡ some rest
+      → val table t (roundOf only c arcs text s xs) (a .source) ps ≤ a .weight + val table t xs (a .target) (moved ps (a .labels))
+  table-brings only xs k e a at takes rest g =
+      let lt : e < c .arcs = omega (arith, place-bound (table .arcs) e at, sound-holds (lent c states arcs) sound .arcs) in
+      let same : arc e lt ≡ a = Option·some-injective (arc e lt) a (sym (arc-at e lt) ∙ at) in
+      let g′ : leftQuotients (arc e lt .labels) (dropAll ps t) ≡ some rest
+      = subst (λ (z : Arc ℕ). leftQuotients (z .labels) (dropAll ps t) ≡ some rest) (sym same) g in
+      subst (λ (z : Arc ℕ). val table t (roundOf only c arcs text s xs) (z .source) ps ≤ z .weight + val table t xs (z .target) (moved ps (z .labels))) same
+      (round-brings only xs k e lt (takes lt (ap (λ (z : Arc ℕ). shift (z .labels) t) same)) rest g′)
+
+  -- an arc whose labels are all empty is taken in every round
+  empty-taken : (e : ℕ) (lt : e < c .arcs) → shift (arc e lt .labels) t ≡ 0 → (ys : List ℕ)
+      → taken true (c .tapes) (80 * e) arcs text s ys ≡ visited (c .tapes) (80 * e) arcs text s ys
+  empty-taken e lt still ys =
+      let f = few-tapes (lent c states arcs) sound in
+      let z : noSymbol (c .tapes) (80 * e + 8) arcs ≡ true
+      = shift-none (c .tapes) (80 * e + 8) arcs t tapes-are (omega (arith, arc-labelled e lt .lent, f)) (λ i h. arc-labelled e lt .short i (omega (arith, f)))
+      (ap (λ (ls : List (List ℕ)). shift ls t) (arc-labels e lt) ∙ still) in
+      rw z
+
+  -- Once all rounds were made, the combination is done.
   pub settled-done : (u w : List ℕ) → Settles c arcs text s u w → size table * combinations t ≤ length (cellsOf w)
       → Distances table t (cellsOf w) (suc (place ps t)) → Distances table t (cellsOf u) (place ps t)
   unfolding Kept
-  settled-done u w st room d = combination-done table t ps (spot .positions) (cellsOf u) (kept .1) each
+  settled-done u w st room d =
+      subst (λ (ys : List ℕ). Distances table t ys (place ps t)) (sym (st .cells-are))
+      (bounded-done table table-within t ps (spot .positions) (after n) (kept n .1) (subst (λ (k : ℕ). Bounded table table-within t ps (spot .positions) k (after n)) n-is (bounded n)))
     where
-      kept : Kept (cellsOf u)
-      kept = subst Kept (sym (st .cells-are)) (iterate-keeps Kept (roundOf c arcs text s) round-keeps (st .rounds) (cellsOf w) (room, d))
+      n : ℕ
+      n = c .states - 1
 
-      each : (e : ℕ) (a : Arc ℕ) → getElem? (table .arcs) e ≡ some a → (rest : Tuple) → leftQuotients (a .labels) (dropAll ps t) ≡ some rest
-          → val table t (cellsOf u) (a .source) ps ≤ a .weight + val table t (cellsOf u) (a .target) (moved ps (a .labels))
-      each e a at rest g =
-          let lt : e < c .arcs = omega (arith, place-bound (table .arcs) e at, sound-holds (lent c states arcs) sound .arcs) in
-          let same : arc e lt ≡ a = Option·some-injective (arc e lt) a (sym (arc-at e lt) ∙ at) in
-          let g′ : leftQuotients (arc e lt .labels) (dropAll ps t) ≡ some rest
-          = subst (λ (z : Arc ℕ). leftQuotients (z .labels) (dropAll ps t) ≡ some rest) (sym same) g in
-          let still : visited (c .tapes) (80 * e) arcs text s (cellsOf u) ≡ cellsOf u
-          = ap (λ (j : ℕ). visited (c .tapes) j arcs text s (cellsOf u)) (sym (zero-add (80 * e))) ∙ swept-still (c .tapes) 0 (c .arcs) arcs text s (cellsOf u) (st .still) e lt in
-          subst (λ (z : Arc ℕ). val table t (cellsOf u) (z .source) ps ≤ z .weight + val table t (cellsOf u) (z .target) (moved ps (z .labels))) same
-          (arc-still table table-within t ps (spot .positions) (cellsOf u) (kept .0) (kept .1) e (arc e lt) (arc-at e lt) rest g′
-          (sym (visited-through e lt (cellsOf u) rest g′) ∙ still))
+      n-is : n ≡ size table - 1
+      n-is = ap (λ (k : ℕ). k - 1) (sound-holds (lent c states arcs) sound .states)
+
+      -- the numbers after so many rounds more
+      after : ℕ → List ℕ
+      after k = iterate k (roundOf true c arcs text s) (roundOf false c arcs text s (cellsOf w))
+
+      kept : (k : ℕ) → Kept (after k)
+      kept k = iterate-keeps (roundOf true c arcs text s) Kept (round-keeps true) k (roundOf false c arcs text s (cellsOf w)) (round-keeps false (cellsOf w) (room, d))
+
+      bounded : (k : ℕ) → Bounded table table-within t ps (spot .positions) k (after k)
+      bounded zero = bounded-start table table-within t ps (spot .positions) (cellsOf w) (after zero) d (kept zero .1)
+          (λ e a at. table-brings false (cellsOf w) (room, d) e a at (λ lt z ys. refl))
+      bounded (suc k) = bounded-next table table-within t ps (spot .positions) k (after k) (after (suc k)) (bounded k)
+          (swept-le true (c .tapes) 0 (c .arcs) arcs text s (after k))
+          (λ e a at rest g still. table-brings true (after k) (kept k) e a at (λ lt z. empty-taken e lt (z ∙ still)) rest g)

@@ -2,7 +2,7 @@
 use mathlib.Core.Path.{_≡_, refl, sym, ap, ap₂, subst, _∙_}
 use mathlib.Core.List.{List, [], _∷_}
 use Prim.Native.Nat.{ℕ, zero, suc, _+_, _-_, _*_, _/_, _%_, _^_, _≤_, _<_}
-use native.Mathlib.Nat.{mod-lt, mod-one, mod-eq-of-lt, mul-le-mul, mul-pos, mul-comm, pow-suc}
+use native.Mathlib.Nat.{mod-lt, mod-one, mod-eq-of-lt, mul-le-mul, mul-comm, pow-suc}
 use native.Mathlib.Decide.{decLe}
 use native.Mathlib.Omega.{arith}
 use lib.Arith.{mod-mul}
@@ -16,6 +16,7 @@ use Rattle.tuple.specs.declared.Strings.{Strings}
 use Rattle.tuple.specs.Strings.{Stands}
 use Rattle.cells.specs.declared.spot.Spans.{Spans}
 use Rattle.cells.specs.Spots.{spanOf, Spanned, digit, eightOf, spotOf, Positive}
+use Rattle.cells.proofs.MoveMeaning.{combinations-positive}
 use Rattle.cells.proofs.RoundMeaning.{AtSpot}
 
 -- ---- positions by their number
@@ -24,10 +25,6 @@ use Rattle.cells.proofs.RoundMeaning.{AtSpot}
 abbrev pub digits : ℕ → Tuple → List ℕ
 digits b [] = []
 digits b (s ∷ t) = (b / combinations t % suc (length s)) ∷ digits b t
-
-pub combinations-positive : (t : Tuple) → 0 < combinations t
-combinations-positive [] = omega arith
-combinations-positive (s ∷ t) = mul-pos {m = suc (length s)} {n = combinations t} (omega arith) (combinations-positive t)
 
 pub positions-digits : (b : ℕ) (t : Tuple) → Positions (digits b t) t
 positions-digits b [] = tt

@@ -37,7 +37,7 @@ use Rattle.cells.proofs.CellLaws.{cells-get, length-cells}
 use Rattle.cells.proofs.DistanceLaws.{val, Distances}
 use Rattle.cells.proofs.SweepLaws.{lowered-le}
 use Rattle.cells.proofs.RelaxLaws.{lowered-same, lowered-other, lowered-length}
-use Rattle.cells.proofs.SpotMeaning.{combinations-positive}
+use Rattle.cells.proofs.MoveMeaning.{combinations-positive}
 
 -- ---- the last combination
 

@@ -1,11 +1,12 @@
 -- Whether the labels of an arc continue the strings from a combination of positions on, and to which one they lead.
 use mathlib.Core.Path.{_≡_}
+use mathlib.Core.Bool.{Bool, true}
 use mathlib.Core.Option.{Option, none, some}
 use mathlib.Core.List.{List, []}
 use Prim.Native.Nat.{ℕ, zero, suc, _+_, _-_, _*_, _≤_, _<_}
-use lib.Dec.{ltb}
+use lib.Dec.{eqb, ltb}
 use lib.ListN.{length, getD, drop}
-use Rattle.automata.specs.Lists.{if, bind, sameList}
+use Rattle.automata.specs.Lists.{if, and, bind, sameList}
 use Rattle.automata.specs.Automaton.{Tuple}
 use Rattle.automata.specs.Calls.Work.{combinations}
 use Rattle.memory.specs.Region.{part}
@@ -29,6 +30,11 @@ unfoldable pub movesFrom : ℕ → ℕ → ℕ → ℕ → List ℕ → List ℕ
 movesFrom zero h at k arcs text s = some k
 movesFrom (suc n) h at k arcs text s =
     bind (tapeMove arcs at text (getD (s .starts) h 0) (getD (s .lengths) h 0) (getD (s .spans) h 0)) (λ m. movesFrom n (h + 1) (at + 9) (k + m) arcs text s)
+
+-- the labels of n tapes from place at are all empty
+unfoldable pub noSymbol : ℕ → ℕ → List ℕ → Bool
+noSymbol zero at arcs = true
+noSymbol (suc n) at arcs = and (eqb (getD arcs at 0) 0) (noSymbol n (at + 9) arcs)
 
 -- what is left of n strings lies in a text of so many bytes, and there are not too many combinations
 pub record Laid (n size : ℕ) (s : Spot) : Type 0 where

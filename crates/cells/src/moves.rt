@@ -5,7 +5,7 @@ ghost use Prim.Native.Nat.{_+_, _*_, _≤_, _<_};
 ghost use lib.ListN.{length, getD};
 ghost use Rattle.automata.specs.Lists.{sameList};
 ghost use Rattle.memory.specs.Region.{part};
-ghost use Rattle.cells.specs.Moves.{stepAs, tapeMove, movesFrom, Laid, Labelled};
+ghost use Rattle.cells.specs.Moves.{stepAs, tapeMove, movesFrom, noSymbol, Laid, Labelled};
 
 // How far the number of a combination moves, or that the labels do not continue the strings.
 pub enum Step {
@@ -74,4 +74,21 @@ pub fn moved_on(arcs: &[u8], at: usize, tapes: usize, text: &[u8], spot: Spot) -
         left -= 1;
     }
     Step::Moved(total)
+}
+
+// Whether the labels from a place of the arcs on so many tapes are all empty.
+pub fn no_symbol(arcs: &[u8], at: usize, tapes: usize) -> bool
+    requires { ⌜ at + 9 * tapes ≤ length (now arcs) ⌝ }
+    ensures { λ r. ⌜ r ≡ noSymbol tapes at (now (arcs .entry)) ⌝ }
+{
+    let mut place = at;
+    let mut left = tapes;
+    while 0 < left {
+        if arcs[place] != 0 {
+            return false;
+        }
+        place += 9;
+        left -= 1;
+    }
+    true
 }

@@ -8,22 +8,22 @@ use Rattle.cells.proofs.relax.relax_arcs.Tie as tie
 use Rattle.cells.proofs.relax.relax_arcs.Reads as reads
 use Rattle.cells.proofs.relax.relax_arcs.Lts as lts
 use Rattle.cells.proofs.relax.either.Reads as either-reads
-use Rattle.cells.proofs.relax.relax_arc.Reads as relax-arc-reads
+use Rattle.cells.proofs.relax.take_arc.Reads as take-arc-reads
 
 abbrev Inv-loop : tie.InvT-loop
-Inv-loop counts arcs text spot work₀ changed₀ at₀ left₀ work changed at left = Sweeping counts arcs text spot work₀ changed at left work
+Inv-loop counts arcs text spot only work₀ changed₀ at₀ left₀ work changed at left = Sweeping only counts arcs text spot work₀ changed at left work
 
 abbrev μ-loop : tie.MeasureT-loop
-μ-loop counts arcs text spot work₀ changed₀ at₀ left₀ work changed at left = left
+μ-loop counts arcs text spot only work₀ changed₀ at₀ left₀ work changed at left = left
 
 loop-holds : tie.Need-loop-holds Inv-loop μ-loop
-loop-holds c = sweep-start _ _ _ _ _
+loop-holds c = sweep-start _ _ _ _ _ _
 
-relax-arc-requires : tie.Need-relax-arc-requires Inv-loop μ-loop
-relax-arc-requires c κs =
+take-arc-requires : tie.Need-take-arc-requires Inv-loop μ-loop
+take-arc-requires c κs =
     let s = c .before .before .before .before .before .before in
     let l = c .before .before .loop in
-    sweep-requires _ _ _ _ _ _ _ (l .left) (l .left - 1) _ (l .inv) (omega (arith, c .before .loop-test .taken)) (s .pre .0) (s .pre .1)
+    sweep-requires _ _ _ _ _ _ _ _ (l .left) (l .left - 1) _ (l .inv) (omega (arith, c .before .loop-test .taken)) (s .pre .0) (s .pre .1)
 
 either-requires : tie.Need-either-requires Inv-loop μ-loop
 either-requires c κs = search needs
@@ -43,13 +43,13 @@ loop-less c = search needs
 loop-again : tie.Need-loop-again Inv-loop μ-loop
 loop-again c =
     let l = c .before .before .before .before .before .before .loop in
-    sweep-turn _ _ _ _ _ _ _ (l .left) (l .left - 1) _ (l .inv) _ _ _ (omega (arith, c .before .before .before .before .before .loop-test .taken)) (c .before .before .before .relax-arc .ensures) (c .either .ensures)
+    sweep-turn _ _ _ _ _ _ _ _ (l .left) (l .left - 1) _ (l .inv) _ _ _ (omega (arith, c .before .before .before .before .before .loop-test .taken)) (c .before .before .before .take-arc .ensures) (c .either .ensures)
 
 same-length : tie.Need-same-length Inv-loop μ-loop
 same-length c = c .before .loop .inv .same-length
 
 returns : tie.Need-returns Inv-loop μ-loop
-returns c = let l = c .before .loop in sweep-end _ _ _ _ _ _ _ (l .left) (l .left) _ (l .inv) (omega (arith, c .loop-test .left))
+returns c = let l = c .before .loop in sweep-end _ _ _ _ _ _ _ _ (l .left) (l .left) _ (l .inv) (omega (arith, c .loop-test .left))
 
 pub relax-arcs-spec : {M : Type 1} → statement M
 relax-arcs-spec =
@@ -58,7 +58,7 @@ relax-arcs-spec =
     Inv-loop
     μ-loop
     loop-holds
-    relax-arc-requires
+    take-arc-requires
     either-requires
     add-at
     sub-left
