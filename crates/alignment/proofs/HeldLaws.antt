@@ -26,15 +26,17 @@ use Rattle.rows.specs.declared.Entered.{Entered}
 use Rattle.rows.specs.declared.Entered.the-variants as E
 use Rattle.rows.specs.Find.{entry, enterOf}
 use Rattle.rows.specs.Inserted.{Tells, Inserted}
+use Rattle.rows.specs.Kept.{keptRecord}
 use Rattle.rows.proofs.Meaning.{entered-at, entered-new, entered-full, at-count, new-count}
+use Rattle.rows.proofs.KeptLaws.{kept-cases}
 use Rattle.alignment.specs.declared.vertex.Vertex.{Vertex}
 use Rattle.alignment.specs.declared.vertex.Move.{Move}
 use Rattle.alignment.specs.declared.plan.Plan.{Plan}
 use Rattle.alignment.specs.declared.head.Head.{Head}
 use Rattle.alignment.specs.Vertices.{vertexOf, vertexBytes, rowOf, VertexBelow}
-use Rattle.alignment.specs.Moves.{moveBytes, moveAt, Carries, RecordOf, HoldsMoves, keptMove}
+use Rattle.alignment.specs.Moves.{moveBytes, moveAt, RecordOf, HoldsMoves}
 use Rattle.alignment.specs.Searching.{counted, VertexSearch, Holds}
-use Rattle.alignment.proofs.RecordLaws.{length-vertex, length-move, Fits, move-back, move-kept, kept-cases}
+use Rattle.alignment.proofs.RecordLaws.{length-vertex, length-move, Fits, move-back, move-kept}
 use Rattle.alignment.proofs.FormLaws.{rows-tell}
 
 -- ---- moves that are held
@@ -164,8 +166,8 @@ module _ (p : Plan) (A B : Automaton ℕ) (h : Head) (s : VertexSearch) (w : Lis
   count-more = sym (length-append (s .edges) (x ∷ []) ∙ omega (arith, o .arc-count))
 
   -- the head counts it whether there is room or not
-  pub move-held : (u : List ℕ) → u ≡ keptMove (p .base) (p .arcs) (h .arcs) m w → Holds p A B (counted h) longer u
-  move-held u k = kept-cases (p .base) (p .arcs) (h .arcs) m w u k (λ z. Holds p A B (counted h) longer z)
+  pub move-held : (u : List ℕ) → u ≡ keptRecord (p .base) (p .arcs) (h .arcs) (moveBytes m) w → Holds p A B (counted h) longer u
+  move-held u k = kept-cases (p .base) (p .arcs) (h .arcs) (moveBytes m) w u k (λ z. Holds p A B (counted h) longer z)
       (λ l. record {
         vertices = rows-splice-after 0 4 (length (s .vertices)) (p .base + 16 * h .arcs) (moveBytes m) w (omega (arith, vf, o .fits)) (omega (arith, mf, l)) ∙ o .vertices;
         moves = subst (λ (z : ℕ). HoldsMoves A B (s .vertices) (p .base) (p .arcs) (s .edges ++ (x ∷ [])) (splice (p .base + 16 * z) (moveBytes m) w)) (sym (o .arc-count))

@@ -1,25 +1,19 @@
 -- Rows of states and records of moves: what is stored, and what is read back.
-use Prim.Native.Nat.{ℕ, zero, suc, _+_, _-_, _*_, _<_, _≤_}
-use mathlib.Core.Path.{_≡_, refl, sym, ap, ap₂, _∙_, subst}
-use mathlib.Core.Logic.{_⊎_, inl, inr}
-use mathlib.Core.Bool.{Bool, true, false}
-use mathlib.Core.List.{List, [], _∷_, _++_}
+use Prim.Native.Nat.{ℕ, _+_, _-_, _*_, _<_, _≤_}
+use mathlib.Core.Path.{_≡_, refl, sym, ap, _∙_}
+use mathlib.Core.List.{List, _++_}
 use native.Mathlib.Omega.{arith}
-use lib.Dec.{ltb}
-use lib.ListN.{length, drop, replicate, length-append}
-use borrow.Author.Tests.{lt-ltb, le-ltb}
-use Rattle.automata.specs.Lists.{if}
-use Rattle.automata.proofs.TestFacts
+use lib.ListN.{length, replicate}
 use Rattle.memory.specs.Region.{part, splice}
 use Rattle.memory.specs.Endian.{le, toLe}
-use Rattle.memory.proofs.Laws.{splice-behind, length-splice, part-splice-in, part-splice-before, part-splice-after, part-front, part-middle, part-end}
-use Rattle.memory.proofs.EndianLaws.{length-toLe, le-toLe}
+use Rattle.memory.proofs.Laws.{splice-behind, part-splice-in, part-front, part-middle, part-end}
+use Rattle.memory.proofs.EndianLaws.{le-toLe}
 use Rattle.rows.specs.declared.Entered.{Entered}
 use Rattle.rows.specs.Find.{entry, enterOf}
 use Rattle.alignment.specs.declared.vertex.Vertex.{Vertex}
 use Rattle.alignment.specs.declared.vertex.Move.{Move}
 use Rattle.alignment.specs.Vertices.{vertexBytes, vertexAt}
-use Rattle.alignment.specs.Moves.{moveBytes, moveAt, keptMove}
+use Rattle.alignment.specs.Moves.{moveBytes, moveAt}
 
 -- ---- a state by value
 
@@ -112,25 +106,3 @@ move-kept at w v k = λ i. record {
   second = le (k (at + 4) 2 (omega arith) (omega arith) i);
   to = record { 0 = le (k (at + 6) 2 (omega arith) (omega arith) i) };
 }
-
--- a move that there is room for, and one that there is none for
-pub move-put : (at room number : ℕ) (m : Move) (w v : List ℕ) → number < room → v ≡ splice (at + 16 * number) (moveBytes m) w → v ≡ keptMove at room number m w
-unfolding keptMove
-move-put at room number m w v h k = rw (lt-ltb number room h) k
-
-pub move-left : (at room number : ℕ) (m : Move) (w : List ℕ) → room ≤ number → w ≡ keptMove at room number m w
-unfolding keptMove
-move-left at room number m w h = rw (le-ltb number room h)
-
--- by whether there is room
-module _ (at room number : ℕ) (m : Move) (w v : List ℕ) (k : v ≡ keptMove at room number m w) where
-  pub kept-cases : (P : List ℕ → Type 0) → (number < room → P (splice (at + 16 * number) (moveBytes m) w)) → (room ≤ number → P w) → P v
-  unfolding keptMove
-  kept-cases P f g = go (ltb number room) refl
-    where
-      go : (b : Bool) → ltb number room ≡ b → P v
-      go true t = subst P (sym (k ∙ ap (λ (b : Bool). if b (splice (at + 16 * number) (moveBytes m) w) w) t)) (f (TestFacts.ltb-true t))
-      go false t = subst P (sym (k ∙ ap (λ (b : Bool). if b (splice (at + 16 * number) (moveBytes m) w) w) t)) (g (TestFacts.ltb-false t))
-
-  pub kept-length : at + 16 * room ≤ length w → length v ≡ length w
-  kept-length h = kept-cases (λ u. length u ≡ length w) (λ l. length-splice (at + 16 * number) (moveBytes m) w (omega (arith, length-move m))) (λ l. refl)

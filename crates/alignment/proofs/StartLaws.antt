@@ -28,7 +28,7 @@ use Rattle.alignment.specs.Reading.{StatesLent, ReadsStates}
 use Rattle.alignment.specs.Searching.{VertexSearch, Comes}
 use Rattle.alignment.specs.Starting.{withVertices, Enters, Open, Widens, Admits, StartsOne, StartsAll, StartsBoth}
 use Rattle.alignment.proofs.RecordLaws.{length-vertex}
-use Rattle.alignment.proofs.EntryLaws.{entered-length, entered-room}
+use Rattle.rows.proofs.EntryLaws.{entered-length, entered-room}
 use Rattle.alignment.proofs.HeldLaws.{was-at, was-new, was-full, inserted-held}
 use Rattle.alignment.proofs.ArriveLaws.{withReached}
 use Rattle.alignment.proofs.ReadLaws.{initial-absent, initial-present}

@@ -1,43 +1,41 @@
 -- What entering a configuration and noting an edge leave of the work space, and that the search stays held.
 use Prim.Native.Nat.{ℕ, zero, suc, _+_, _-_, _*_, _≤_, _<_}
-use mathlib.Core.Path.{_≡_, refl, sym, ap, ap₂, _∙_, subst}
+use mathlib.Core.Path.{_≡_, sym, ap, ap₂, _∙_}
 use mathlib.Core.Bool.{Bool, true, false}
 use mathlib.Core.List.{List, [], _∷_, _++_}
 use native.Mathlib.Omega.{arith}
-use lib.Dec.{ltb}
 use lib.ListN.{length, drop, replicate, length-append}
-use borrow.Author.Tests.{lt-ltb, le-ltb}
 use Rattle.automata.specs.Lists.{All, if}
 use Rattle.automata.specs.Automaton.{Arc}
 use Rattle.automata.specs.Config as automata
 use Rattle.automata.specs.Config.{sameConfig}
 use Rattle.automata.specs.Explore.{Edge, member, insert}
-use Rattle.automata.proofs.TestFacts
 use Rattle.automata.proofs.Configurations.{configs-decided}
 use Rattle.memory.specs.Region.{part, splice}
 use Rattle.memory.specs.Endian.{le}
 use Rattle.memory.specs.Answers.{lent}
 use Rattle.memory.specs.declared.record.ResultState.{ResultState}
-use Rattle.memory.proofs.Laws.{length-splice, part-splice-after}
+use Rattle.memory.proofs.Laws.{part-splice-after}
 use Rattle.memory.proofs.RowLaws.{rows-splice-after}
 use Rattle.rows.specs.declared.Entered.{Entered}
 use Rattle.rows.specs.declared.Entered.the-variants as E
 use Rattle.rows.specs.Find.{entry, enterOf}
 use Rattle.rows.specs.Inserted.{Inserted}
+use Rattle.rows.specs.Kept.{keptRecord}
 use Rattle.rows.proofs.Meaning.{entered-at, entered-new, entered-full, at-count, new-count}
+use Rattle.rows.proofs.KeptLaws.{kept-cases}
 use Rattle.configuration.specs.declared.config.Config.{Config}
 use Rattle.configuration.specs.Configs.{configAs, GoodConfig, configBytes}
 use Rattle.configuration.proofs.RoundLaws.{length-config}
 use Rattle.delays.proofs.KeptLaws.{holds-part}
 use Rattle.delays.proofs.TestLaws.{length-closings}
-use Rattle.edges.specs.declared.edge.EdgeRecord.{EdgeRecord}
 use Rattle.edges.specs.Edges.{edgeBytes, recordOf, HoldsEdges}
 use Rattle.edges.proofs.EdgeLaws.{length-edge, holds-more, holds-beyond}
 use Rattle.exploration.specs.declared.plan.Plan.{Plan}
 use Rattle.exploration.specs.declared.head.Head.{Head}
 use Rattle.exploration.specs.Held.{rowOf}
 use Rattle.exploration.specs.Plans.{Explorable, tablesIn, StoredIn}
-use Rattle.exploration.specs.Searching.{rowBytes, keptEdge, counted, ConfigSearch, Holds}
+use Rattle.exploration.specs.Searching.{rowBytes, counted, ConfigSearch, Holds}
 use Rattle.exploration.proofs.FormLaws.{form-back, length-row, rows-tell}
 
 -- ---- a row and an edge record
@@ -71,28 +69,6 @@ enter-fits used c row size reached room g e h k =
 pub entered-row : (used : ℕ) (c : Config) (row w v : List ℕ) (reached room : ℕ) (r : Entered) → GoodConfig used c → row ≡ splice 0 (configBytes c) (replicate 320 0)
     → entry r v ≡ enterOf 0 reached room row w → entry r v ≡ enterOf 0 reached room (rowBytes c) w
 entered-row used c row w v reached room r g e t = t ∙ ap (λ (b : List ℕ). enterOf 0 reached room b w) (row-written used c row g e)
-
--- an edge that there is room for, and one that there is none for
-pub edge-kept : (at room number : ℕ) (e : EdgeRecord) (w v : List ℕ) → number < room → v ≡ splice (at + 16 * number) (edgeBytes e) w → v ≡ keptEdge at room number e w
-unfolding keptEdge
-edge-kept at room number e w v h k = rw (lt-ltb number room h) k
-
-pub edge-left : (at room number : ℕ) (e : EdgeRecord) (w : List ℕ) → room ≤ number → w ≡ keptEdge at room number e w
-unfolding keptEdge
-edge-left at room number e w h = rw (le-ltb number room h)
-
--- by whether there is room
-module _ (at room number : ℕ) (e : EdgeRecord) (w v : List ℕ) (k : v ≡ keptEdge at room number e w) where
-  pub kept-cases : (P : List ℕ → Type 0) → (number < room → P (splice (at + 16 * number) (edgeBytes e) w)) → (room ≤ number → P w) → P v
-  unfolding keptEdge
-  kept-cases P f g = go (ltb number room) refl
-    where
-      go : (b : Bool) → ltb number room ≡ b → P v
-      go true t = subst P (sym (k ∙ ap (λ (b : Bool). if b (splice (at + 16 * number) (edgeBytes e) w) w) t)) (f (TestFacts.ltb-true t))
-      go false t = subst P (sym (k ∙ ap (λ (b : Bool). if b (splice (at + 16 * number) (edgeBytes e) w) w) t)) (g (TestFacts.ltb-false t))
-
-  pub kept-length : at + 16 * room ≤ length w → length v ≡ length w
-  kept-length h = kept-cases (λ u. length u ≡ length w) (λ l. length-splice (at + 16 * number) (edgeBytes e) w (omega (arith, length-edge e))) (λ l. refl)
 
 -- ---- what is held
 
@@ -209,8 +185,8 @@ module _ (p : Plan) (states arcs : List ℕ) (size : ℕ) (x : Explorable p stat
   count-more = sym (length-append (s .edges) (e ∷ []) ∙ omega (arith, o .arc-count))
 
   -- the head counts it whether there is room or not
-  pub edge-held : (u : List ℕ) → u ≡ keptEdge (p .room .edges) (p .room .arcs) (h .arcs) (recordOf e) w → Holds p states arcs (counted h) longer late u
-  edge-held u k = kept-cases (p .room .edges) (p .room .arcs) (h .arcs) (recordOf e) w u k (λ z. Holds p states arcs (counted h) longer late z)
+  pub edge-held : (u : List ℕ) → u ≡ keptRecord (p .room .edges) (p .room .arcs) (h .arcs) (edgeBytes (recordOf e)) w → Holds p states arcs (counted h) longer late u
+  edge-held u k = kept-cases (p .room .edges) (p .room .arcs) (h .arcs) (edgeBytes (recordOf e)) w u k (λ z. Holds p states arcs (counted h) longer late z)
       (λ l. record {
         configs = rows-splice-after 0 320 (length (s .vertices)) place (edgeBytes (recordOf e)) w
             (omega (arith, x .configs-fit, o .fits)) (omega (arith, x .edges-fit, x .delays-fit, lw, l)) ∙ o .configs;
