@@ -1,11 +1,10 @@
 -- What a move to a state comes to, from what the calls answer and leave.
-use Prim.Native.Nat.{ℕ, zero, suc, _+_, _-_, _*_, _≤_, _<_}
+use Prim.Native.Nat.{ℕ, _+_, _-_, _*_, _≤_, _<_}
 use mathlib.Core.Path.{_≡_, refl, sym, ap, _∙_, subst}
-use mathlib.Core.Bool.{Bool, true, false}
+use mathlib.Core.Bool.{true, false}
 use mathlib.Core.List.{List, [], _∷_, _++_}
 use native.Mathlib.Omega.{arith}
 use lib.ListN.{length}
-use Rattle.automata.specs.Lists.{if}
 use Rattle.automata.specs.Automaton.{Automaton, Content}
 use Rattle.automata.specs.Explore.{Edge, insert, indexOf}
 use Rattle.automata.specs.Search.{note, noteAll}
@@ -29,17 +28,9 @@ use Rattle.alignment.specs.Moves.{moveBytes}
 use Rattle.alignment.specs.Searching.{counted, VertexSearch, Holds, Ready, Arrives}
 use Rattle.alignment.proofs.RecordLaws.{length-vertex, length-move}
 use Rattle.rows.proofs.EntryLaws.{entered-length, entered-room}
+use Rattle.rows.proofs.CodeLaws.{index-bound}
 use Rattle.rows.proofs.KeptLaws.{kept-length}
 use Rattle.alignment.proofs.HeldLaws.{was-at, was-new, was-full, inserted-held, move-held}
-
--- the place of a state is at most the length
-index-bound : (c : automata.Vertex) (cs : List automata.Vertex) → indexOf sameVertex c cs ≤ length cs
-index-bound c [] = omega arith
-index-bound c (d ∷ cs) = go (sameVertex c d) (index-bound c cs)
-  where
-    go : (b : Bool) → indexOf sameVertex c cs ≤ length cs → if b zero (suc (indexOf sameVertex c cs)) ≤ suc (length cs)
-    go true l = omega arith
-    go false l = omega arith
 
 -- a head with so many states
 abbrev pub withReached : ℕ → Head → Head
@@ -78,7 +69,7 @@ module _ (p : Plan) (h : Head) (d : Vertex) (i j : ℕ) (v : List ℕ) (q : Read
         let to : ℕ = indexOf sameVertex t more in
         let x : Edge (Content ℕ) = record { from = h .taken; label = y; to = to } in
         let o1 = inserted-held p h d v (q .vertices-fit) (q .moves-fit) A B t la lb di bt s o n w k ins in
-        let bound : to ≤ length more = index-bound t more in
+        let bound : to ≤ length more = index-bound sameVertex t more in
         let mv : u ≡ keptRecord (p .base) (p .arcs) (h .arcs) (moveBytes (noted h i j (record { 0 = to }))) w
         = e .1 ∙ ap (λ (z : ℕ). keptRecord (p .base) (p .arcs) (h .arcs) (moveBytes (noted h i j (record { 0 = z }))) w) (ins .0 .number) in
         let o2 = move-held p A B (withReached k h) (record { vertices = more; edges = s .edges }) w (q .vertices-fit) (omega (arith, lw, q .moves-fit)) o1 x (noted h i j (record { 0 = to }))

@@ -1,6 +1,6 @@
 -- Rows of states and records of moves: what is stored, and what is read back.
-use Prim.Native.Nat.{ℕ, _+_, _-_, _*_, _<_, _≤_}
-use mathlib.Core.Path.{_≡_, refl, sym, ap, _∙_}
+use Prim.Native.Nat.{ℕ, _+_, _-_, _<_, _≤_}
+use mathlib.Core.Path.{_≡_, refl, ap, _∙_}
 use mathlib.Core.List.{List, _++_}
 use native.Mathlib.Omega.{arith}
 use lib.ListN.{length, replicate}
@@ -8,8 +8,7 @@ use Rattle.memory.specs.Region.{part, splice}
 use Rattle.memory.specs.Endian.{le, toLe}
 use Rattle.memory.proofs.Laws.{splice-behind, part-splice-in, part-front, part-middle, part-end}
 use Rattle.memory.proofs.EndianLaws.{le-toLe}
-use Rattle.rows.specs.declared.Entered.{Entered}
-use Rattle.rows.specs.Find.{entry, enterOf}
+use Rattle.rows.proofs.KeptLaws.{part-start}
 use Rattle.alignment.specs.declared.vertex.Vertex.{Vertex}
 use Rattle.alignment.specs.declared.vertex.Move.{Move}
 use Rattle.alignment.specs.Vertices.{vertexBytes, vertexAt}
@@ -30,18 +29,6 @@ vertex-read at w x y a b = λ i. record { first = a i; second = b i }
 pub row-written : (v : Vertex) (r1 r2 : List ℕ) → r1 ≡ splice 0 (toLe 2 (v .first)) (replicate 4 0) → r2 ≡ splice 2 (toLe 2 (v .second)) r1 → r2 ≡ vertexBytes v
 unfolding vertexBytes splice
 row-written v r1 r2 a b = b ∙ ap (splice 2 (toLe 2 (v .second))) a
-
--- so there is room for it
-pub enter-fits : (v : Vertex) (r1 r2 : List ℕ) (size reached room : ℕ) → r1 ≡ splice 0 (toLe 2 (v .first)) (replicate 4 0) → r2 ≡ splice 2 (toLe 2 (v .second)) r1
-    → 4 * room ≤ size → reached ≤ room → (0 + room * length r2 ≤ size) × (reached ≤ room)
-enter-fits v r1 r2 size reached room a b h k =
-    let l : length r2 ≡ 4 = ap length (row-written v r1 r2 a b) ∙ length-vertex v in
-    (rw l (omega arith), k)
-
--- and what is entered is the row
-pub entered-row : (v : Vertex) (r1 r2 w u : List ℕ) (reached room : ℕ) (r : Entered) → r1 ≡ splice 0 (toLe 2 (v .first)) (replicate 4 0) → r2 ≡ splice 2 (toLe 2 (v .second)) r1
-    → entry r u ≡ enterOf 0 reached room r2 w → entry r u ≡ enterOf 0 reached room (vertexBytes v) w
-entered-row v r1 r2 w u reached room r a b t = t ∙ ap (λ (z : List ℕ). enterOf 0 reached room z w) (row-written v r1 r2 a b)
 
 -- ---- a move
 
@@ -84,7 +71,7 @@ move-back at m w f h =
     let d = toLe 2 (m .to .0) in
     let r = moveBytes m in
     let l : length r ≡ 8 = length-move m in
-    let p : part at 2 (splice at r w) ≡ a = part-at-zero at 2 r w (omega arith) (omega arith) ∙ part-front 2 a (b ++ (c ++ d)) refl in
+    let p : part at 2 (splice at r w) ≡ a = part-start at 2 r w (omega arith) (omega arith) ∙ part-front 2 a (b ++ (c ++ d)) refl in
     let q : part (at + 2) 2 (splice at r w) ≡ b = part-splice-in 2 2 at r w (omega arith) (omega arith) ∙ part-middle 2 2 a b (c ++ d) refl refl in
     let s : part (at + 4) 2 (splice at r w) ≡ c = part-splice-in 4 2 at r w (omega arith) (omega arith) ∙ part-middle 4 2 (a ++ b) c d refl refl in
     let t : part (at + 6) 2 (splice at r w) ≡ d = part-splice-in 6 2 at r w (omega arith) (omega arith) ∙ part-end 6 2 ((a ++ b) ++ c) d refl refl in
@@ -94,12 +81,9 @@ move-back at m w f h =
       second = (ap le s ∙ le-toLe 2 (m .second) (f .second)) i;
       to = record { 0 = (ap le t ∙ le-toLe 2 (m .to .0) (f .to)) i };
     }
-  where
-    part-at-zero : (at n : ℕ) (r w : List ℕ) → n ≤ length r → at + length r ≤ length w → part at n (splice at r w) ≡ part 0 n r
-    part-at-zero at n r w h k = let z : at + 0 ≡ at = omega arith in ap (λ (m : ℕ). part m n (splice at r w)) (sym z) ∙ part-splice-in 0 n at r w (omega arith) k
 
 -- a record in bytes that were kept
-pub move-kept : (at : ℕ) (w v : List ℕ) → ((a n : ℕ) → at ≤ a → a + n ≤ at + 8 → part a n v ≡ part a n w) → moveAt at v ≡ moveAt at w
+pub move-kept : (at : ℕ) (w v : List ℕ) → ((a n : ℕ) → at ≤ a → a + n ≤ at + 16 → part a n v ≡ part a n w) → moveAt at v ≡ moveAt at w
 move-kept at w v k = λ i. record {
   from = record { 0 = le (k at 2 (omega arith) (omega arith) i) };
   first = le (k (at + 2) 2 (omega arith) (omega arith) i);

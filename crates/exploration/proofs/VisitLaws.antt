@@ -1,12 +1,12 @@
 -- What an arc comes to, from what the calls answer and leave.
-use Prim.Native.Nat.{ℕ, zero, suc, _+_, _-_, _≤_, _<_}
+use Prim.Native.Nat.{ℕ, _+_, _-_, _≤_, _<_}
 use mathlib.Core.Path.{_≡_, refl, sym, ap, _∙_, subst}
 use mathlib.Core.Bool.{Bool, true, false}
 use mathlib.Core.Option.{some}
 use mathlib.Core.List.{List, [], _∷_, _++_}
 use native.Mathlib.Omega.{arith}
 use lib.ListN.{length, getElem?}
-use Rattle.automata.specs.Lists.{if, or}
+use Rattle.automata.specs.Lists.{or}
 use Rattle.automata.specs.Automaton.{Arc}
 use Rattle.automata.specs.Config as automata
 use Rattle.automata.specs.Config.{sameConfig}
@@ -23,6 +23,7 @@ use Rattle.rows.specs.declared.Entered.the-variants as E
 use Rattle.rows.specs.Find.{entry, enterOf}
 use Rattle.rows.specs.Inserted.{Inserted}
 use Rattle.rows.specs.Kept.{keptRecord}
+use Rattle.rows.proofs.CodeLaws.{index-bound}
 use Rattle.rows.proofs.KeptLaws.{kept-length}
 use Rattle.configuration.specs.declared.config.Config.{Config}
 use Rattle.configuration.specs.Configs.{configAs}
@@ -39,16 +40,7 @@ use Rattle.exploration.specs.Plans.{Explorable, tableIn, pairsIn, viable
 use Rattle.exploration.specs.Offers.{offerBy, Offers}
 use Rattle.exploration.specs.Searching.{rowBytes, counted, ConfigSearch, Holds, Comes, Arrivable, Arrives, noteOffer, Visitable, Visits}
 use Rattle.exploration.proofs.OfferLaws.{arc-count}
-use Rattle.exploration.proofs.HeldLaws.{was-at, was-new, was-full, count-at, count-new, inserted-held, edge-held}
-
--- the place of a configuration is at most the length
-index-bound : (c : automata.Config) (cs : List automata.Config) → indexOf sameConfig c cs ≤ length cs
-index-bound c [] = omega arith
-index-bound c (d ∷ cs) = go (sameConfig c d) (index-bound c cs)
-  where
-    go : (b : Bool) → indexOf sameConfig c cs ≤ length cs → if b zero (suc (indexOf sameConfig c cs)) ≤ suc (length cs)
-    go true l = omega arith
-    go false l = omega arith
+use Rattle.exploration.proofs.HeldLaws.{was-at, was-new, was-full, inserted-held, edge-held}
 
 -- a head with so many configurations
 abbrev pub withReached : ℕ → Head → Head
@@ -85,8 +77,8 @@ module _ (p : Plan) (h : Head) (d : Config) (j : ℕ) (v : List ℕ) (q : Arriva
         let i = enters states arcs s late x o in
         let more : List automata.Config = insert sameConfig (s .vertices) c in
         let at : ℕ = indexOf sameConfig c more in
-        let o1 = inserted-held p h d v (q .good) (q .stored) states arcs s late x o n w (i .0) k (i .1) in
-        let b : at ≤ length more = index-bound c more in
+        let o1 = inserted-held p h d v (q .good) (q .stored) states arcs s late x o n w k i in
+        let b : at ≤ length more = index-bound sameConfig c more in
         let m : u ≡ keptRecord (p .room .edges) (p .room .arcs) (h .arcs) (edgeBytes (noted h j (record { 0 = at }))) w
         = e .1 ∙ ap (λ (z : ℕ). keptRecord (p .room .edges) (p .room .arcs) (h .arcs) (edgeBytes (noted h j (record { 0 = z }))) w) (i .0 .number) in
         let o2 = edge-held p states arcs (length v) x (withReached k h) (record { vertices = more; edges = s .edges }) late w (i .0 .same-length) o1
@@ -104,7 +96,7 @@ module _ (p : Plan) (h : Head) (d : Config) (j : ℕ) (v : List ℕ) (q : Arriva
     arrives-at n z = arrives-noted (h .reached) n w (omega arith)
         (λ states arcs s late x o.
         let t2 = ap (λ (y : Entered). entry y w) (sym z) ∙ t in
-        (was-at p h d v (q .good) (q .stored) states arcs s late x o n w t2, count-at p h d v (q .good) (q .stored) states arcs s late x o n w t2))
+        was-at p h d v (q .good) (q .stored) states arcs s late x o n w t2)
 
     -- it is new
     pub arrives-new : (n : ResultState) → r ≡ E.New n → (g : Head) (u : List ℕ)
@@ -112,7 +104,7 @@ module _ (p : Plan) (h : Head) (d : Config) (j : ℕ) (v : List ℕ) (q : Arriva
     arrives-new n z = arrives-noted (h .reached + 1) n w (omega arith)
         (λ states arcs s late x o.
         let t2 = ap (λ (y : Entered). entry y w) (sym z) ∙ t in
-        (was-new p h d v (q .good) (q .stored) states arcs s late x o n w t2, count-new p h d v (q .good) (q .stored) states arcs s late x o n w t2))
+        was-new p h d v (q .good) (q .stored) states arcs s late x o n w t2)
 
     -- there is no room for it
     pub arrives-full : r ≡ E.Full → Arrives p h d j v (record { taken = h .taken; reached = h .reached; arcs = h .arcs; late = h .late; full = true }) w

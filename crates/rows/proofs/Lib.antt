@@ -2,4 +2,6 @@
 pub mod Laws
 pub mod Meaning
 pub mod EntryLaws
+pub mod CodeLaws
 pub mod KeptLaws
+pub mod SearchLaws
