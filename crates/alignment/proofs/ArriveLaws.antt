@@ -1,12 +1,10 @@
 -- What a move to a state comes to, from what the calls answer and leave.
-use Prim.Native.Nat.{ℕ, zero, suc, _+_, _-_, _*_, _≤_, _<_}
+use Prim.Native.Nat.{ℕ, _+_, _-_, _*_, _≤_, _<_}
 use mathlib.Core.Path.{_≡_, refl, sym, ap, _∙_, subst}
-use mathlib.Core.Bool.{Bool, true, false}
-use mathlib.Core.Option.{some}
+use mathlib.Core.Bool.{true, false}
 use mathlib.Core.List.{List, [], _∷_, _++_}
 use native.Mathlib.Omega.{arith}
-use lib.ListN.{length, getElem?}
-use Rattle.automata.specs.Lists.{if}
+use lib.ListN.{length}
 use Rattle.automata.specs.Automaton.{Automaton, Content}
 use Rattle.automata.specs.Explore.{Edge, insert, indexOf}
 use Rattle.automata.specs.Search.{note, noteAll}
@@ -20,25 +18,19 @@ use Rattle.rows.specs.declared.Entered.{Entered}
 use Rattle.rows.specs.declared.Entered.the-variants as E
 use Rattle.rows.specs.Find.{entry, enterOf}
 use Rattle.rows.specs.Inserted.{Inserted}
+use Rattle.rows.specs.Kept.{keptRecord}
 use Rattle.alignment.specs.declared.vertex.Vertex.{Vertex}
 use Rattle.alignment.specs.declared.vertex.Move.{Move}
 use Rattle.alignment.specs.declared.plan.Plan.{Plan}
 use Rattle.alignment.specs.declared.head.Head.{Head}
 use Rattle.alignment.specs.Vertices.{vertexOf, vertexBytes, rowOf, VertexBelow}
-use Rattle.alignment.specs.Moves.{Carries, keptMove}
-use Rattle.alignment.specs.Searching.{counted, VertexSearch, Holds, Comes, Notes, Ready, Grows, Arrives}
-use Rattle.alignment.proofs.RecordLaws.{length-vertex, kept-length}
-use Rattle.alignment.proofs.EntryLaws.{entered-length, entered-room}
+use Rattle.alignment.specs.Moves.{moveBytes}
+use Rattle.alignment.specs.Searching.{counted, VertexSearch, Holds, Ready, Arrives}
+use Rattle.alignment.proofs.RecordLaws.{length-vertex, length-move}
+use Rattle.rows.proofs.EntryLaws.{entered-length, entered-room}
+use Rattle.rows.proofs.CodeLaws.{index-bound}
+use Rattle.rows.proofs.KeptLaws.{kept-length}
 use Rattle.alignment.proofs.HeldLaws.{was-at, was-new, was-full, inserted-held, move-held}
-
--- the place of a state is at most the length
-index-bound : (c : automata.Vertex) (cs : List automata.Vertex) → indexOf sameVertex c cs ≤ length cs
-index-bound c [] = omega arith
-index-bound c (d ∷ cs) = go (sameVertex c d) (index-bound c cs)
-  where
-    go : (b : Bool) → indexOf sameVertex c cs ≤ length cs → if b zero (suc (indexOf sameVertex c cs)) ≤ suc (length cs)
-    go true l = omega arith
-    go false l = omega arith
 
 -- a head with so many states
 abbrev pub withReached : ℕ → Head → Head
@@ -60,7 +52,7 @@ module _ (p : Plan) (h : Head) (d : Vertex) (i j : ℕ) (v : List ℕ) (q : Read
       → Inserted rowOf sameVertex 0 (p .states) 4 (s .vertices) t v w n × (k ≡ length (insert sameVertex (s .vertices) t))
 
   arrives-noted : (k : ℕ) (n : ResultState) (w : List ℕ) → h .reached ≤ k → k ≤ p .states → length w ≡ length v → Enters k n w → (g : Head) (u : List ℕ)
-      → (g ≡ counted (withReached k h)) × (u ≡ keptMove (p .base) (p .arcs) (h .arcs) (noted h i j n) w) → Arrives p h d i j v g u
+      → (g ≡ counted (withReached k h)) × (u ≡ keptRecord (p .base) (p .arcs) (h .arcs) (moveBytes (noted h i j n)) w) → Arrives p h d i j v g u
   unfolding note noteAll
   arrives-noted k n w l b lw enters g u e = record {
     grows = record {
@@ -68,7 +60,7 @@ module _ (p : Plan) (h : Head) (d : Vertex) (i j : ℕ) (v : List ℕ) (q : Read
       grown = let z : g .reached ≡ k = ap (λ (z : Head). z .reached) (e .0) in omega arith;
       fits = let z : g .reached ≡ k = ap (λ (z : Head). z .reached) (e .0) in omega arith;
       few = let z : g .arcs ≡ h .arcs + 1 = ap (λ (z : Head). z .arcs) (e .0) in omega arith;
-      same-length = kept-length (p .base) (p .arcs) (h .arcs) (noted h i j n) w u (e .1) (omega (arith, lw, q .moves-fit)) ∙ lw;
+      same-length = kept-length (p .base) (p .arcs) (h .arcs) (moveBytes (noted h i j n)) w u (e .1) (omega (arith, length-move (noted h i j n))) (omega (arith, lw, q .moves-fit)) ∙ lw;
     };
     meaning = λ A B c t y la lb di bt ca s m at.
         let o = m .held opened in
@@ -77,9 +69,9 @@ module _ (p : Plan) (h : Head) (d : Vertex) (i j : ℕ) (v : List ℕ) (q : Read
         let to : ℕ = indexOf sameVertex t more in
         let x : Edge (Content ℕ) = record { from = h .taken; label = y; to = to } in
         let o1 = inserted-held p h d v (q .vertices-fit) (q .moves-fit) A B t la lb di bt s o n w k ins in
-        let bound : to ≤ length more = index-bound t more in
-        let mv : u ≡ keptMove (p .base) (p .arcs) (h .arcs) (noted h i j (record { 0 = to })) w
-        = e .1 ∙ ap (λ (z : ℕ). keptMove (p .base) (p .arcs) (h .arcs) (noted h i j (record { 0 = z })) w) (ins .0 .number) in
+        let bound : to ≤ length more = index-bound sameVertex t more in
+        let mv : u ≡ keptRecord (p .base) (p .arcs) (h .arcs) (moveBytes (noted h i j (record { 0 = to }))) w
+        = e .1 ∙ ap (λ (z : ℕ). keptRecord (p .base) (p .arcs) (h .arcs) (moveBytes (noted h i j (record { 0 = z }))) w) (ins .0 .number) in
         let o2 = move-held p A B (withReached k h) (record { vertices = more; edges = s .edges }) w (q .vertices-fit) (omega (arith, lw, q .moves-fit)) o1 x (noted h i j (record { 0 = to }))
         (record { from = omega (arith, q .taken-fits, q .fits, q .few-states); first = i-fits; second = j-fits; to = omega (arith, bound, ins .0 .fits, q .few-states) })
         (record { vertex = c; at-from = AppendFacts.begins-place (insert-begins sameVertex (s .vertices) t) (h .taken) at; from-is = refl; to-is = refl; carried = ca }) u mv in
@@ -95,13 +87,13 @@ module _ (p : Plan) (h : Head) (d : Vertex) (i j : ℕ) (v : List ℕ) (q : Read
 
     -- it was there already
     pub arrives-at : (n : ResultState) → r ≡ E.At n → (g : Head) (u : List ℕ)
-        → (g ≡ counted h) × (u ≡ keptMove (p .base) (p .arcs) (h .arcs) (noted h i j n) w) → Arrives p h d i j v g u
+        → (g ≡ counted h) × (u ≡ keptRecord (p .base) (p .arcs) (h .arcs) (moveBytes (noted h i j n)) w) → Arrives p h d i j v g u
     arrives-at n z = arrives-noted (h .reached) n w (omega arith) (q .fits) kept
         (λ A B c la lb di bt s o. was-at p h d v (q .vertices-fit) (q .moves-fit) A B c la lb di bt s o n w (ap (λ (y : Entered). entry y w) (sym z) ∙ t))
 
     -- it is new
     pub arrives-new : (n : ResultState) → r ≡ E.New n → (g : Head) (u : List ℕ)
-        → (g ≡ counted (withReached (h .reached + 1) h)) × (u ≡ keptMove (p .base) (p .arcs) (h .arcs) (noted h i j n) w) → Arrives p h d i j v g u
+        → (g ≡ counted (withReached (h .reached + 1) h)) × (u ≡ keptRecord (p .base) (p .arcs) (h .arcs) (moveBytes (noted h i j n)) w) → Arrives p h d i j v g u
     arrives-new n z =
         let t2 = ap (λ (y : Entered). entry y w) (sym z) ∙ t in
         let b = entered-room 0 (h .reached) (p .states) (vertexBytes d) v n w t2 in

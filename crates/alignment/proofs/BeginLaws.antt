@@ -1,6 +1,6 @@
 -- All pairs of initial states, one state of the first side after the other.
-use Prim.Native.Nat.{ℕ, zero, suc, _+_, _-_, _*_, _≤_, _<_}
-use mathlib.Core.Path.{_≡_, refl, sym, ap, _∙_, subst}
+use Prim.Native.Nat.{ℕ, zero, _+_, _-_, _*_, _≤_, _<_}
+use mathlib.Core.Path.{_≡_, refl, sym, ap, _∙_}
 use mathlib.Core.Bool.{true, false}
 use mathlib.Core.List.{List, [], _∷_, _++_}
 use native.Mathlib.Omega.{arith}
@@ -8,7 +8,6 @@ use lib.ListN.{length, getD, take, drop}
 use lib.Seq.{take-all}
 use Rattle.automata.specs.Automaton.{Automaton, State}
 use Rattle.automata.specs.Search.{searchFrom}
-use Rattle.automata.specs.Product as automata
 use Rattle.automata.specs.Product.{sameVertex, initialsFrom, allPairs}
 use Rattle.automata.proofs.TestFacts
 use Rattle.memory.specs.Region.{rows}
@@ -16,11 +15,11 @@ use Rattle.memory.specs.Records.{stateAs, stateAt}
 use Rattle.alignment.specs.declared.plan.Plan.{Plan}
 use Rattle.alignment.specs.declared.head.Head.{Head}
 use Rattle.alignment.specs.Reading.{StatesLent, ReadsStates}
-use Rattle.alignment.specs.Searching.{VertexSearch, Comes}
+use Rattle.alignment.specs.Searching.{Comes}
 use Rattle.alignment.specs.Starting.{Enters, Open, Widens, StartsAll, StartsBoth, Beginnable, Begun, startsOf}
 use Rattle.alignment.proofs.ReadLaws.{initial-absent, initial-present}
 use Rattle.alignment.proofs.HeldLaws.{moves-none}
-use Rattle.alignment.proofs.StartLaws.{widens-none, widens-then, open-on, enters-none, enters-then, enters-full, enters-same, initials-suc, initials-split, pairs-append, one-absent, one-present}
+use Rattle.alignment.proofs.StartLaws.{widens-none, widens-then, enters-none, enters-then, enters-full, enters-same, initials-suc, initials-split, pairs-append, one-absent, one-present}
 
 -- ---- one state of the first side
 

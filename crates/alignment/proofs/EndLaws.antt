@@ -1,6 +1,6 @@
 -- One side's arcs after the other side's end.
 use Prim.Native.Nat.{ℕ, _+_, _-_, _*_, _≤_, _<_}
-use mathlib.Core.Path.{_≡_, refl, sym, ap, _∙_, subst}
+use mathlib.Core.Path.{_≡_, refl, sym, ap, _∙_}
 use mathlib.Core.Bool.{Bool, true, false, not}
 use mathlib.Core.Option.{Option, none, some}
 use mathlib.Core.List.{List, [], map}
@@ -12,7 +12,6 @@ use Rattle.automata.specs.Automaton.{Automaton, State, Content, finalOf}
 use Rattle.automata.specs.System.{system, outAt, finalAt}
 use Rattle.automata.specs.Product as automata
 use Rattle.automata.specs.Product.{afterFirstContent, afterSecondContent, allAfterFirst, allAfterSecond}
-use Rattle.automata.proofs.TestFacts
 use Rattle.memory.specs.declared.answer.Counts.{Counts}
 use Rattle.memory.specs.Records.{stateAs, stateAt}
 use Rattle.alignment.specs.declared.vertex.Vertex.{Vertex}
@@ -20,8 +19,8 @@ use Rattle.alignment.specs.declared.plan.Plan.{Plan}
 use Rattle.alignment.specs.declared.head.Head.{Head}
 use Rattle.alignment.specs.Vertices.{vertexOf, VertexBelow}
 use Rattle.alignment.specs.Moves.{by-second, by-first}
-use Rattle.alignment.specs.Reading.{StatesLent, ReadsStates, ReadsArcs}
-use Rattle.alignment.specs.Searching.{Step, Notes, Ready, TellsEnd, onSecond, onFirst, PassesSecond, PassesFirst, EndsFirst, EndsSecond}
+use Rattle.alignment.specs.Reading.{StatesLent, ReadsStates}
+use Rattle.alignment.specs.Searching.{Step, Ready, TellsEnd, onSecond, onFirst, PassesSecond, PassesFirst, EndsFirst, EndsSecond}
 use Rattle.alignment.proofs.NoteLaws.{grows-none, notes-none, notes-over, notes-same}
 use Rattle.alignment.proofs.ReadLaws.{final-absent, final-present}
 

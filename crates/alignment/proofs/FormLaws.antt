@@ -1,25 +1,22 @@
 -- States of a product and their rows: rows tell states apart, and a state is read back from its row.
-use Prim.Native.Nat.{ℕ, zero, suc, _+_, _-_, _*_, _≤_, _<_}
-use mathlib.Core.Path.{_≡_, refl, sym, ap, _∙_, subst}
+use Prim.Native.Nat.{ℕ, _+_, _-_, _*_, _≤_, _<_}
+use mathlib.Core.Path.{_≡_, refl, sym, ap, _∙_}
 use mathlib.Core.Option.{Option, none, some}
-use mathlib.Core.List.{List, [], _∷_, _++_, map}
+use mathlib.Core.List.{List}
 use native.Mathlib.Omega.{arith}
 use native.Mathlib.Nat.{add-zero}
-use lib.Dec.{eqb}
-use lib.ListN.{length, getD, getElem?}
-use Rattle.automata.specs.Lists.{All, here, there, sameList}
+use lib.ListN.{getElem?}
+use Rattle.automata.specs.Lists.{All}
 use Rattle.automata.specs.Product as automata
 use Rattle.automata.specs.Product.{sameVertex}
-use Rattle.automata.proofs.TestFacts
-use Rattle.automata.proofs.ListFacts
-use Rattle.automata.proofs.ListFacts.{numbers-decided, lists-decided}
 use Rattle.automata.proofs.ProductStates.{vertices-decided}
-use Rattle.memory.specs.Region.{part, rows}
+use Rattle.automata.proofs.WellFormedFacts.{all-place}
+use Rattle.memory.specs.Region.{part}
 use Rattle.memory.specs.Endian.{le, toLe}
 use Rattle.memory.proofs.Laws.{part-part, part-front, part-end}
 use Rattle.memory.proofs.EndianLaws.{le-toLe}
-use Rattle.memory.proofs.RowLaws.{getD-rows}
 use Rattle.rows.specs.Inserted.{Tells}
+use Rattle.rows.proofs.CodeLaws.{codes-tell, row-at}
 use Rattle.alignment.specs.declared.vertex.Vertex.{Vertex}
 use Rattle.alignment.specs.Vertices.{placeNumber, vertexOf, vertexBytes, rowOf, HoldsVertices, PlaceBelow, VertexBelow, vertexAt}
 
@@ -65,37 +62,16 @@ module _ (n m : ℕ) (few-first : n ≤ 1024) (few-second : m ≤ 1024) where
       let y = place-injective m (c .1) (d .1) few-second (a .1) (b .1) (ap (λ (z : Vertex). z .second) v) in
       λ i. (x i, y i)
 
-  same-rows : (c d : automata.Vertex) → VertexBelow n m c → VertexBelow n m d → sameVertex c d ≡ sameList (rowOf c) (rowOf d)
-  same-rows c d a b =
-      let bytes = lists-decided eqb numbers-decided in
-      TestFacts.same-truth (sameVertex c d) (sameList (rowOf c) (rowOf d))
-      (λ e. ap (λ (x : automata.Vertex). sameList (rowOf c) (rowOf x)) (sym (vertices-decided .sound c d e)) ∙ bytes .complete (rowOf c))
-      (λ e. ap (sameVertex c) (sym (row-injective c d a b (bytes .sound (rowOf c) (rowOf d) e))) ∙ vertices-decided .complete c)
-
   -- so they tell a state from all others
   pub rows-tell : (c : automata.Vertex) (cs : List automata.Vertex) → VertexBelow n m c → All (VertexBelow n m) cs → Tells rowOf sameVertex c cs
-  rows-tell c [] a h u k = elim k [ ]
-  rows-tell c (d ∷ cs) a h u (here e) = rw e (same-rows c d a (h .0))
-  rows-tell c (d ∷ cs) a h u (there k) = rows-tell c cs a (h .1) u k
+  rows-tell c cs a h = codes-tell rowOf sameVertex vertices-decided (VertexBelow n m) row-injective c cs a h
 
 -- ---- a state that is held
-
--- what holds of all holds of the one at a place
-pub all-place : {A : Type 0} (P : A → Type 0) (xs : List A) (i : ℕ) {a : A} → All P xs → getElem? xs i ≡ some a → P a
-all-place P [] i h e = ListFacts.none-not-some refl e
-all-place P (x ∷ xs) zero {a} h e = let q : x ≡ a = cc in subst P q (h .0)
-all-place P (x ∷ xs) (suc i) h e = all-place P xs i (h .1) e
-
--- the row at a place
-row-place : (xs : List automata.Vertex) (i : ℕ) {c : automata.Vertex} → getElem? xs i ≡ some c → getD (map rowOf xs) i [] ≡ rowOf c
-row-place [] i e = ListFacts.none-not-some refl e
-row-place (x ∷ xs) zero {c} e = let q : x ≡ c = cc in ap rowOf q
-row-place (x ∷ xs) (suc i) e = row-place xs i e
 
 -- what is read from its row is the state by value
 pub loaded : (n m : ℕ) (cs : List automata.Vertex) (w : List ℕ) (k : ℕ) (c : automata.Vertex) → n ≤ 1024 → m ≤ 1024 → All (VertexBelow n m) cs → HoldsVertices cs w
     → getElem? cs k ≡ some c → vertexAt (4 * k) w ≡ vertexOf c
 loaded n m cs w k c a b h o e =
-    let f : part (0 + k * 4) 4 w ≡ rowOf c = sym (getD-rows 0 4 (length cs) w k [] (ListFacts.place-bound cs k e)) ∙ ap (λ (z : List (List ℕ)). getD z k []) o ∙ row-place cs k e in
+    let f : part (0 + k * 4) 4 w ≡ rowOf c = row-at rowOf 0 4 cs w k c o e in
     let q : 0 + k * 4 ≡ 4 * k = omega arith in
-    vertex-row (4 * k) w ∙ ap (λ (i : ℕ). vertexAt 0 (part i 4 w)) (sym q) ∙ ap (vertexAt 0) f ∙ row-back n m a b c (all-place (VertexBelow n m) cs k h e)
+    vertex-row (4 * k) w ∙ ap (λ (i : ℕ). vertexAt 0 (part i 4 w)) (sym q) ∙ ap (vertexAt 0) f ∙ row-back n m a b c (all-place (VertexBelow n m) cs h k c e)

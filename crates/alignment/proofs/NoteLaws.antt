@@ -1,7 +1,7 @@
 -- Steps noted one after the other, and the bounds that are kept.
-use Prim.Native.Nat.{ℕ, _+_, _-_, _≤_, _<_}
+use Prim.Native.Nat.{ℕ, _+_, _-_, _≤_}
 use mathlib.Core.Path.{_≡_, refl, sym, ap, _∙_, subst}
-use mathlib.Core.Bool.{true, false}
+use mathlib.Core.Bool.{true}
 use mathlib.Core.Option.{some}
 use mathlib.Core.List.{List, [], _++_}
 use native.Mathlib.Omega.{arith}
@@ -11,8 +11,9 @@ use Rattle.automata.specs.Search.{noteAll}
 use Rattle.automata.specs.Product as automata
 use Rattle.automata.specs.Product.{sameVertex}
 use Rattle.automata.proofs.TestFacts
-use Rattle.automata.proofs.SearchFacts.{noteAll-append, noteAll-length, noteAll-place}
+use Rattle.automata.proofs.SearchFacts.{noteAll-append, noteAll-place}
 use Rattle.automata.proofs.ProductStates.{vertices-decided}
+use Rattle.rows.proofs.SearchLaws.{noted-longer}
 use Rattle.alignment.specs.declared.plan.Plan.{Plan}
 use Rattle.alignment.specs.declared.head.Head.{Head}
 use Rattle.alignment.specs.Searching.{VertexSearch, Step, Comes, Notes, Ready, Grows}
@@ -79,17 +80,10 @@ module _ (p : Plan) (A B : Automaton ℕ) (c : automata.Vertex) where
 
   -- once the states are full they stay so
   pub notes-full : (xs ys : List Step) (h r : Head) (v w : List ℕ) → r .full ≡ true → Notes p A B c xs h v r w → Notes p A B c (xs ++ ys) h v r w
-  notes-full xs ys h r v w f a s m e =
-      let k = h .taken in
-      let s1 : VertexSearch = noteAll sameVertex k s xs in
-      record {
-        held = λ n. TestFacts.false-not-true n f;
-        over = λ n.
-            let o = a s m e .over f in
-            let l = noteAll-length sameVertex vertices-decided k s1 ys in
-            let q = ap (λ (z : VertexSearch). length (z .vertices)) (noteAll-append sameVertex vertices-decided k s xs ys) in
-            omega (arith, o, l, q);
-      }
+  notes-full xs ys h r v w f a s m e = record {
+    held = λ n. TestFacts.false-not-true n f;
+    over = λ n. omega (arith, a s m e .over f, noted-longer sameVertex vertices-decided (h .taken) s xs ys (xs ++ ys) refl);
+  }
 
   -- nothing is looked at where they are full already
   pub notes-over : (xs : List Step) (h : Head) (v : List ℕ) → h .full ≡ true → Notes p A B c xs h v h v

@@ -1,25 +1,18 @@
 -- Rows of states and records of moves: what is stored, and what is read back.
-use Prim.Native.Nat.{ℕ, zero, suc, _+_, _-_, _*_, _<_, _≤_}
-use mathlib.Core.Path.{_≡_, refl, sym, ap, ap₂, _∙_, subst}
-use mathlib.Core.Logic.{_⊎_, inl, inr}
-use mathlib.Core.Bool.{Bool, true, false}
-use mathlib.Core.List.{List, [], _∷_, _++_}
+use Prim.Native.Nat.{ℕ, _+_, _-_, _<_, _≤_}
+use mathlib.Core.Path.{_≡_, refl, ap, _∙_}
+use mathlib.Core.List.{List, _++_}
 use native.Mathlib.Omega.{arith}
-use lib.Dec.{ltb}
-use lib.ListN.{length, drop, replicate, length-append}
-use borrow.Author.Tests.{lt-ltb, le-ltb}
-use Rattle.automata.specs.Lists.{if}
-use Rattle.automata.proofs.TestFacts
+use lib.ListN.{length, replicate}
 use Rattle.memory.specs.Region.{part, splice}
 use Rattle.memory.specs.Endian.{le, toLe}
-use Rattle.memory.proofs.Laws.{splice-behind, length-splice, part-splice-in, part-splice-before, part-splice-after, part-front, part-middle, part-end}
-use Rattle.memory.proofs.EndianLaws.{length-toLe, le-toLe}
-use Rattle.rows.specs.declared.Entered.{Entered}
-use Rattle.rows.specs.Find.{entry, enterOf}
+use Rattle.memory.proofs.Laws.{splice-behind, part-splice-in, part-front, part-middle, part-end}
+use Rattle.memory.proofs.EndianLaws.{le-toLe}
+use Rattle.rows.proofs.KeptLaws.{part-start}
 use Rattle.alignment.specs.declared.vertex.Vertex.{Vertex}
 use Rattle.alignment.specs.declared.vertex.Move.{Move}
 use Rattle.alignment.specs.Vertices.{vertexBytes, vertexAt}
-use Rattle.alignment.specs.Moves.{moveBytes, moveAt, keptMove}
+use Rattle.alignment.specs.Moves.{moveBytes, moveAt}
 
 -- ---- a state by value
 
@@ -36,18 +29,6 @@ vertex-read at w x y a b = λ i. record { first = a i; second = b i }
 pub row-written : (v : Vertex) (r1 r2 : List ℕ) → r1 ≡ splice 0 (toLe 2 (v .first)) (replicate 4 0) → r2 ≡ splice 2 (toLe 2 (v .second)) r1 → r2 ≡ vertexBytes v
 unfolding vertexBytes splice
 row-written v r1 r2 a b = b ∙ ap (splice 2 (toLe 2 (v .second))) a
-
--- so there is room for it
-pub enter-fits : (v : Vertex) (r1 r2 : List ℕ) (size reached room : ℕ) → r1 ≡ splice 0 (toLe 2 (v .first)) (replicate 4 0) → r2 ≡ splice 2 (toLe 2 (v .second)) r1
-    → 4 * room ≤ size → reached ≤ room → (0 + room * length r2 ≤ size) × (reached ≤ room)
-enter-fits v r1 r2 size reached room a b h k =
-    let l : length r2 ≡ 4 = ap length (row-written v r1 r2 a b) ∙ length-vertex v in
-    (rw l (omega arith), k)
-
--- and what is entered is the row
-pub entered-row : (v : Vertex) (r1 r2 w u : List ℕ) (reached room : ℕ) (r : Entered) → r1 ≡ splice 0 (toLe 2 (v .first)) (replicate 4 0) → r2 ≡ splice 2 (toLe 2 (v .second)) r1
-    → entry r u ≡ enterOf 0 reached room r2 w → entry r u ≡ enterOf 0 reached room (vertexBytes v) w
-entered-row v r1 r2 w u reached room r a b t = t ∙ ap (λ (z : List ℕ). enterOf 0 reached room z w) (row-written v r1 r2 a b)
 
 -- ---- a move
 
@@ -90,7 +71,7 @@ move-back at m w f h =
     let d = toLe 2 (m .to .0) in
     let r = moveBytes m in
     let l : length r ≡ 8 = length-move m in
-    let p : part at 2 (splice at r w) ≡ a = part-at-zero at 2 r w (omega arith) (omega arith) ∙ part-front 2 a (b ++ (c ++ d)) refl in
+    let p : part at 2 (splice at r w) ≡ a = part-start at 2 r w (omega arith) (omega arith) ∙ part-front 2 a (b ++ (c ++ d)) refl in
     let q : part (at + 2) 2 (splice at r w) ≡ b = part-splice-in 2 2 at r w (omega arith) (omega arith) ∙ part-middle 2 2 a b (c ++ d) refl refl in
     let s : part (at + 4) 2 (splice at r w) ≡ c = part-splice-in 4 2 at r w (omega arith) (omega arith) ∙ part-middle 4 2 (a ++ b) c d refl refl in
     let t : part (at + 6) 2 (splice at r w) ≡ d = part-splice-in 6 2 at r w (omega arith) (omega arith) ∙ part-end 6 2 ((a ++ b) ++ c) d refl refl in
@@ -100,37 +81,12 @@ move-back at m w f h =
       second = (ap le s ∙ le-toLe 2 (m .second) (f .second)) i;
       to = record { 0 = (ap le t ∙ le-toLe 2 (m .to .0) (f .to)) i };
     }
-  where
-    part-at-zero : (at n : ℕ) (r w : List ℕ) → n ≤ length r → at + length r ≤ length w → part at n (splice at r w) ≡ part 0 n r
-    part-at-zero at n r w h k = let z : at + 0 ≡ at = omega arith in ap (λ (m : ℕ). part m n (splice at r w)) (sym z) ∙ part-splice-in 0 n at r w (omega arith) k
 
 -- a record in bytes that were kept
-pub move-kept : (at : ℕ) (w v : List ℕ) → ((a n : ℕ) → at ≤ a → a + n ≤ at + 8 → part a n v ≡ part a n w) → moveAt at v ≡ moveAt at w
+pub move-kept : (at : ℕ) (w v : List ℕ) → ((a n : ℕ) → at ≤ a → a + n ≤ at + 16 → part a n v ≡ part a n w) → moveAt at v ≡ moveAt at w
 move-kept at w v k = λ i. record {
   from = record { 0 = le (k at 2 (omega arith) (omega arith) i) };
   first = le (k (at + 2) 2 (omega arith) (omega arith) i);
   second = le (k (at + 4) 2 (omega arith) (omega arith) i);
   to = record { 0 = le (k (at + 6) 2 (omega arith) (omega arith) i) };
 }
-
--- a move that there is room for, and one that there is none for
-pub move-put : (at room number : ℕ) (m : Move) (w v : List ℕ) → number < room → v ≡ splice (at + 16 * number) (moveBytes m) w → v ≡ keptMove at room number m w
-unfolding keptMove
-move-put at room number m w v h k = rw (lt-ltb number room h) k
-
-pub move-left : (at room number : ℕ) (m : Move) (w : List ℕ) → room ≤ number → w ≡ keptMove at room number m w
-unfolding keptMove
-move-left at room number m w h = rw (le-ltb number room h)
-
--- by whether there is room
-module _ (at room number : ℕ) (m : Move) (w v : List ℕ) (k : v ≡ keptMove at room number m w) where
-  pub kept-cases : (P : List ℕ → Type 0) → (number < room → P (splice (at + 16 * number) (moveBytes m) w)) → (room ≤ number → P w) → P v
-  unfolding keptMove
-  kept-cases P f g = go (ltb number room) refl
-    where
-      go : (b : Bool) → ltb number room ≡ b → P v
-      go true t = subst P (sym (k ∙ ap (λ (b : Bool). if b (splice (at + 16 * number) (moveBytes m) w) w) t)) (f (TestFacts.ltb-true t))
-      go false t = subst P (sym (k ∙ ap (λ (b : Bool). if b (splice (at + 16 * number) (moveBytes m) w) w) t)) (g (TestFacts.ltb-false t))
-
-  pub kept-length : at + 16 * room ≤ length w → length v ≡ length w
-  kept-length h = kept-cases (λ u. length u ≡ length w) (λ l. length-splice (at + 16 * number) (moveBytes m) w (omega (arith, length-move m))) (λ l. refl)

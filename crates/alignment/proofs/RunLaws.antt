@@ -1,26 +1,26 @@
 -- All states of the product that are reached, taken up one after the other.
-use Prim.Native.Nat.{ℕ, suc, _+_, _-_, _*_, _≤_, _<_}
-use mathlib.Core.Path.{_≡_, refl, sym, ap, _∙_, subst}
+use Prim.Native.Nat.{ℕ, suc, _-_, _*_, _≤_, _<_}
+use mathlib.Core.Path.{_≡_, refl, sym, _∙_, subst}
 use mathlib.Core.Bool.{true, false}
 use mathlib.Core.List.{List}
 use native.Mathlib.Omega.{arith}
 use lib.ListN.{length}
 use Rattle.automata.specs.OrderedSum.{ℕ-sum}
-use Rattle.automata.specs.Automaton.{Automaton, Content}
-use Rattle.automata.specs.Explore.{Edge, edges, reached}
+use Rattle.automata.specs.Automaton.{Automaton}
+use Rattle.automata.specs.Explore.{reached}
 use Rattle.automata.specs.Search.{searchFrom, searched}
 use Rattle.automata.specs.Product as automata
 use Rattle.automata.specs.Product.{sameVertex, productSystem}
 use Rattle.automata.proofs.ListFacts
 use Rattle.automata.proofs.TestFacts
 use Rattle.automata.proofs.ProductStates.{vertices-decided}
-use Rattle.automata.proofs.SearchFacts.{searched-some, searched-reached, found-over}
-use Rattle.automata.proofs.SearchedEdges.{searched-edges}
+use Rattle.automata.proofs.SearchFacts.{searched-some, found-over}
 use Rattle.automata.specs.Memory.{Memory, Sound, tableOf}
 use Rattle.automata.proofs.SoundFacts.{sound-holds}
 use Rattle.memory.specs.declared.answer.Counts.{Counts}
 use Rattle.memory.specs.Answers.{lent}
 use Rattle.memory.proofs.SoundLaws
+use Rattle.rows.proofs.SearchLaws.{searched-begun, searched-whole}
 use Rattle.alignment.specs.declared.plan.Plan.{Plan}
 use Rattle.alignment.specs.declared.head.Head.{Head}
 use Rattle.alignment.specs.Plans.{firstIn, secondIn, Explorable}
@@ -40,13 +40,8 @@ module _ (p : Plan) (A B : Automaton ℕ) where
   -- where all are taken up, what is held are the reached states and the moves between them
   pub all-taken : (k : ℕ) (h : Head) (w : List ℕ) → h .full ≡ false → length (searchAt k .vertices) ≤ k → Holds p A B h (searchAt k) w → ComesToReached p A B h w
   all-taken k h w n b o =
-      let cs : List automata.Vertex = searchAt k .vertices in
-      let e : reached sameVertex outOf (p .states) (startsOf A B) ≡ cs = searched-reached sameVertex vertices-decided outOf (startsOf A B) (p .states) k (o .fits) b in
-      let f : searchAt k .edges ≡ edges sameVertex outOf cs = sym (searched-edges sameVertex vertices-decided outOf (startsOf A B) k b) in
-      let o1 : Holds p A B h (record { vertices = cs; edges = searchAt k .edges }) w = o in
-      let o2 = subst (λ (es : List (Edge (Content ℕ))). Holds p A B h (record { vertices = cs; edges = es }) w) f o1 in
-      let o3 = subst (λ (ds : List automata.Vertex). Holds p A B h (record { vertices = ds; edges = edges sameVertex outOf ds }) w) (sym e) o2 in
-      record { held = λ z. o3; over = λ z. TestFacts.false-not-true n z }
+      let e = searched-whole sameVertex vertices-decided outOf (startsOf A B) (p .states) k (o .fits) b in
+      record { held = λ z. subst (λ (s : VertexSearch). Holds p A B h s w) e o; over = λ z. TestFacts.false-not-true n z }
 
   -- where there are too many at any time, too many are reached
   pub too-many : (k : ℕ) (h : Head) (w : List ℕ) → h .full ≡ true → p .states < length (searchAt k .vertices) → ComesToReached p A B h w
@@ -54,11 +49,6 @@ module _ (p : Plan) (A B : Automaton ℕ) where
     held = λ n. TestFacts.false-not-true n f;
     over = λ n. found-over sameVertex vertices-decided outOf (startsOf A B) (p .states) k m;
   }
-
-  -- before one is taken up
-  pub begun-is : searchFrom sameVertex (startsOf A B) ≡ searchAt 0
-  unfolding searched
-  begun-is = refl
 
 -- ---- a run
 
@@ -75,7 +65,7 @@ module _ (p : Plan) (h : Head) (s1 a1 s2 a2 : List ℕ) (v : List ℕ) (q : Runn
   pub run-none : h .full ≡ true → Runs p h s1 a1 s2 a2 v h v
   run-none f = record {
     same-length = refl;
-    meaning = λ A B k c. too-many p A B 0 h v f (subst (λ (s : VertexSearch). p .states < length (s .vertices)) (begun-is p A B) (c .over f));
+    meaning = λ A B k c. too-many p A B 0 h v f (subst (λ (s : VertexSearch). p .states < length (s .vertices)) (searched-begun sameVertex (outOf p A B) (startsOf A B)) (c .over f));
   }
 
   pub run-start : h .full ≡ false → Running p h s1 a1 s2 a2 v h v
@@ -85,7 +75,7 @@ module _ (p : Plan) (h : Head) (s1 a1 s2 a2 : List ℕ) (v : List ℕ) (q : Runn
     few = omega (arith, q .arcs-none);
     same-length = refl;
     meaning = λ A B k c.
-        let o = subst (λ (s : VertexSearch). Holds p A B h s v) (begun-is p A B) (c .held f) in
+        let o = subst (λ (s : VertexSearch). Holds p A B h s v) (searched-begun sameVertex (outOf p A B) (startsOf A B)) (c .held f) in
         subst (λ (i : ℕ). Holds p A B h (searchAt p A B i) v) (sym (q .taken)) o;
   }
 

@@ -17,7 +17,7 @@ use Rattle.alignment.specs.declared.plan.Plan.{Plan}
 use Rattle.alignment.specs.declared.head.Head.{Head}
 use Rattle.alignment.specs.Vertices.{placeNumber}
 use Rattle.alignment.specs.Reading.{ArcsLent}
-use Rattle.alignment.specs.Searching.{Step, Notes, Ready, Grows, Arrives, outBy, onSecond, BySecond, TriesSecond, PassesSecond}
+use Rattle.alignment.specs.Searching.{Notes, Ready, Grows, Arrives, outBy, onSecond, BySecond, TriesSecond, PassesSecond}
 use Rattle.alignment.proofs.NoteLaws.{grows-none, grows-then, grows-wider, ready-on, notes-none, notes-same}
 use Rattle.alignment.proofs.ReadLaws.{source-at, target-at, out-one, out-away, out-all, turn-start, turn-more, turn-full, turn-all}
 

@@ -5,16 +5,15 @@ use mathlib.Core.Bool.{true, false}
 use mathlib.Core.Option.{Option, none, some}
 use mathlib.Core.List.{List, [], _∷_, _++_, map, append-assoc, append-nil}
 use native.Mathlib.Omega.{arith}
-use lib.ListN.{length, getD, getElem?, take, drop, length-append, take-append-drop}
+use lib.ListN.{length, getD, getElem?, take, drop, take-append-drop}
 use lib.Seq.{take-all, length-take-le}
 use Rattle.automata.specs.Automaton.{Automaton, State}
-use Rattle.automata.specs.Explore.{insertAll}
 use Rattle.automata.specs.Product as automata
 use Rattle.automata.specs.Product.{sameVertex, initialsFrom, allPairs}
 use Rattle.automata.proofs.TestFacts
 use Rattle.automata.proofs.ListFacts
 use Rattle.automata.proofs.AppendFacts
-use Rattle.automata.proofs.SearchFacts.{insertAll-append, insertAll-begins}
+use Rattle.automata.proofs.SearchFacts.{insertAll-append}
 use Rattle.memory.specs.Records.{stateAs, stateAt}
 use Rattle.memory.specs.declared.record.ResultState.{ResultState}
 use Rattle.rows.specs.declared.Entered.{Entered}
@@ -25,10 +24,11 @@ use Rattle.alignment.specs.declared.plan.Plan.{Plan}
 use Rattle.alignment.specs.declared.head.Head.{Head}
 use Rattle.alignment.specs.Vertices.{vertexBytes}
 use Rattle.alignment.specs.Reading.{StatesLent, ReadsStates}
-use Rattle.alignment.specs.Searching.{VertexSearch, Comes}
-use Rattle.alignment.specs.Starting.{withVertices, Enters, Open, Widens, Admits, StartsOne, StartsAll, StartsBoth}
+use Rattle.alignment.specs.Searching.{Comes}
+use Rattle.alignment.specs.Starting.{withVertices, Enters, Open, Widens, Admits, StartsOne, StartsAll}
 use Rattle.alignment.proofs.RecordLaws.{length-vertex}
-use Rattle.alignment.proofs.EntryLaws.{entered-length, entered-room}
+use Rattle.rows.proofs.EntryLaws.{entered-length, entered-room}
+use Rattle.rows.proofs.SearchLaws.{inserted-longer}
 use Rattle.alignment.proofs.HeldLaws.{was-at, was-new, was-full, inserted-held}
 use Rattle.alignment.proofs.ArriveLaws.{withReached}
 use Rattle.alignment.proofs.ReadLaws.{initial-absent, initial-present}
@@ -55,11 +55,7 @@ module _ (p : Plan) (A B : Automaton ℕ) where
   pub enters-full : (cs ds : List automata.Vertex) (h r : Head) (v w : List ℕ) → r .full ≡ true → Enters p A B cs h v r w → Enters p A B (cs ++ ds) h v r w
   enters-full cs ds h r v w f a s m = record {
     held = λ n. TestFacts.false-not-true n f;
-    over = λ n.
-        let o = a s m .over f in
-        let l = AppendFacts.begins-length (insertAll-begins sameVertex (insertAll sameVertex (s .vertices) cs) ds) in
-        let q = ap length (insertAll-append sameVertex (s .vertices) cs ds) in
-        omega (arith, o, l, q);
+    over = λ n. omega (arith, a s m .over f, inserted-longer sameVertex (s .vertices) cs ds (cs ++ ds) refl);
   }
 
   pub enters-same : (cs ds : List automata.Vertex) (h r : Head) (v w : List ℕ) → cs ≡ ds → Enters p A B cs h v r w → Enters p A B ds h v r w

@@ -1,6 +1,6 @@
 -- One state of the product: all moves out of it.
 use Prim.Native.Nat.{ℕ, _+_, _-_, _*_, _≤_, _<_}
-use mathlib.Core.Path.{_≡_, sym, ap, _∙_}
+use mathlib.Core.Path.{_≡_, _∙_}
 use mathlib.Core.Bool.{true, false}
 use mathlib.Core.Option.{some}
 use mathlib.Core.List.{List, _++_}
@@ -13,6 +13,7 @@ use Rattle.automata.specs.Search.{noteAll}
 use Rattle.automata.specs.Product as automata
 use Rattle.automata.specs.Product.{sameVertex, allBoth, allAfterFirst, allAfterSecond, productSystem}
 use Rattle.automata.proofs.TestFacts
+use Rattle.automata.proofs.WellFormedFacts.{all-place}
 use Rattle.alignment.specs.declared.vertex.Vertex.{Vertex}
 use Rattle.alignment.specs.declared.plan.Plan.{Plan}
 use Rattle.alignment.specs.declared.head.Head.{Head}
@@ -20,7 +21,7 @@ use Rattle.alignment.specs.Vertices.{vertexAt, vertexOf, VertexBelow}
 use Rattle.alignment.specs.Reading.{StatesLent, ArcsLent}
 use Rattle.alignment.specs.Searching.{VertexSearch, Step, Comes, Ready, Grows, PassesBoth, EndsFirst, EndsSecond, Tables, Reads, TakesUp}
 use Rattle.alignment.proofs.NoteLaws.{grows-then, ready-less, ready-on, notes-then}
-use Rattle.alignment.proofs.FormLaws.{all-place, loaded}
+use Rattle.alignment.proofs.FormLaws.{loaded}
 
 module _ (p : Plan) (h : Head) (s1 a1 s2 a2 : List ℕ) (v : List ℕ) (q : Ready p h 67125248 (length v)) (opened : h .full ≡ false) (tables : Tables p s1 a1 s2 a2) where
   -- the row of the state is within the work space
@@ -55,7 +56,7 @@ module _ (p : Plan) (h : Head) (s1 a1 s2 a2 : List ℕ) (v : List ℕ) (q : Read
             let ps : List Step = allBoth ℕ-sum xs ys in
             let fs : List Step = allAfterFirst ℕ-sum (A .tapes) (finalAt ℕ-sum (system A) (b .0)) ys in
             let ss : List Step = allAfterSecond ℕ-sum (B .tapes) (finalAt ℕ-sum (system B) (b .1)) xs in
-            let below : VertexBelow (length (A .states)) (length (B .states)) b = all-place (VertexBelow (length (A .states)) (length (B .states))) (s .vertices) (h .taken) (o .below) e in
+            let below : VertexBelow (length (A .states)) (length (B .states)) b = all-place (VertexBelow (length (A .states)) (length (B .states))) (s .vertices) (o .below) (h .taken) b e in
             let is : c ≡ vertexOf b =
             c-is ∙ loaded (length (A .states)) (length (B .states)) (s .vertices) v (h .taken) b (k .first-states .few) (k .second-states .few) (o .below) (o .vertices) e in
             notes-then p A B b ps (fs ++ ss) h h1 h3 v w1 w3 (z1 .grows .taken) (z1 .meaning A B b (k .first-arcs) (k .second-arcs) is)

@@ -1,19 +1,17 @@
 -- Moves between states of a product as records of 8 bytes, each at the front of 16: the number of the state left, of the first side's arc, of the
 -- second side's arc, of the state reached, 2 bytes each.
 use mathlib.Core.Path.{_≡_}
-use mathlib.Core.Option.{Option, none, some}
+use mathlib.Core.Option.{some}
 use mathlib.Core.List.{List, _++_}
 use Prim.Native.Nat.{ℕ, _+_, _*_, _<_}
-use lib.Dec.{ltb}
-use lib.ListN.{length, getElem?}
-use Rattle.automata.specs.Lists.{if}
+use lib.ListN.{getElem?}
 use Rattle.automata.specs.OrderedSum.{ℕ-sum}
 use Rattle.automata.specs.Automaton.{Automaton, Arc, Content, content}
 use Rattle.automata.specs.System.{system, finalAt}
 use Rattle.automata.specs.Explore.{Edge}
 use Rattle.automata.specs.Product as automata
 use Rattle.automata.specs.Product.{bothContent, afterFirstContent, afterSecondContent}
-use Rattle.memory.specs.Region.{part, splice}
+use Rattle.memory.specs.Region.{part}
 use Rattle.memory.specs.Endian.{le, toLe}
 use Rattle.alignment.specs.declared.vertex.Move.{Move}
 
@@ -50,7 +48,3 @@ pub record RecordOf (A B : Automaton ℕ) (cs : List automata.Vertex) (x : Edge 
 -- the edges es between the states cs stand in w from place at on, as far as there is room
 unfoldable pub HoldsMoves : Automaton ℕ → Automaton ℕ → List automata.Vertex → ℕ → ℕ → List (Edge (Content ℕ)) → List ℕ → Type 0
 HoldsMoves A B cs at room es w = (j : ℕ) (x : Edge (Content ℕ)) → j < room → getElem? es j ≡ some x → RecordOf A B cs x (moveAt (at + 16 * j) w)
-
--- the work space with the record of one move more, where there is room for it
-unfoldable pub keptMove : ℕ → ℕ → ℕ → Move → List ℕ → List ℕ
-keptMove at room number m w = if (ltb number room) (splice (at + 16 * number) (moveBytes m) w) w

@@ -3,7 +3,8 @@ ghost use mathlib.Core.Path.{_≡_};
 ghost use mathlib.Core.Bool.{false};
 ghost use Prim.Native.Nat.{_+_, _*_, _≤_, _<_};
 ghost use lib.ListN.{length};
-ghost use Rattle.alignment.specs.Moves.{keptMove};
+ghost use Rattle.rows.specs.Kept.{keptRecord};
+ghost use Rattle.alignment.specs.Moves.{moveBytes};
 ghost use Rattle.alignment.specs.Reading.{StatesLent, ArcsLent};
 ghost use Rattle.alignment.specs.Searching.{counted, Ready, Arrives, TriesSecond, PassesSecond, TriesFirst, PassesFirst, TriesBoth, PassesBoth, TellsEnd, EndsFirst, EndsSecond, Tables, TakesUp};
 use crate::plan::Plan;
@@ -45,7 +46,7 @@ impl Head {
     // A move from the state that is taken up.
     fn note(mut self, plan: Plan, work: &mut [u8], i: u16, j: u16, to: ResultState) -> Head
         requires { ⌜ (plan .base + 16 * plan .arcs ≤ length (now work)) × (self .taken < 1024) × (self .arcs < 1000000000000) ⌝ }
-        ensures { λ r. ⌜ (r ≡ counted self) × (now (work .exit) ≡ keptMove (plan .base) (plan .arcs) (self .arcs) (record { from = record { 0 = self .taken }; first = i; second = j; to = to }) (now (work .entry))) ⌝ }
+        ensures { λ r. ⌜ (r ≡ counted self) × (now (work .exit) ≡ keptRecord (plan .base) (plan .arcs) (self .arcs) (moveBytes (record { from = record { 0 = self .taken }; first = i; second = j; to = to })) (now (work .entry))) ⌝ }
     {
         let m = Move {
             from: ResultState(self.taken as u16),

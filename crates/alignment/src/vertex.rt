@@ -4,13 +4,15 @@ use memory::bytes::put16;
 use memory::record::ResultState;
 use rows::Entered;
 use rows::enter;
+use rows::keep;
 ghost use mathlib.Core.Path.{_≡_};
 ghost use Prim.Native.Nat.{_+_, _*_, _≤_};
 ghost use lib.ListN.{length};
 ghost use Rattle.memory.specs.Region.{splice};
 ghost use Rattle.rows.specs.Find.{entry, enterOf};
+ghost use Rattle.rows.specs.Kept.{keptRecord};
 ghost use Rattle.alignment.specs.Vertices.{vertexBytes, vertexAt};
-ghost use Rattle.alignment.specs.Moves.{moveBytes, moveAt, keptMove};
+ghost use Rattle.alignment.specs.Moves.{moveBytes, moveAt};
 
 // A state of the product: the number of an input state on each side, 65535 where that side's path has ended.
 pub struct Vertex {
@@ -78,10 +80,9 @@ pub fn load_move(work: &[u8], at: usize) -> Move
 // The record of the move with this number, written where there is room for it.
 pub fn keep_move(work: &mut [u8], base: usize, room: usize, number: usize, m: Move)
     requires { ⌜ base + 16 * room ≤ length (now work) ⌝ }
-    ensures { λ _. ⌜ now (work .exit) ≡ keptMove base room number m (now (work .entry)) ⌝ }
+    ensures { λ _. ⌜ now (work .exit) ≡ keptRecord base room number (moveBytes m) (now (work .entry)) ⌝ }
 {
-    if room <= number {
-        return;
-    }
-    store_move(work, base + 16 * number, m);
+    let mut record = [0u8; 8];
+    store_move(&mut record, 0, m);
+    keep(work, base, room, number, &record);
 }

@@ -36,7 +36,8 @@ use Rattle.memory.specs.declared.answer.Judged.the-variants.{Fine, Refused}
 use Rattle.memory.proofs.AnswerLaws.{forget-ok}
 use Rattle.memory.proofs.TableLaws.{judged-sound}
 use Rattle.columns.specs.Choice.{tapesLeft, Droppable}
-use Rattle.columns.specs.Results.{lentSpace, fitting, Copied}
+use Rattle.workspace.specs.Room.{lentSpace}
+use Rattle.columns.specs.Results.{fitting, Copied}
 use Rattle.columns.proofs.ChoiceLaws.{left-few}
 use Rattle.columns.proofs.ColumnLaws.{length-projected}
 use Rattle.columns.proofs.DropLaws.{left-named, without-chosen}

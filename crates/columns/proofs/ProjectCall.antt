@@ -9,7 +9,7 @@ use lib.Dec.{T, leb, leb→le, ltb}
 use lib.ListN.{length, take, length-map}
 use lib.Seq.{take-all}
 use Rattle.automata.specs.Refusal as refusal
-use Rattle.automata.specs.Lists.{and, all}
+use Rattle.automata.specs.Lists.{all}
 use Rattle.automata.specs.Answer.{_>>=_, Answer, ok, refused, forget}
 use Rattle.automata.specs.Space.{Space}
 use Rattle.automata.specs.Automaton.{Automaton}
@@ -35,19 +35,12 @@ use Rattle.memory.proofs.TableLaws.{judged-sound}
 use Rattle.memory.proofs.SoundLaws.{few-tapes}
 use Rattle.columns.specs.Choice.{Choice}
 use Rattle.columns.specs.Rewritten.{rewritten, chosenArc}
-use Rattle.columns.specs.Results.{lentSpace, fitting, Copied, Choosable}
+use Rattle.workspace.specs.Room.{lentSpace}
+use Rattle.columns.specs.Results.{fitting, Copied, Choosable}
 use Rattle.columns.proofs.ColumnLaws.{Named, length-projected, chosen-in-place}
 use Rattle.columns.proofs.RoomLaws.{forget-refused, next-refused, fitted-counts, copied-holds, copied-put}
 
 -- ---- the choice
-
--- a byte that is no tape's number
-pub tape-low : (tape count : ℕ) → tape < 1 → false ≡ isTape count tape
-tape-low tape count h = rw (lt-leb 1 tape h)
-
--- one that may be
-pub tape-high : (tape count : ℕ) → 1 ≤ tape → leb tape count ≡ isTape count tape
-tape-high tape count h = rw (le-leb 1 tape h)
 
 -- no tape at all, and some
 pub choice-empty : (js : List ℕ) (n : ℕ) → length js < 1 → false ≡ choosable js n

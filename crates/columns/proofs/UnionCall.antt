@@ -35,7 +35,8 @@ use Rattle.memory.proofs.AnswerLaws.{forget-ok}
 use Rattle.memory.proofs.TableLaws.{judged-sound}
 use Rattle.memory.proofs.SoundLaws.{few-states, few-arcs, states-lent, arcs-lent}
 use Rattle.columns.specs.Rewritten.{rewritten, raisedArc}
-use Rattle.columns.specs.Results.{lentSpace, fitting, Copies, Copied, Raisable, AllRaisable, Appends}
+use Rattle.workspace.specs.Room.{lentSpace}
+use Rattle.columns.specs.Results.{fitting, Copies, Copied, Raisable, AllRaisable, Appends}
 use Rattle.columns.proofs.ColumnLaws.{arcs-cut}
 use Rattle.columns.proofs.RoomLaws.{forget-refused, next-refused, fitted-counts, states-copied, arcs-copied, states-length, arcs-length}
 use Rattle.columns.proofs.RaiseLaws.{arcs-shifted, arcs-raisable, length-raisedArc}

@@ -15,10 +15,6 @@ use Rattle.automata.specs.Projection.{choosable}
 use Rattle.memory.specs.Region.{part, splice}
 use Rattle.memory.specs.Endian.{le}
 
--- the space lent, in states and arcs
-abbrev pub lentSpace : ℕ → ℕ → Space
-lentSpace states arcs = record { states = states; arcs = arcs }
-
 -- so many states and arcs must fit the space lent (8, 9)
 unfoldable pub fitting : ℕ → ℕ → Space → Answer (Unit {0})
 fitting states arcs space = judge (leb states (stateCap space)) refusal.statesFull (judge (leb arcs (arcCap space)) refusal.arcsFull (ok tt))

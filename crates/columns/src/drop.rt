@@ -19,7 +19,7 @@ ghost use Rattle.automata.specs.Calls.JoinSteps.{dropStep};
 ghost use Rattle.automata.specs.Calls.Outcome.{put, madeOf, slicesOf};
 ghost use Rattle.memory.specs.Answers.{lent, countsAs, judgedAs, tableAs};
 ghost use Rattle.columns.specs.Choice.{Droppable};
-ghost use Rattle.columns.specs.Results.{lentSpace};
+ghost use Rattle.workspace.specs.Room.{lentSpace};
 
 // The table in `states` and `arcs` without the tapes that the mask marks, where it stands: a step of a join.
 pub fn drop_in_place(counts: Counts, mask: u8, states: &[u8], arcs: &mut [u8]) -> Counts

@@ -7,6 +7,7 @@ use memory::answer::Judged;
 use memory::answer::Refusal;
 use memory::answer::TableAnswer;
 use memory::judge::judge;
+use pairs::is_tape;
 ghost use mathlib.Core.Path.{_≡_};
 ghost use Prim.Native.Nat.{_*_, _≤_};
 ghost use lib.ListN.{length};
@@ -17,24 +18,15 @@ ghost use Rattle.automata.specs.Projection.{isTape, choosable, projected};
 ghost use Rattle.automata.specs.Calls.Project.{projectAnswer, projectOutcome};
 ghost use Rattle.automata.specs.Calls.Outcome.{put, madeOf, slicesOf};
 ghost use Rattle.memory.specs.Answers.{lent, countsAs, judgedAs, tableAs};
-ghost use Rattle.columns.specs.Results.{lentSpace, Choosable};
+ghost use Rattle.workspace.specs.Room.{lentSpace};
+ghost use Rattle.columns.specs.Results.{Choosable};
 
-// Whether a byte is one of so many tapes, counted from 1.
-fn is_tape(tape: u8, count: usize) -> bool
-    ensures { λ r. ⌜ r ≡ isTape count tape ⌝ }
-{
-    if tape < 1 {
-        return false;
-    }
-    (tape as usize) <= count
-}
-
-// Whether each byte is.
+// Whether each byte is one of so many tapes, counted from 1.
 fn all_tapes(tapes: &[u8], count: usize) -> bool
     ensures { λ r. ⌜ r ≡ all (isTape count) (now (tapes .entry)) ⌝ }
 {
     for i in 0..tapes.len() {
-        if !is_tape(tapes[i], count) {
+        if !is_tape(count, tapes[i]) {
             return false;
         }
     }

@@ -6,7 +6,8 @@ use memory::bytes::copy_into;
 ghost use mathlib.Core.Path.{_≡_};
 ghost use lib.ListN.{length};
 ghost use Rattle.memory.specs.Answers.{lent, judgedAs};
-ghost use Rattle.columns.specs.Results.{lentSpace, fitting, Copies, Copied};
+ghost use Rattle.workspace.specs.Room.{lentSpace};
+ghost use Rattle.columns.specs.Results.{fitting, Copies, Copied};
 
 // Whether so many states and arcs fit the space lent and the greatest table.
 pub fn fits(states: usize, arcs: usize, lent_states: usize, lent_arcs: usize) -> Judged

@@ -15,7 +15,8 @@ ghost use Rattle.automata.specs.Union.{appended};
 ghost use Rattle.automata.specs.Calls.Union.{unionAnswer, unionOutcome};
 ghost use Rattle.automata.specs.Calls.Outcome.{put, madeOf, slicesOf};
 ghost use Rattle.memory.specs.Answers.{lent, countsAs, judgedAs, tableAs};
-ghost use Rattle.columns.specs.Results.{lentSpace, Appends};
+ghost use Rattle.workspace.specs.Room.{lentSpace};
+ghost use Rattle.columns.specs.Results.{Appends};
 
 // The first refusal of the call: the first table, the second, their tape counts, the space lent to the result.
 fn judge_union(

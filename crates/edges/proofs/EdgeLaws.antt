@@ -1,12 +1,11 @@
 -- Edges in work space: what is stored is read back, and what is held stays.
 use Prim.Native.Nat.{ℕ, zero, suc, _+_, _-_, _*_, _<_, _≤_}
-use mathlib.Core.Path.{_≡_, refl, sym, ap, ap₂, _∙_}
-use mathlib.Core.Logic.{_⊎_, inl, inr}
-use mathlib.Core.Bool.{Bool, true, false}
-use mathlib.Core.Option.{some, Option·some-injective}
+use mathlib.Core.Path.{_≡_, refl, sym, ap, ap₂, _∙_, subst}
+use mathlib.Core.Bool.{Bool, false}
+use mathlib.Core.Option.{some}
 use mathlib.Core.List.{List, [], _∷_, _++_, map}
 use native.Mathlib.Omega.{arith}
-use lib.ListN.{length, getElem?, length-append}
+use lib.ListN.{length, getElem?}
 use Rattle.automata.specs.Automaton.{Arc}
 use Rattle.automata.specs.Explore.{Edge, edgeGraph}
 use Rattle.automata.specs.Rounds.{visit, sweep, round}
@@ -14,8 +13,9 @@ use Rattle.automata.specs.Marks.{mark, marked, coaccessible}
 use Rattle.automata.proofs.ListFacts
 use Rattle.memory.specs.Region.{part, splice}
 use Rattle.memory.specs.Endian.{le, toLe}
-use Rattle.memory.proofs.Laws.{splice-behind, part-splice-in, part-splice-before, part-splice-after, part-front, part-middle, part-end}
-use Rattle.memory.proofs.EndianLaws.{length-toLe, le-toLe}
+use Rattle.memory.proofs.Laws.{splice-behind, part-splice-in, part-front, part-middle, part-end}
+use Rattle.memory.proofs.EndianLaws.{le-toLe}
+use Rattle.rows.proofs.KeptLaws.{part-start, Keeps, stand-none, stand-kept, stand-more, stand-beyond}
 use Rattle.edges.specs.declared.edge.EdgeRecord.{EdgeRecord}
 use Rattle.edges.specs.Edges.{edgeBytes, edgeAt, edgesAt, recordGraph, Joined, recordOf, HoldsEdges}
 
@@ -54,7 +54,7 @@ edge-back at e w f h =
     let c = toLe 2 (e .to .0) in
     let r = edgeBytes e in
     let l : length r ≡ 6 = length-edge e in
-    let p : part at 2 (splice at r w) ≡ a = part-at-zero at 2 r w (omega arith) (omega arith) ∙ part-front 2 a (b ++ c) refl in
+    let p : part at 2 (splice at r w) ≡ a = part-start at 2 r w (omega arith) (omega arith) ∙ part-front 2 a (b ++ c) refl in
     let q : part (at + 2) 2 (splice at r w) ≡ b = part-splice-in 2 2 at r w (omega arith) (omega arith) ∙ part-middle 2 2 a b c refl refl in
     let s : part (at + 4) 2 (splice at r w) ≡ c = part-splice-in 4 2 at r w (omega arith) (omega arith) ∙ part-end 4 2 (a ++ b) c refl refl in
     λ i. record {
@@ -62,29 +62,33 @@ edge-back at e w f h =
       arc = (ap le q ∙ le-toLe 2 (e .arc) (f .arc)) i;
       to = record { 0 = (ap le s ∙ le-toLe 2 (e .to .0) (f .to)) i };
     }
-  where
-    part-at-zero : (at n : ℕ) (r w : List ℕ) → n ≤ length r → at + length r ≤ length w → part at n (splice at r w) ≡ part 0 n r
-    part-at-zero at n r w h k = let z : at + 0 ≡ at = omega arith in ap (λ (m : ℕ). part m n (splice at r w)) (sym z) ∙ part-splice-in 0 n at r w (omega arith) k
 
--- a record beside the region that was written
-pub edge-beside : (k at : ℕ) (ys w : List ℕ) → at + length ys ≤ length w → (k + 6 ≤ at) ⊎ (at + length ys ≤ k) → edgeAt k (splice at ys w) ≡ edgeAt k w
-edge-beside k at ys w h (inl l) = λ i. record {
-  from = record { 0 = le (part-splice-before k 2 at ys w (omega arith) (omega arith) i) };
-  arc = le (part-splice-before (k + 2) 2 at ys w (omega arith) (omega arith) i);
-  to = record { 0 = le (part-splice-before (k + 4) 2 at ys w (omega arith) (omega arith) i) };
-}
-edge-beside k at ys w h (inr l) = λ i. record {
-  from = record { 0 = le (part-splice-after k 2 at ys w (omega arith) (omega arith) i) };
-  arc = le (part-splice-after (k + 2) 2 at ys w (omega arith) (omega arith) i);
-  to = record { 0 = le (part-splice-after (k + 4) 2 at ys w (omega arith) (omega arith) i) };
+-- a record in bytes that were kept
+pub edge-kept : (at : ℕ) (w v : List ℕ) → ((a n : ℕ) → at ≤ a → a + n ≤ at + 16 → part a n v ≡ part a n w) → edgeAt at v ≡ edgeAt at w
+edge-kept at w v k = λ i. record {
+  from = record { 0 = le (k at 2 (omega arith) (omega arith) i) };
+  arc = le (k (at + 2) 2 (omega arith) (omega arith) i);
+  to = record { 0 = le (k (at + 4) 2 (omega arith) (omega arith) i) };
 }
 
 -- ---- a list of edges that is held
 
+-- the record of an edge stands at a place, and it is kept where its bytes are
+abbrev EdgeStands : Edge (ℕ × Arc ℕ) → ℕ → List ℕ → Type 0
+EdgeStands x a w = edgeAt a w ≡ recordOf x
+
+edge-stays : Keeps EdgeStands EdgeStands
+edge-stays x a w v k e = edge-kept a w v k ∙ e
+
 -- nothing is held of no edges
 pub holds-none : (at room : ℕ) (w : List ℕ) → HoldsEdges at room [] w
 unfolding HoldsEdges
-holds-none at room w j x l e = ListFacts.none-not-some refl e
+holds-none at room w = stand-none EdgeStands at room w
+
+-- edges in bytes that were kept
+pub holds-kept : (at room : ℕ) (es : List (Edge (ℕ × Arc ℕ))) (w v : List ℕ) → ((a n : ℕ) → at ≤ a → part a n v ≡ part a n w) → HoldsEdges at room es w → HoldsEdges at room es v
+unfolding HoldsEdges
+holds-kept at room es w v k h = stand-kept EdgeStands EdgeStands edge-stays at room es w v k h
 
 -- one of them
 pub held-at : (at room : ℕ) (es : List (Edge (ℕ × Arc ℕ))) (w : List ℕ) → HoldsEdges at room es w
@@ -92,48 +96,18 @@ pub held-at : (at room : ℕ) (es : List (Edge (ℕ × Arc ℕ))) (w : List ℕ)
 unfolding HoldsEdges
 held-at at room es w h = h
 
--- a place of a list with one element more: an old one, or the last
-snoc-place : {A : Type 0} (xs : List A) (y : A) (j : ℕ) (x : A) → getElem? (xs ++ (y ∷ [])) j ≡ some x
-    → (getElem? xs j ≡ some x) ⊎ ((j ≡ length xs) × (y ≡ x))
-snoc-place [] y zero x e = inr (refl, Option·some-injective y x e)
-snoc-place [] y (suc j) x e = ListFacts.none-not-some refl e
-snoc-place (z ∷ xs) y zero x e = inl e
-snoc-place (z ∷ xs) y (suc j) x e = elim (snoc-place xs y j x e) [ inl p ↦ inl p | inr p ↦ inr (ap suc (p .0), p .1) ]
-
 -- Writing the record of one edge more behind them.
 pub holds-more : (at room : ℕ) (es : List (Edge (ℕ × Arc ℕ))) (x : Edge (ℕ × Arc ℕ)) (w v : List ℕ) → Fits (recordOf x) → length es < room
     → at + 16 * room ≤ length w → v ≡ splice (at + 16 * length es) (edgeBytes (recordOf x)) w → HoldsEdges at room es w → HoldsEdges at room (es ++ (x ∷ [])) v
 unfolding HoldsEdges
-holds-more at room es x w v f l h e k j y jr g = go (snoc-place es x j y g)
-  where
-    place : ℕ
-    place = at + 16 * length es
-
-    n : length (edgeBytes (recordOf x)) ≡ 6
-    n = length-edge (recordOf x)
-
-    go : (getElem? es j ≡ some y) ⊎ ((j ≡ length es) × (x ≡ y)) → edgeAt (at + 16 * j) v ≡ recordOf y
-    go (inl p) =
-        let b : j < length es = ListFacts.place-bound es j p in
-        ap (edgeAt (at + 16 * j)) e ∙ edge-beside (at + 16 * j) place (edgeBytes (recordOf x)) w (omega (arith, n)) (inl (omega arith)) ∙ k j y jr p
-    go (inr p) =
-        ap₂ (λ (i : ℕ) (u : List ℕ). edgeAt (at + 16 * i) u) (p .0) e ∙ edge-back place (recordOf x) w f (omega arith) ∙ ap recordOf (p .1)
+holds-more at room es x w v f l h e k = subst (HoldsEdges at room (es ++ (x ∷ []))) (sym e)
+    (stand-more EdgeStands edge-stays at room es x (edgeBytes (recordOf x)) w (omega (arith, length-edge (recordOf x))) l h
+    (edge-back (at + 16 * length es) (recordOf x) w f (omega arith)) k)
 
 -- Edges past the room are not looked at.
 pub holds-beyond : (at room : ℕ) (es more : List (Edge (ℕ × Arc ℕ))) (w : List ℕ) → room ≤ length es → HoldsEdges at room es w → HoldsEdges at room (es ++ more) w
 unfolding HoldsEdges
-holds-beyond at room es more w l h j x jr e =
-    let p = ListFacts.place-exists es j (omega arith) in
-    h j x jr (p .1 ∙ sym (ListFacts.place-append es more j (p .1)) ∙ e)
-
--- A write outside of their places keeps them.
-pub holds-beside : (at room b : ℕ) (es : List (Edge (ℕ × Arc ℕ))) (ys w v : List ℕ) → b + length ys ≤ length w → (b + length ys ≤ at) ⊎ (at + 16 * room ≤ b)
-    → v ≡ splice b ys w → HoldsEdges at room es w → HoldsEdges at room es v
-unfolding HoldsEdges
-holds-beside at room b es ys w v l (inl s) e h j x jr g =
-    ap (edgeAt (at + 16 * j)) e ∙ edge-beside (at + 16 * j) b ys w l (inr (omega arith)) ∙ h j x jr g
-holds-beside at room b es ys w v l (inr s) e h j x jr g =
-    ap (edgeAt (at + 16 * j)) e ∙ edge-beside (at + 16 * j) b ys w l (inl (omega arith)) ∙ h j x jr g
+holds-beyond at room es more w l h = stand-beyond EdgeStands at room es more w l h
 
 -- the records are those of the edges
 records-from : (at : ℕ) (es : List (Edge (ℕ × Arc ℕ))) (w : List ℕ) → ((j : ℕ) (x : Edge (ℕ × Arc ℕ)) → getElem? es j ≡ some x → edgeAt (at + 16 * j) w ≡ recordOf x)

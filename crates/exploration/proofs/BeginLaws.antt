@@ -16,9 +16,10 @@ use Rattle.automata.specs.Intersect.{starts}
 use Rattle.automata.proofs.ListFacts
 use Rattle.automata.proofs.TestFacts
 use Rattle.automata.proofs.AppendFacts
-use Rattle.automata.proofs.SearchFacts.{insertAll-append, insertAll-begins}
+use Rattle.automata.proofs.SearchFacts.{insertAll-append}
 use Rattle.memory.specs.Region.{rows}
 use Rattle.delays.specs.ClosingRegion.{HoldsClosing}
+use Rattle.rows.proofs.SearchLaws.{inserted-longer}
 use Rattle.edges.proofs.EdgeLaws.{holds-none}
 use Rattle.exploration.specs.declared.plan.Plan.{Plan}
 use Rattle.exploration.specs.declared.head.Head.{Head}
@@ -118,11 +119,8 @@ module _ (p : Plan) (states : List ℕ) (v : List ℕ) (k : Beginnable p states 
             let whole : List automata.Config = mapMaybe st (numbered zero (A .states)) in
             let m = begin-comes arcs x c .over f in
             let y = AppendFacts.first-values-begin st (A .states) (q + 1) in
-            let e : insertAll sameConfig [] whole ≡ insertAll sameConfig (insertAll sameConfig [] (firsts p states arcs (q + 1))) (y .rest)
-            = ap (insertAll sameConfig []) (y .joined) ∙ insertAll-append sameConfig [] (firsts p states arcs (q + 1)) (y .rest) in
-            let i = AppendFacts.begins-length (insertAll-begins sameConfig (insertAll sameConfig [] (firsts p states arcs (q + 1))) (y .rest)) in
-            let l = ap length e in
-            subst (λ (s : ConfigSearch). p .room .states < length (s .vertices)) (all-starts p states arcs) (omega (arith, m, i, l));
+            let l = inserted-longer sameConfig [] (firsts p states arcs (q + 1)) (y .rest) whole (y .joined) in
+            subst (λ (s : ConfigSearch). p .room .states < length (s .vertices)) (all-starts p states arcs) (omega (arith, m, l));
       };
     }
 

@@ -4,14 +4,13 @@ use mathlib.Core.Path.{_≡_, sym, ap, _∙_, subst}
 use mathlib.Core.Bool.{Bool, true, false}
 use mathlib.Core.List.{List, [], _∷_, _++_, map}
 use native.Mathlib.Omega.{arith}
-use lib.Dec.{ltb, eqb}
+use lib.Dec.{ltb}
 use lib.ListN.{length, getD, take, replicate, length-append, length-map}
 use lib.Seq.{take-at, getD-take, length-take-le}
-use Rattle.automata.specs.Lists.{All, or, here, there, sameList}
+use Rattle.automata.specs.Lists.{All, or}
 use Rattle.automata.specs.TapePair.{Pair, limited}
 use Rattle.automata.specs.Config as automata
 use Rattle.automata.proofs.TestFacts
-use Rattle.automata.proofs.ListFacts.{numbers-decided, lists-decided}
 use Rattle.automata.proofs.Configurations.{configs-decided}
 use Rattle.configuration.specs.declared.leftover.Leftover.{Leftover}
 use Rattle.configuration.specs.declared.config.Config.{Config}
@@ -21,6 +20,7 @@ use Rattle.configuration.proofs.ListLaws.{All-take}
 use Rattle.configuration.proofs.TestLaws.{kept-length}
 use Rattle.configuration.proofs.RoundLaws.{all-leftovers, same-bytes, length-config}
 use Rattle.rows.specs.Inserted.{Tells}
+use Rattle.rows.proofs.CodeLaws.{codes-tell}
 use Rattle.exploration.specs.Held.{configOf, rowOf, Stored}
 
 -- ---- by value and back
@@ -64,19 +64,9 @@ row-injective used limit n c d s t e =
     let q : configBytes (configOf c) ≡ configBytes (configOf d) = sym a ∙ ap (take 298) e ∙ b in
     sym (s .meaning) ∙ ap (configAs used) (same-bytes used (configOf c) (configOf d) (s .form) (t .form) q) ∙ t .meaning
 
--- Rows tell configurations apart.
-pub same-rows : (used limit n : ℕ) (c d : automata.Config) → Stored used limit n c → Stored used limit n d → automata.sameConfig c d ≡ sameList (rowOf c) (rowOf d)
-same-rows used limit n c d s t =
-    let bytes = lists-decided eqb numbers-decided in
-    TestFacts.same-truth (automata.sameConfig c d) (sameList (rowOf c) (rowOf d))
-    (λ e. ap (λ (x : automata.Config). sameList (rowOf c) (rowOf x)) (sym (configs-decided .sound c d e)) ∙ bytes .complete (rowOf c))
-    (λ e. ap (automata.sameConfig c) (sym (row-injective used limit n c d s t (bytes .sound (rowOf c) (rowOf d) e))) ∙ configs-decided .complete c)
-
 -- so they tell one that may be stored from all that are
 pub rows-tell : (used limit n : ℕ) (c : automata.Config) (cs : List automata.Config) → Stored used limit n c → All (Stored used limit n) cs → Tells rowOf automata.sameConfig c cs
-rows-tell used limit n c [] s t u m = elim m [ ]
-rows-tell used limit n c (d ∷ cs) s t u (here e) = rw e (same-rows used limit n c d s (t .0))
-rows-tell used limit n c (d ∷ cs) s t u (there m) = rows-tell used limit n c cs s (t .1) u m
+rows-tell used limit n c cs s t = codes-tell rowOf automata.sameConfig configs-decided (Stored used limit n) (row-injective used limit n) c cs s t
 
 -- ---- the limit
 

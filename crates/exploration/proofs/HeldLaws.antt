@@ -1,123 +1,55 @@
 -- What entering a configuration and noting an edge leave of the work space, and that the search stays held.
-use Prim.Native.Nat.{ℕ, zero, suc, _+_, _-_, _*_, _≤_, _<_}
-use mathlib.Core.Path.{_≡_, refl, sym, ap, ap₂, _∙_, subst}
-use mathlib.Core.Bool.{Bool, true, false}
+use Prim.Native.Nat.{ℕ, _+_, _-_, _*_, _≤_, _<_}
+use mathlib.Core.Path.{_≡_, sym, ap, _∙_}
+use mathlib.Core.Bool.{Bool}
 use mathlib.Core.List.{List, [], _∷_, _++_}
 use native.Mathlib.Omega.{arith}
-use lib.Dec.{ltb}
-use lib.ListN.{length, drop, replicate, length-append}
-use borrow.Author.Tests.{lt-ltb, le-ltb}
-use Rattle.automata.specs.Lists.{All, if}
+use lib.ListN.{length, replicate, length-append}
 use Rattle.automata.specs.Automaton.{Arc}
 use Rattle.automata.specs.Config as automata
 use Rattle.automata.specs.Config.{sameConfig}
-use Rattle.automata.specs.Explore.{Edge, member, insert}
-use Rattle.automata.proofs.TestFacts
+use Rattle.automata.specs.Explore.{Edge, insert}
 use Rattle.automata.proofs.Configurations.{configs-decided}
 use Rattle.memory.specs.Region.{part, splice}
-use Rattle.memory.specs.Endian.{le}
 use Rattle.memory.specs.Answers.{lent}
 use Rattle.memory.specs.declared.record.ResultState.{ResultState}
-use Rattle.memory.proofs.Laws.{length-splice, part-splice-after}
+use Rattle.memory.proofs.Laws.{part-splice-after}
 use Rattle.memory.proofs.RowLaws.{rows-splice-after}
 use Rattle.rows.specs.declared.Entered.{Entered}
 use Rattle.rows.specs.declared.Entered.the-variants as E
 use Rattle.rows.specs.Find.{entry, enterOf}
 use Rattle.rows.specs.Inserted.{Inserted}
-use Rattle.rows.proofs.Meaning.{entered-at, entered-new, entered-full, at-count, new-count}
+use Rattle.rows.specs.Kept.{keptRecord}
+use Rattle.rows.proofs.CodeLaws.{all-insert, Entering, inserted-at, inserted-new, not-inserted}
+use Rattle.rows.proofs.KeptLaws.{kept-cases, front-made}
+use Rattle.rows.proofs.SearchLaws.{count-more}
 use Rattle.configuration.specs.declared.config.Config.{Config}
 use Rattle.configuration.specs.Configs.{configAs, GoodConfig, configBytes}
 use Rattle.configuration.proofs.RoundLaws.{length-config}
 use Rattle.delays.proofs.KeptLaws.{holds-part}
 use Rattle.delays.proofs.TestLaws.{length-closings}
-use Rattle.edges.specs.declared.edge.EdgeRecord.{EdgeRecord}
-use Rattle.edges.specs.Edges.{edgeBytes, recordOf, HoldsEdges}
-use Rattle.edges.proofs.EdgeLaws.{length-edge, holds-more, holds-beyond}
+use Rattle.edges.specs.Edges.{edgeBytes, recordOf}
+use Rattle.edges.proofs.EdgeLaws.{length-edge, holds-kept, holds-more, holds-beyond}
 use Rattle.exploration.specs.declared.plan.Plan.{Plan}
 use Rattle.exploration.specs.declared.head.Head.{Head}
 use Rattle.exploration.specs.Held.{rowOf}
 use Rattle.exploration.specs.Plans.{Explorable, tablesIn, StoredIn}
-use Rattle.exploration.specs.Searching.{rowBytes, keptEdge, counted, ConfigSearch, Holds}
+use Rattle.exploration.specs.Searching.{rowBytes, counted, ConfigSearch, Holds}
 use Rattle.exploration.proofs.FormLaws.{form-back, length-row, rows-tell}
 
 -- ---- a row and an edge record
 
--- zeros behind the first of several
-zeros-behind : (n k : ℕ) → drop {A = ℕ} n (replicate (n + k) 0) ≡ replicate k 0
-zeros-behind zero k = let e : 0 + k ≡ k = omega arith in ap (λ (m : ℕ). replicate m 0) e
-zeros-behind (suc n) k =
-    let e : suc n + k ≡ suc (n + k) = omega arith in
-    ap (λ (m : ℕ). drop {A = ℕ} (suc n) (replicate m 0)) e ∙ zeros-behind n k
-
 -- a row of zeros with the record of a configuration written at its front
 pub row-written : (used : ℕ) (c : Config) (row : List ℕ) → GoodConfig used c → row ≡ splice 0 (configBytes c) (replicate 320 0) → row ≡ rowBytes c
-unfolding splice rowBytes
-row-written used c row g e = e ∙ ap (λ (k : ℕ). configBytes c ++ drop {A = ℕ} (0 + k) (replicate 320 0)) (length-config used c g)
-    ∙ ap (λ (z : List ℕ). configBytes c ++ z) (zeros-behind 298 22)
+unfolding rowBytes
+row-written used c row g e = front-made 298 22 (configBytes c) row (length-config used c g) e
 
 -- it takes up 320 bytes
 pub length-row-bytes : (used : ℕ) (c : Config) → GoodConfig used c → length (rowBytes c) ≡ 320
 unfolding rowBytes
 length-row-bytes used c g = length-append (configBytes c) (replicate 22 0) ∙ omega (arith, length-config used c g)
 
--- so there is room for it
-pub enter-fits : (used : ℕ) (c : Config) (row : List ℕ) (size reached room : ℕ) → GoodConfig used c → row ≡ splice 0 (configBytes c) (replicate 320 0) → 320 * room ≤ size → reached ≤ room
-    → (0 + room * length row ≤ size) × (reached ≤ room)
-enter-fits used c row size reached room g e h k =
-    let l : length row ≡ 320 = ap length (row-written used c row g e) ∙ length-row-bytes used c g in
-    (rw l (omega arith), k)
-
--- and what is entered is the row
-pub entered-row : (used : ℕ) (c : Config) (row w v : List ℕ) (reached room : ℕ) (r : Entered) → GoodConfig used c → row ≡ splice 0 (configBytes c) (replicate 320 0)
-    → entry r v ≡ enterOf 0 reached room row w → entry r v ≡ enterOf 0 reached room (rowBytes c) w
-entered-row used c row w v reached room r g e t = t ∙ ap (λ (b : List ℕ). enterOf 0 reached room b w) (row-written used c row g e)
-
--- an edge that there is room for, and one that there is none for
-pub edge-kept : (at room number : ℕ) (e : EdgeRecord) (w v : List ℕ) → number < room → v ≡ splice (at + 16 * number) (edgeBytes e) w → v ≡ keptEdge at room number e w
-unfolding keptEdge
-edge-kept at room number e w v h k = rw (lt-ltb number room h) k
-
-pub edge-left : (at room number : ℕ) (e : EdgeRecord) (w : List ℕ) → room ≤ number → w ≡ keptEdge at room number e w
-unfolding keptEdge
-edge-left at room number e w h = rw (le-ltb number room h)
-
--- by whether there is room
-module _ (at room number : ℕ) (e : EdgeRecord) (w v : List ℕ) (k : v ≡ keptEdge at room number e w) where
-  pub kept-cases : (P : List ℕ → Type 0) → (number < room → P (splice (at + 16 * number) (edgeBytes e) w)) → (room ≤ number → P w) → P v
-  unfolding keptEdge
-  kept-cases P f g = go (ltb number room) refl
-    where
-      go : (b : Bool) → ltb number room ≡ b → P v
-      go true t = subst P (sym (k ∙ ap (λ (b : Bool). if b (splice (at + 16 * number) (edgeBytes e) w) w) t)) (f (TestFacts.ltb-true t))
-      go false t = subst P (sym (k ∙ ap (λ (b : Bool). if b (splice (at + 16 * number) (edgeBytes e) w) w) t)) (g (TestFacts.ltb-false t))
-
-  pub kept-length : at + 16 * room ≤ length w → length v ≡ length w
-  kept-length h = kept-cases (λ u. length u ≡ length w) (λ l. length-splice (at + 16 * number) (edgeBytes e) w (omega (arith, length-edge e))) (λ l. refl)
-
 -- ---- what is held
-
--- edges that stand in bytes that were kept
-edges-kept : (at room : ℕ) (es : List (Edge (ℕ × Arc ℕ))) (w v : List ℕ) → ((a n : ℕ) → at ≤ a → part a n v ≡ part a n w) → HoldsEdges at room es w → HoldsEdges at room es v
-unfolding HoldsEdges
-edges-kept at room es w v k h j x jr e =
-    let q = at + 16 * j in
-    (λ i. record {
-      from = record { 0 = le (k q 2 (omega arith) i) };
-      arc = le (k (q + 2) 2 (omega arith) i);
-      to = record { 0 = le (k (q + 4) 2 (omega arith) i) };
-    }) ∙ h j x jr e
-
--- one element more, if it is not there
-all-insert : (P : automata.Config → Type 0) (cs : List automata.Config) (c : automata.Config) → All P cs → P c → All P (insert sameConfig cs c)
-all-insert P cs c h k = go (member sameConfig c cs)
-  where
-    snoc : (ds : List automata.Config) → All P ds → All P (ds ++ (c ∷ []))
-    snoc [] h = (k, tt)
-    snoc (d ∷ ds) h = (h .0, snoc ds (h .1))
-
-    go : (b : Bool) → All P (if b cs (cs ++ (c ∷ [])))
-    go true = h
-    go false = snoc cs h
 
 -- at most four closings
 pub few-closings : (p : Plan) (states arcs : List ℕ) (size : ℕ) → Explorable p states arcs size → length (tablesIn p states arcs .closings) ≤ 4
@@ -149,50 +81,46 @@ module _ (p : Plan) (h : Head) (d : Config) (v : List ℕ) (good : GoodConfig (p
   unfolding rowBytes rowOf
   row-is = ap (λ (y : Config). configBytes y ++ replicate 22 0) (sym (form-back used d (x .named .used-fit) good))
 
-  after : (r : Entered) (w : List ℕ) → After r w → entry r w ≡ enterOf 0 (length (s .vertices)) room (rowOf c) v
-  after r w t = t ∙ ap₂ (λ (k : ℕ) (b : List ℕ). enterOf 0 k room b v) (o .reached) row-is
+  -- it may be entered
+  may-enter : Entering rowOf sameConfig 0 room 320 (h .reached) (s .vertices) c (rowBytes d) v
+  may-enter = record {
+    sized = length-row used (p .limit) (p .counts .states) c may;
+    held = o .configs;
+    tells = rows-tell used (p .limit) (p .counts .states) c (s .vertices) may (o .stored);
+    reflexive = configs-decided .complete c;
+    within = omega (arith, x .configs-fit, x .edges-fit, x .delays-fit);
+    few = o .fits;
+    count-is = o .reached;
+    bytes-are = row-is;
+  }
 
-  within : 0 + room * 320 ≤ length v
-  within = omega (arith, x .configs-fit, x .edges-fit, x .delays-fit)
+  pub was-at : (n : ResultState) (w : List ℕ) → After (E.At n) w → Inserted rowOf sameConfig 0 room 320 (s .vertices) c v w n × (h .reached ≡ length more)
+  was-at n w t = inserted-at may-enter n w t
 
-  pub was-at : (n : ResultState) (w : List ℕ) → After (E.At n) w → Inserted rowOf sameConfig 0 room 320 (s .vertices) c v w n
-  was-at n w t = entered-at rowOf sameConfig 0 room 320 (s .vertices) c v (length-row used (p .limit) (p .counts .states) c may) (o .configs)
-      (rows-tell used (p .limit) (p .counts .states) c (s .vertices) may (o .stored)) (configs-decided .complete c) within (o .fits) n w (after (E.At n) w t)
-
-  pub was-new : (n : ResultState) (w : List ℕ) → After (E.New n) w → Inserted rowOf sameConfig 0 room 320 (s .vertices) c v w n
-  was-new n w t = entered-new rowOf sameConfig 0 room 320 (s .vertices) c v (length-row used (p .limit) (p .counts .states) c may) (o .configs)
-      (rows-tell used (p .limit) (p .counts .states) c (s .vertices) may (o .stored)) (configs-decided .complete c) within (o .fits) n w (after (E.New n) w t)
+  pub was-new : (n : ResultState) (w : List ℕ) → After (E.New n) w → Inserted rowOf sameConfig 0 room 320 (s .vertices) c v w n × (h .reached + 1 ≡ length more)
+  was-new n w t = inserted-new may-enter n w t
 
   pub was-full : (w : List ℕ) → After E.Full w → (w ≡ v) × (room < length more)
-  was-full w t = entered-full rowOf sameConfig 0 room 320 (s .vertices) c v (length-row used (p .limit) (p .counts .states) c may) (o .configs)
-      (rows-tell used (p .limit) (p .counts .states) c (s .vertices) may (o .stored)) (configs-decided .complete c) within (o .fits) w (after E.Full w t)
+  was-full w t = not-inserted may-enter w t
 
-  pub count-at : (n : ResultState) (w : List ℕ) → After (E.At n) w → h .reached ≡ length more
-  count-at n w t = o .reached ∙ sym (at-count rowOf sameConfig 0 room 320 (s .vertices) c v (length-row used (p .limit) (p .counts .states) c may) (o .configs)
-      (rows-tell used (p .limit) (p .counts .states) c (s .vertices) may (o .stored)) (configs-decided .complete c) within (o .fits) n w (after (E.At n) w t))
-
-  pub count-new : (n : ResultState) (w : List ℕ) → After (E.New n) w → h .reached + 1 ≡ length more
-  count-new n w t = ap (λ (k : ℕ). k + 1) (o .reached) ∙ sym (new-count rowOf sameConfig 0 room 320 (s .vertices) c v (length-row used (p .limit) (p .counts .states) c may) (o .configs)
-      (rows-tell used (p .limit) (p .counts .states) c (s .vertices) may (o .stored)) (configs-decided .complete c) within (o .fits) n w (after (E.New n) w t))
-
-  module _ (n : ResultState) (w : List ℕ) (i : Inserted rowOf sameConfig 0 room 320 (s .vertices) c v w n) (k : ℕ) (count : k ≡ length more) where
+  module _ (n : ResultState) (w : List ℕ) (k : ℕ) (i : Inserted rowOf sameConfig 0 room 320 (s .vertices) c v w n × (k ≡ length more)) where
     beyond : (a m : ℕ) → p .room .edges ≤ a → part a m w ≡ part a m v
-    beyond a m l = i .kept a m (omega (arith, x .configs-fit, l))
+    beyond a m l = i .0 .kept a m (omega (arith, x .configs-fit, l))
 
     -- the search with the configuration is held
     pub inserted-held : Holds p states arcs (record { taken = h .taken; reached = k; arcs = h .arcs; late = h .late; full = h .full })
         (record { vertices = more; edges = s .edges }) late w
     inserted-held = record {
-      configs = i .held;
-      edges = edges-kept (p .room .edges) (p .room .arcs) (s .edges) v w beyond (o .edges);
+      configs = i .0 .held;
+      edges = holds-kept (p .room .edges) (p .room .arcs) (s .edges) v w beyond (o .edges);
       closing = holds-part (tablesIn p states arcs) (p .room .delays) (p .counts .states) w v (few-closings p states arcs (length v) x)
           (beyond (p .room .delays) (64 * p .counts .states) (omega (arith, x .edges-fit))) (o .closing);
-      reached = count;
-      fits = i .fits;
+      reached = i .1;
+      fits = i .0 .fits;
       arc-count = o .arc-count;
       late-is = o .late-is;
       not-full = o .not-full;
-      stored = all-insert (StoredIn p) (s .vertices) c (o .stored) may;
+      stored = all-insert sameConfig (StoredIn p) (s .vertices) c (o .stored) may;
     }
 
 -- ---- an edge is noted
@@ -205,12 +133,9 @@ module _ (p : Plan) (states arcs : List ℕ) (size : ℕ) (x : Explorable p stat
   abbrev longer : ConfigSearch
   longer = record { vertices = s .vertices; edges = s .edges ++ (e ∷ []) }
 
-  count-more : h .arcs + 1 ≡ length (s .edges ++ (e ∷ []))
-  count-more = sym (length-append (s .edges) (e ∷ []) ∙ omega (arith, o .arc-count))
-
   -- the head counts it whether there is room or not
-  pub edge-held : (u : List ℕ) → u ≡ keptEdge (p .room .edges) (p .room .arcs) (h .arcs) (recordOf e) w → Holds p states arcs (counted h) longer late u
-  edge-held u k = kept-cases (p .room .edges) (p .room .arcs) (h .arcs) (recordOf e) w u k (λ z. Holds p states arcs (counted h) longer late z)
+  pub edge-held : (u : List ℕ) → u ≡ keptRecord (p .room .edges) (p .room .arcs) (h .arcs) (edgeBytes (recordOf e)) w → Holds p states arcs (counted h) longer late u
+  edge-held u k = kept-cases (p .room .edges) (p .room .arcs) (h .arcs) (edgeBytes (recordOf e)) w u k (λ z. Holds p states arcs (counted h) longer late z)
       (λ l. record {
         configs = rows-splice-after 0 320 (length (s .vertices)) place (edgeBytes (recordOf e)) w
             (omega (arith, x .configs-fit, o .fits)) (omega (arith, x .edges-fit, x .delays-fit, lw, l)) ∙ o .configs;
@@ -223,7 +148,7 @@ module _ (p : Plan) (states arcs : List ℕ) (size : ℕ) (x : Explorable p stat
             (omega (arith, length-edge (recordOf e), x .edges-fit, l)) (omega (arith, length-edge (recordOf e), x .edges-fit, x .delays-fit, lw, l))) (o .closing);
         reached = o .reached;
         fits = o .fits;
-        arc-count = count-more;
+        arc-count = count-more (h .arcs) (s .edges) e (o .arc-count);
         late-is = o .late-is;
         not-full = o .not-full;
         stored = o .stored;
@@ -234,7 +159,7 @@ module _ (p : Plan) (states arcs : List ℕ) (size : ℕ) (x : Explorable p stat
         closing = o .closing;
         reached = o .reached;
         fits = o .fits;
-        arc-count = count-more;
+        arc-count = count-more (h .arcs) (s .edges) e (o .arc-count);
         late-is = o .late-is;
         not-full = o .not-full;
         stored = o .stored;

@@ -14,7 +14,6 @@ use Rattle.automata.specs.Automaton.{Arc}
 use Rattle.automata.specs.Leftover as leftover
 use Rattle.automata.specs.Config as automata
 use Rattle.automata.specs.Memory.{Memory, tableOf}
-use Rattle.automata.specs.Closing.{viable}
 use Rattle.automata.specs.Table.{WellFormedArc}
 use Rattle.automata.specs.Offer.{Offer, nothing, late, to, offerTo, offer}
 use Rattle.automata.proofs.ListFacts

@@ -2,7 +2,6 @@
 use Prim.Native.Nat.{ℕ, suc, _-_, _*_, _≤_, _<_}
 use mathlib.Core.Path.{_≡_, refl, sym, _∙_, subst}
 use mathlib.Core.Bool.{Bool, true, false}
-use mathlib.Core.Option.{some}
 use mathlib.Core.List.{List}
 use native.Mathlib.Omega.{arith}
 use lib.ListN.{length, take}
@@ -10,17 +9,17 @@ use Rattle.automata.specs.Lists.{any, or}
 use Rattle.automata.specs.Automaton.{Arc}
 use Rattle.automata.specs.Config as automata
 use Rattle.automata.specs.Config.{sameConfig}
-use Rattle.automata.specs.Explore.{Edge, edges, reached}
+use Rattle.automata.specs.Explore.{reached}
 use Rattle.automata.specs.Offer.{lateUpTo}
 use Rattle.automata.specs.Search.{searched}
 use Rattle.automata.specs.Intersect.{starts, out, reachedConfigs, delayed}
 use Rattle.automata.proofs.ListFacts
 use Rattle.automata.proofs.TestFacts
 use Rattle.automata.proofs.Configurations.{configs-decided}
-use Rattle.automata.proofs.SearchFacts.{searched-some, searched-reached, found-over, taken-any, taken-all}
-use Rattle.automata.proofs.SearchedEdges.{searched-edges}
+use Rattle.automata.proofs.SearchFacts.{searched-some, found-over, taken-any, taken-all}
 use Rattle.automata.proofs.IntersectSteps.{delayed-late}
 use Rattle.memory.specs.Answers.{lent}
+use Rattle.rows.proofs.SearchLaws.{searched-begun, searched-whole}
 use Rattle.delays.specs.ClosingRegion.{WritesClosing}
 use Rattle.exploration.specs.declared.plan.Plan.{Plan}
 use Rattle.exploration.specs.declared.head.Head.{Head}
@@ -49,17 +48,12 @@ module _ (p : Plan) (states arcs : List ℕ) where
       → ComesToReached p states arcs h w
   unfolding reachedConfigs
   all-taken k h w b o =
-      let cs : List automata.Config = searchAt k .vertices in
-      let e : reached sameConfig outIn (p .room .states) startsIn ≡ cs = searched-reached sameConfig configs-decided outIn startsIn (p .room .states) k (o .fits) b in
-      let f : searchAt k .edges ≡ edges sameConfig outIn cs = sym (searched-edges sameConfig configs-decided outIn startsIn k b) in
-      let g : any lateIn (take k cs) ≡ delayed (tableIn p states arcs) (pairsIn p) (viableIn p states arcs) cs
-      = taken-all sameConfig configs-decided outIn startsIn lateIn k b ∙ sym (delayed-late (tableIn p states arcs) (pairsIn p) (viableIn p states arcs) cs) in
-      let o1 : Holds p states arcs h (record { vertices = cs; edges = searchAt k .edges }) (any lateIn (take k cs)) w = o in
-      let o2 = subst (λ (es : List (Edge (ℕ × Arc ℕ))). Holds p states arcs h (record { vertices = cs; edges = es }) (any lateIn (take k cs)) w) f o1 in
-      let o3 = subst (λ (l : Bool). Holds p states arcs h (record { vertices = cs; edges = edges sameConfig outIn cs }) l w) g o2 in
-      let o4 = subst (λ (ds : List automata.Config). Holds p states arcs h (record { vertices = ds; edges = edges sameConfig outIn ds })
-      (delayed (tableIn p states arcs) (pairsIn p) (viableIn p states arcs) ds) w) (sym e) o3 in
-      record { held = λ n. o4; over = λ n. TestFacts.false-not-true (o4 .not-full) n }
+      let e = searched-whole sameConfig configs-decided outIn startsIn (p .room .states) k (o .fits) b in
+      let g : any lateIn (take k (searchAt k .vertices)) ≡ delayed (tableIn p states arcs) (pairsIn p) (viableIn p states arcs) (searchAt k .vertices)
+      = taken-all sameConfig configs-decided outIn startsIn lateIn k b ∙ sym (delayed-late (tableIn p states arcs) (pairsIn p) (viableIn p states arcs) (searchAt k .vertices)) in
+      let o1 = subst (λ (l : Bool). Holds p states arcs h (searchAt k) l w) g o in
+      let o2 = subst (λ (s : ConfigSearch). Holds p states arcs h s (delayed (tableIn p states arcs) (pairsIn p) (viableIn p states arcs) (s .vertices)) w) e o1 in
+      record { held = λ n. o2; over = λ n. TestFacts.false-not-true (o2 .not-full) n }
 
   -- where there are too many at any time, too many are reached
   pub too-many : (k : ℕ) (h : Head) (w : List ℕ) → h .full ≡ true → p .room .states < length (searchAt k .vertices) → ComesToReached p states arcs h w
@@ -68,11 +62,6 @@ module _ (p : Plan) (states arcs : List ℕ) where
     held = λ n. TestFacts.false-not-true n f;
     over = λ n. found-over sameConfig configs-decided outIn startsIn (p .room .states) k m;
   }
-
-  -- before one is taken up
-  pub begun-is : begunSearch p states arcs ≡ searchAt 0
-  unfolding searched
-  begun-is = refl
 
 -- ---- a run
 
@@ -88,7 +77,7 @@ module _ (p : Plan) (h : Head) (arcs : List ℕ) (v : List ℕ) (q : Runnable p 
   pub run-none : h .full ≡ true → Runs p h arcs v h v
   run-none f = record {
     same-length = refl;
-    meaning = λ states x c. too-many p states arcs 0 h v f (subst (λ (s : ConfigSearch). p .room .states < length (s .vertices)) (begun-is p states arcs) (c .over f));
+    meaning = λ states x c. too-many p states arcs 0 h v f (subst (λ (s : ConfigSearch). p .room .states < length (s .vertices)) (searched-begun sameConfig (outIn p states arcs) (startsIn p states arcs)) (c .over f));
   }
 
   pub run-start : h .full ≡ false → Running p h arcs v h v
@@ -96,7 +85,7 @@ module _ (p : Plan) (h : Head) (arcs : List ℕ) (v : List ℕ) (q : Runnable p 
     few = omega (arith, q .arcs-none);
     same-length = refl;
     meaning = λ states x c.
-        let o = subst (λ (s : ConfigSearch). Holds p states arcs h s false v) (begun-is p states arcs) (c .held f) in
+        let o = subst (λ (s : ConfigSearch). Holds p states arcs h s false v) (searched-begun sameConfig (outIn p states arcs) (startsIn p states arcs)) (c .held f) in
         subst (λ (k : ℕ). Holds p states arcs h (searchAt p states arcs k) (any (lateIn p states arcs) (take k (searchAt p states arcs k .vertices))) v) (sym (q .taken)) o;
   }
 

@@ -17,7 +17,6 @@ use Rattle.automata.specs.Config as automata
 use Rattle.automata.specs.Config.{sameConfig}
 use Rattle.automata.specs.Memory.{Memory, flag, tableOf}
 use Rattle.automata.specs.Explore.{insert}
-use Rattle.automata.specs.Intersect.{starts}
 use Rattle.automata.proofs.ListFacts
 use Rattle.automata.proofs.TestFacts
 use Rattle.automata.proofs.MemoryLaws.{state-field}
@@ -39,7 +38,7 @@ use Rattle.exploration.specs.Offers.{TellsViable}
 use Rattle.exploration.specs.Searching.{rowBytes, Comes}
 use Rattle.exploration.specs.Starting.{withConfigs, Admittable, Admits, startBy, Startable, Enters}
 use Rattle.exploration.proofs.FormLaws.{stored-form, not-long}
-use Rattle.exploration.proofs.HeldLaws.{was-at, was-new, was-full, count-at, count-new, inserted-held}
+use Rattle.exploration.proofs.HeldLaws.{was-at, was-new, was-full, inserted-held}
 use Rattle.exploration.proofs.VisitLaws.{withReached}
 
 -- ---- a configuration is entered
@@ -52,10 +51,9 @@ module _ (p : Plan) (h : Head) (d : Config) (v : List ℕ) (q : Admittable p h d
       record {
         taken = refl;
         arcs = refl;
-        same-length = was-at p h d v (q .good) (q .stored) (q .states) (q .arcs) (q .search) (q .late) (q .explorable) (q .holds) n w t2 .same-length;
+        same-length = was-at p h d v (q .good) (q .stored) (q .states) (q .arcs) (q .search) (q .late) (q .explorable) (q .holds) n w t2 .0 .same-length;
         meaning = λ states arcs s l x o. record {
-          held = λ f. inserted-held p h d v (q .good) (q .stored) states arcs s l x o n w
-              (was-at p h d v (q .good) (q .stored) states arcs s l x o n w t2) (h .reached) (count-at p h d v (q .good) (q .stored) states arcs s l x o n w t2);
+          held = λ f. inserted-held p h d v (q .good) (q .stored) states arcs s l x o n w (h .reached) (was-at p h d v (q .good) (q .stored) states arcs s l x o n w t2);
           over = λ f. TestFacts.false-not-true (o .not-full) f;
         };
       }
@@ -66,10 +64,9 @@ module _ (p : Plan) (h : Head) (d : Config) (v : List ℕ) (q : Admittable p h d
       record {
         taken = refl;
         arcs = refl;
-        same-length = was-new p h d v (q .good) (q .stored) (q .states) (q .arcs) (q .search) (q .late) (q .explorable) (q .holds) n w t2 .same-length;
+        same-length = was-new p h d v (q .good) (q .stored) (q .states) (q .arcs) (q .search) (q .late) (q .explorable) (q .holds) n w t2 .0 .same-length;
         meaning = λ states arcs s l x o. record {
-          held = λ f. inserted-held p h d v (q .good) (q .stored) states arcs s l x o n w
-              (was-new p h d v (q .good) (q .stored) states arcs s l x o n w t2) (h .reached + 1) (count-new p h d v (q .good) (q .stored) states arcs s l x o n w t2);
+          held = λ f. inserted-held p h d v (q .good) (q .stored) states arcs s l x o n w (h .reached + 1) (was-new p h d v (q .good) (q .stored) states arcs s l x o n w t2);
           over = λ f. TestFacts.false-not-true (o .not-full) f;
         };
       }

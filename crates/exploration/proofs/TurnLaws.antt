@@ -1,13 +1,13 @@
 -- The arcs of a configuration that is taken up, one after the other.
-use Prim.Native.Nat.{ℕ, zero, suc, _+_, _-_, _*_, _≤_, _<_}
+use Prim.Native.Nat.{ℕ, suc, _+_, _-_, _*_, _≤_, _<_}
 use mathlib.Core.Path.{_≡_, refl, sym, ap, _∙_, subst}
 use mathlib.Core.Bool.{Bool, true, false}
 use mathlib.Core.Option.{none, some}
-use mathlib.Core.List.{List, [], _∷_, map}
+use mathlib.Core.List.{List, []}
 use native.Mathlib.Omega.{arith}
 use native.Mathlib.Nat.{add-zero}
 use lib.ListN.{length, getD, getElem?}
-use Rattle.automata.specs.Lists.{All, or}
+use Rattle.automata.specs.Lists.{or}
 use Rattle.automata.specs.Automaton.{Arc, Automaton}
 use Rattle.automata.specs.Config as automata
 use Rattle.automata.specs.Config.{sameConfig}
@@ -16,16 +16,17 @@ use Rattle.automata.specs.Offer.{Offer, nothing, late, to, successor, isLate, o
 use Rattle.automata.specs.Search.{noteAll}
 use Rattle.automata.specs.Intersect.{out}
 use Rattle.automata.proofs.ListFacts
+use Rattle.automata.proofs.WellFormedFacts.{all-place}
 use Rattle.automata.proofs.TestFacts
 use Rattle.automata.proofs.AppendFacts.{or-none}
 use Rattle.automata.proofs.Configurations.{configs-decided}
-use Rattle.automata.proofs.SearchFacts.{noteAll-append, noteAll-length}
 use Rattle.automata.proofs.SoundFacts.{sound-well-formed}
 use Rattle.automata.proofs.IntersectSteps.{outUpTo-zero, outUpTo-all, outUpTo-begins, noted-to, noted-none, lateUpTo-zero, lateUpTo-suc}
 use Rattle.memory.specs.Region.{part, splice}
 use Rattle.memory.specs.Answers.{lent}
 use Rattle.memory.proofs.Laws.{part-part, part-front}
-use Rattle.memory.proofs.RowLaws.{getD-rows}
+use Rattle.rows.proofs.CodeLaws.{row-at}
+use Rattle.rows.proofs.SearchLaws.{noted-longer}
 use Rattle.configuration.specs.declared.config.Config.{Config}
 use Rattle.configuration.specs.Leftovers.{outside}
 use Rattle.configuration.specs.Configs.{configAs, GoodConfig, configBytes, configAt}
@@ -39,16 +40,6 @@ use Rattle.exploration.proofs.OfferLaws.{arc-count, arc-exists}
 
 -- ---- the configuration that is loaded
 
-all-place : {A : Type 0} (P : A → Type 0) (xs : List A) (i : ℕ) {a : A} → All P xs → getElem? xs i ≡ some a → P a
-all-place P [] i h e = ListFacts.none-not-some refl e
-all-place P (x ∷ xs) zero {a} h e = let q : x ≡ a = cc in subst P q (h .0)
-all-place P (x ∷ xs) (suc i) h e = all-place P xs i (h .1) e
-
-map-place : (xs : List automata.Config) (i : ℕ) {c : automata.Config} → getElem? xs i ≡ some c → getD (map rowOf xs) i [] ≡ rowOf c
-map-place [] i e = ListFacts.none-not-some refl e
-map-place (x ∷ xs) zero {c} e = let q : x ≡ c = cc in ap rowOf q
-map-place (x ∷ xs) (suc i) e = map-place xs i e
-
 -- the bytes of a record alone
 record-back : (used at : ℕ) (d : Config) (w : List ℕ) → GoodConfig used d → at + 298 ≤ length w → configAt 0 (configBytes d) ≡ d
 record-back used at d w g h =
@@ -58,7 +49,7 @@ module _ (p : Plan) (states arcs : List ℕ) (h : Head) (s : ConfigSearch) (late
     (k : ℕ) (c : automata.Config) (e : getElem? (s .vertices) k ≡ some c) where
   -- a configuration that is held may be stored, and its row is within the work space
   pub place-stored : StoredIn p c
-  place-stored = all-place (StoredIn p) (s .vertices) k (o .stored) e
+  place-stored = all-place (StoredIn p) (s .vertices) (o .stored) k c e
 
   pub place-fits : 320 * k + 320 ≤ length w
   place-fits = let b = ListFacts.place-bound (s .vertices) k e in omega (arith, b, o .fits, x .configs-fit, x .edges-fit, x .delays-fit)
@@ -67,8 +58,7 @@ module _ (p : Plan) (states arcs : List ℕ) (h : Head) (s : ConfigSearch) (late
   pub loaded : configAt (320 * k) w ≡ configOf c
   unfolding rowOf
   loaded =
-      let b = ListFacts.place-bound (s .vertices) k e in
-      let f : part (0 + k * 320) 320 w ≡ rowOf c = sym (getD-rows 0 320 (length (s .vertices)) w k [] b) ∙ ap (λ (z : List (List ℕ)). getD z k []) (o .configs) ∙ map-place (s .vertices) k e in
+      let f : part (0 + k * 320) 320 w ≡ rowOf c = row-at rowOf 0 320 (s .vertices) w k c (o .configs) e in
       let a : 0 + k * 320 ≡ 320 * k = omega arith in
       let n : length (configBytes (configOf c)) ≡ 298 = length-config (p .pairs .used) (configOf c) (place-stored .form) in
       let z : 320 * k + 0 ≡ 320 * k = add-zero (320 * k) in
@@ -214,12 +204,7 @@ module _ (p : Plan) (h : Head) (arcs : List ℕ) (v : List ℕ) (q : Takable p h
                 let test = viableIn p states arcs in
                 let m = turn-comes states s l c x o e .over f in
                 let y = outUpTo-begins A ps test (j + 1) c in
-                let first : ConfigSearch = noteAll sameConfig (h .taken) s (outUpTo A ps test (j + 1) c) in
-                let k : noteAll sameConfig (h .taken) s (out A ps test c) ≡ noteAll sameConfig (h .taken) first (y .rest)
-                = ap (noteAll sameConfig (h .taken) s) (y .joined) ∙ noteAll-append sameConfig configs-decided (h .taken) s (outUpTo A ps test (j + 1) c) (y .rest) in
-                let i = noteAll-length sameConfig configs-decided (h .taken) first (y .rest) in
-                let ll = ap (λ (zz : ConfigSearch). length (zz .vertices)) k in
-                omega (arith, m, i, ll);
+                omega (arith, m, noted-longer sameConfig configs-decided (h .taken) s (outUpTo A ps test (j + 1) c) (y .rest) (out A ps test c) (y .joined));
           };
         }
 

@@ -1,12 +1,12 @@
 -- What an arc comes to, from what the calls answer and leave.
-use Prim.Native.Nat.{ℕ, zero, suc, _+_, _-_, _≤_, _<_}
+use Prim.Native.Nat.{ℕ, _+_, _-_, _≤_, _<_}
 use mathlib.Core.Path.{_≡_, refl, sym, ap, _∙_, subst}
 use mathlib.Core.Bool.{Bool, true, false}
 use mathlib.Core.Option.{some}
 use mathlib.Core.List.{List, [], _∷_, _++_}
 use native.Mathlib.Omega.{arith}
 use lib.ListN.{length, getElem?}
-use Rattle.automata.specs.Lists.{if, or}
+use Rattle.automata.specs.Lists.{or}
 use Rattle.automata.specs.Automaton.{Arc}
 use Rattle.automata.specs.Config as automata
 use Rattle.automata.specs.Config.{sameConfig}
@@ -22,9 +22,14 @@ use Rattle.rows.specs.declared.Entered.{Entered}
 use Rattle.rows.specs.declared.Entered.the-variants as E
 use Rattle.rows.specs.Find.{entry, enterOf}
 use Rattle.rows.specs.Inserted.{Inserted}
+use Rattle.rows.specs.Kept.{keptRecord}
+use Rattle.rows.proofs.CodeLaws.{index-bound}
+use Rattle.rows.proofs.KeptLaws.{kept-length}
 use Rattle.configuration.specs.declared.config.Config.{Config}
 use Rattle.configuration.specs.Configs.{configAs}
 use Rattle.edges.specs.declared.edge.EdgeRecord.{EdgeRecord}
+use Rattle.edges.specs.Edges.{edgeBytes}
+use Rattle.edges.proofs.EdgeLaws.{length-edge}
 use Rattle.exploration.specs.declared.plan.Plan.{Plan}
 use Rattle.exploration.specs.declared.head.Head.{Head}
 use Rattle.exploration.specs.declared.offer.Kind.{Kind}
@@ -33,18 +38,9 @@ use Rattle.exploration.specs.declared.offer.Offered.{Offered}
 use Rattle.exploration.specs.Held.{rowOf}
 use Rattle.exploration.specs.Plans.{Explorable, tableIn, pairsIn, viableIn}
 use Rattle.exploration.specs.Offers.{offerBy, Offers}
-use Rattle.exploration.specs.Searching.{rowBytes, keptEdge, counted, ConfigSearch, Holds, Comes, Arrivable, Arrives, noteOffer, Visitable, Visits}
+use Rattle.exploration.specs.Searching.{rowBytes, counted, ConfigSearch, Holds, Comes, Arrivable, Arrives, noteOffer, Visitable, Visits}
 use Rattle.exploration.proofs.OfferLaws.{arc-count}
-use Rattle.exploration.proofs.HeldLaws.{kept-length, was-at, was-new, was-full, count-at, count-new, inserted-held, edge-held}
-
--- the place of a configuration is at most the length
-index-bound : (c : automata.Config) (cs : List automata.Config) → indexOf sameConfig c cs ≤ length cs
-index-bound c [] = omega arith
-index-bound c (d ∷ cs) = go (sameConfig c d) (index-bound c cs)
-  where
-    go : (b : Bool) → indexOf sameConfig c cs ≤ length cs → if b zero (suc (indexOf sameConfig c cs)) ≤ suc (length cs)
-    go true l = omega arith
-    go false l = omega arith
+use Rattle.exploration.proofs.HeldLaws.{was-at, was-new, was-full, inserted-held, edge-held}
 
 -- a head with so many configurations
 abbrev pub withReached : ℕ → Head → Head
@@ -66,7 +62,7 @@ module _ (p : Plan) (h : Head) (d : Config) (j : ℕ) (v : List ℕ) (q : Arriva
       → Inserted rowOf sameConfig 0 (p .room .states) 320 (s .vertices) c v w n × (k ≡ length (insert sameConfig (s .vertices) c))
 
   arrives-noted : (k : ℕ) (n : ResultState) (w : List ℕ) → h .reached ≤ k → Enters k n w → (g : Head) (u : List ℕ)
-      → (g ≡ counted (withReached k h)) × (u ≡ keptEdge (p .room .edges) (p .room .arcs) (h .arcs) (noted h j n) w) → Arrives p h d j v g u
+      → (g ≡ counted (withReached k h)) × (u ≡ keptRecord (p .room .edges) (p .room .arcs) (h .arcs) (edgeBytes (noted h j n)) w) → Arrives p h d j v g u
   unfolding note
   arrives-noted k n w l enters g u e = record {
     taken = ap (λ (z : Head). z .taken) (e .0);
@@ -76,15 +72,15 @@ module _ (p : Plan) (h : Head) (d : Config) (j : ℕ) (v : List ℕ) (q : Arriva
         let i = enters (q .states) (q .arcs) (q .search) (q .late) (q .explorable) (q .holds) .0 in
         let x = q .explorable in
         let y = i .same-length in
-        kept-length (p .room .edges) (p .room .arcs) (h .arcs) (noted h j n) w u (e .1) (omega (arith, y, x .edges-fit, x .delays-fit)) ∙ y;
+        kept-length (p .room .edges) (p .room .arcs) (h .arcs) (edgeBytes (noted h j n)) w u (e .1) (omega (arith, length-edge (noted h j n))) (omega (arith, y, x .edges-fit, x .delays-fit)) ∙ y;
     meaning = λ states arcs s late a x o.
         let i = enters states arcs s late x o in
         let more : List automata.Config = insert sameConfig (s .vertices) c in
         let at : ℕ = indexOf sameConfig c more in
-        let o1 = inserted-held p h d v (q .good) (q .stored) states arcs s late x o n w (i .0) k (i .1) in
-        let b : at ≤ length more = index-bound c more in
-        let m : u ≡ keptEdge (p .room .edges) (p .room .arcs) (h .arcs) (noted h j (record { 0 = at })) w
-        = e .1 ∙ ap (λ (z : ℕ). keptEdge (p .room .edges) (p .room .arcs) (h .arcs) (noted h j (record { 0 = z })) w) (i .0 .number) in
+        let o1 = inserted-held p h d v (q .good) (q .stored) states arcs s late x o n w k i in
+        let b : at ≤ length more = index-bound sameConfig c more in
+        let m : u ≡ keptRecord (p .room .edges) (p .room .arcs) (h .arcs) (edgeBytes (noted h j (record { 0 = at }))) w
+        = e .1 ∙ ap (λ (z : ℕ). keptRecord (p .room .edges) (p .room .arcs) (h .arcs) (edgeBytes (noted h j (record { 0 = z }))) w) (i .0 .number) in
         let o2 = edge-held p states arcs (length v) x (withReached k h) (record { vertices = more; edges = s .edges }) late w (i .0 .same-length) o1
         (record { from = h .taken; label = (j, a); to = at }) (q .taken-fits) (q .arc-fits) b u m in
         record {
@@ -96,19 +92,19 @@ module _ (p : Plan) (h : Head) (d : Config) (j : ℕ) (v : List ℕ) (q : Arriva
   module _ (r : Entered) (w : List ℕ) (t : entry r w ≡ enterOf 0 (h .reached) (p .room .states) (rowBytes d) v) where
     -- it was there already
     pub arrives-at : (n : ResultState) → r ≡ E.At n → (g : Head) (u : List ℕ)
-        → (g ≡ counted h) × (u ≡ keptEdge (p .room .edges) (p .room .arcs) (h .arcs) (noted h j n) w) → Arrives p h d j v g u
+        → (g ≡ counted h) × (u ≡ keptRecord (p .room .edges) (p .room .arcs) (h .arcs) (edgeBytes (noted h j n)) w) → Arrives p h d j v g u
     arrives-at n z = arrives-noted (h .reached) n w (omega arith)
         (λ states arcs s late x o.
         let t2 = ap (λ (y : Entered). entry y w) (sym z) ∙ t in
-        (was-at p h d v (q .good) (q .stored) states arcs s late x o n w t2, count-at p h d v (q .good) (q .stored) states arcs s late x o n w t2))
+        was-at p h d v (q .good) (q .stored) states arcs s late x o n w t2)
 
     -- it is new
     pub arrives-new : (n : ResultState) → r ≡ E.New n → (g : Head) (u : List ℕ)
-        → (g ≡ counted (withReached (h .reached + 1) h)) × (u ≡ keptEdge (p .room .edges) (p .room .arcs) (h .arcs) (noted h j n) w) → Arrives p h d j v g u
+        → (g ≡ counted (withReached (h .reached + 1) h)) × (u ≡ keptRecord (p .room .edges) (p .room .arcs) (h .arcs) (edgeBytes (noted h j n)) w) → Arrives p h d j v g u
     arrives-new n z = arrives-noted (h .reached + 1) n w (omega arith)
         (λ states arcs s late x o.
         let t2 = ap (λ (y : Entered). entry y w) (sym z) ∙ t in
-        (was-new p h d v (q .good) (q .stored) states arcs s late x o n w t2, count-new p h d v (q .good) (q .stored) states arcs s late x o n w t2))
+        was-new p h d v (q .good) (q .stored) states arcs s late x o n w t2)
 
     -- there is no room for it
     pub arrives-full : r ≡ E.Full → Arrives p h d j v (record { taken = h .taken; reached = h .reached; arcs = h .arcs; late = h .late; full = true }) w

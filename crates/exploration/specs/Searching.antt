@@ -4,21 +4,18 @@ use mathlib.Core.Bool.{Bool, true, false}
 use mathlib.Core.Option.{some}
 use mathlib.Core.List.{List, _++_}
 use Prim.Native.Nat.{ℕ, _+_, _*_, _≤_, _<_}
-use lib.Dec.{ltb}
 use lib.ListN.{length, getD, getElem?, replicate}
-use Rattle.automata.specs.Lists.{All, if, or}
+use Rattle.automata.specs.Lists.{All, or}
 use Rattle.automata.specs.Automaton.{Arc}
 use Rattle.automata.specs.Config as automata
 use Rattle.automata.specs.Offer.{Offer, nothing, late, to, isLate, offer, lateUpTo}
 use Rattle.automata.specs.Search.{Search, note, noteAll}
 use Rattle.automata.specs.Intersect.{out}
-use Rattle.memory.specs.Region.{splice}
 use Rattle.configuration.specs.declared.config.Config.{Config}
 use Rattle.configuration.specs.Leftovers.{outside}
 use Rattle.configuration.specs.Configs.{configAs, GoodConfig, configBytes}
 use Rattle.delays.specs.ClosingRegion.{HoldsClosing}
-use Rattle.edges.specs.declared.edge.EdgeRecord.{EdgeRecord}
-use Rattle.edges.specs.Edges.{edgeBytes, HoldsEdges}
+use Rattle.edges.specs.Edges.{HoldsEdges}
 use Rattle.exploration.specs.declared.plan.Plan.{Plan}
 use Rattle.exploration.specs.declared.head.Head.{Head}
 use Rattle.exploration.specs.Held.{HoldsConfigs}
@@ -27,10 +24,6 @@ use Rattle.exploration.specs.Plans.{Explorable, tableIn, pairsIn, tables
 -- the bytes of a configuration's row, by value
 unfoldable pub rowBytes : Config → List ℕ
 rowBytes c = configBytes c ++ replicate 22 0
-
--- the work space with the record of one edge more, where there is room for it
-unfoldable pub keptEdge : ℕ → ℕ → ℕ → EdgeRecord → List ℕ → List ℕ
-keptEdge at room number e w = if (ltb number room) (splice (at + 16 * number) (edgeBytes e) w) w
 
 -- a head with one arc more
 abbrev pub counted : Head → Head

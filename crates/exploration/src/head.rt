@@ -3,8 +3,10 @@ ghost use mathlib.Core.Path.{_≡_};
 ghost use Prim.Native.Nat.{_+_, _*_, _≤_, _<_};
 ghost use lib.ListN.{length};
 ghost use Rattle.configuration.specs.Configs.{GoodConfig};
+ghost use Rattle.edges.specs.Edges.{edgeBytes};
 ghost use Rattle.rows.specs.Find.{entry, enterOf};
-ghost use Rattle.exploration.specs.Searching.{rowBytes, keptEdge, counted, Arrivable, Arrives, Visitable, Visits, Takable, TakesUp};
+ghost use Rattle.rows.specs.Kept.{keptRecord};
+ghost use Rattle.exploration.specs.Searching.{rowBytes, counted, Arrivable, Arrives, Visitable, Visits, Takable, TakesUp};
 ghost use Rattle.exploration.specs.Starting.{Admittable, Admits, Startable, Enters};
 use crate::offer::Kind;
 use crate::offer::offer;
@@ -20,6 +22,7 @@ use memory::record::InputState;
 use memory::record::ResultState;
 use rows::Entered;
 use rows::enter;
+use rows::keep;
 use workspace::room::Room;
 
 // How many configurations were taken up and how many reached, how many arcs there are between them, whether a step was too long, and whether
@@ -45,19 +48,18 @@ fn enter_config(work: &mut [u8], reached: usize, room: usize, used: usize, c: Co
 // The record of the edge with this number, written where there is room for it.
 fn keep_edge(work: &mut [u8], room: Room, number: usize, e: EdgeRecord)
     requires { ⌜ room .edges + 16 * room .arcs ≤ length (now work) ⌝ }
-    ensures { λ _. ⌜ now (work .exit) ≡ keptEdge (room .edges) (room .arcs) number e (now (work .entry)) ⌝ }
+    ensures { λ _. ⌜ now (work .exit) ≡ keptRecord (room .edges) (room .arcs) number (edgeBytes e) (now (work .entry)) ⌝ }
 {
-    if room.arcs <= number {
-        return;
-    }
-    store_edge(work, room.edges + 16 * number, e);
+    let mut record = [0u8; 6];
+    store_edge(&mut record, 0, e);
+    keep(work, room.edges, room.arcs, number, &record);
 }
 
 impl Head {
     // An arc from the configuration that is taken up.
     fn note(mut self, plan: Plan, work: &mut [u8], j: usize, to: ResultState) -> Head
         requires { ⌜ (plan .room .edges + 16 * plan .room .arcs ≤ length (now work)) × (self .taken < 1024) × (self .arcs < 4294967296) × (j < 8192) ⌝ }
-        ensures { λ r. ⌜ (r ≡ counted self) × (now (work .exit) ≡ keptEdge (plan .room .edges) (plan .room .arcs) (self .arcs) (record { from = record { 0 = self .taken }; arc = j; to = to }) (now (work .entry))) ⌝ }
+        ensures { λ r. ⌜ (r ≡ counted self) × (now (work .exit) ≡ keptRecord (plan .room .edges) (plan .room .arcs) (self .arcs) (edgeBytes (record { from = record { 0 = self .taken }; arc = j; to = to })) (now (work .entry))) ⌝ }
     {
         let room = plan.room;
         let edge = EdgeRecord {

@@ -1,14 +1,14 @@
 -- One step of the search over records, and what the comparison of two lists says.
 use Prim.Native.Nat.{ℕ, zero, suc, _+_, _-_, _*_, _≤_, _<_}
-use mathlib.Core.Path.{_≡_, refl, sym, ap, ap₂, _∙_}
+use mathlib.Core.Path.{_≡_, refl, sym, ap, _∙_}
 use mathlib.Core.List.{List, [], _∷_}
 use mathlib.Core.Bool.{Bool, true, false}
 use native.Mathlib.Omega.{arith}
 use native.Mathlib.Nat.{suc-mul, mul-le-mul-right}
 use lib.ListN.{length, getD}
 use lib.Seq.{ext-getD}
-use lib.Dec.{eqb, leb}
-use borrow.Author.Tests.{eq-eqb, ne-eqb, le-leb, lt-leb, leb-false}
+use lib.Dec.{eqb}
+use borrow.Author.Tests.{ne-eqb, le-leb, lt-leb}
 use Rattle.memory.specs.Region.{part, splice, rows}
 use Rattle.memory.proofs.RowLaws.{mul-step}
 use Rattle.memory.proofs.Laws.{length-part, getD-part}
@@ -16,9 +16,9 @@ use Rattle.memory.specs.declared.record.ResultState.{ResultState}
 use Rattle.rows.specs.declared.Entered.the-variants as E
 use Rattle.rows.specs.declared.Found.{Found}
 use Rattle.rows.specs.declared.Found.the-variants.{At, Nothing}
-use Rattle.automata.specs.Lists.{if, and, sameList}
+use Rattle.automata.specs.Lists.{and, sameList}
 use Rattle.automata.proofs.TestFacts.{T-true, sameList-refl}
-use Rattle.rows.specs.Find.{indexFrom, indexOf, entry, enterBy, enterOf}
+use Rattle.rows.specs.Find.{indexFrom, indexOf, entry, enterOf}
 
 -- two lists that differ at a place
 same-false : (xs ys : List ℕ) (k : ℕ) → (getD xs k 0 ≡ getD ys k 0 → ⊥) → sameList xs ys ≡ false
@@ -93,16 +93,3 @@ pub room-more : (base count room size n : ℕ) → base + room * size ≤ n → 
 room-more base count room size n h k =
     let m : count * size + size ≤ room * size = mul-step count room size k in
     omega arith
-
--- a row is entered only where there is room
-pub enter-room : (base count room : ℕ) (w xs : List ℕ) (s : ResultState) → enterOf base count room w xs .answer ≡ E.New s → count < room
-unfolding enterOf
-enter-room base count room w xs s e = go (indexOf w (rows base (length w) count xs)) e
-  where
-    more : (b : Bool) → leb room count ≡ b → if b (entry E.Full xs) (entry (E.New (record { 0 = count })) (splice (base + count * length w) w xs)) .answer ≡ E.New s → count < room
-    more true t g = let z : _≡_ {A = ℕ} 0 1 = cc in absurd (omega arith)
-    more false t g = leb-false room count t
-
-    go : (f : Found) → enterBy base count room w xs f .answer ≡ E.New s → count < room
-    go (At p) g = let z : _≡_ {A = ℕ} 0 1 = cc in absurd (omega arith)
-    go Nothing g = more (leb room count) refl g

@@ -8,9 +8,9 @@ use native.Mathlib.Nat.{add-zero}
 use lib.ListN.{length, length-append}
 use lib.Dec.{leb}
 use borrow.Author.Tests.{leb-true, leb-false}
-use Rattle.automata.specs.Lists.{if, or, _∈_, here, there, sameList}
+use Rattle.automata.specs.Lists.{if, or, here, there, sameList}
 use Rattle.automata.specs.Explore.{member, insert, indexOf}
-use Rattle.memory.specs.Region.{part, rows, splice}
+use Rattle.memory.specs.Region.{rows, splice}
 use Rattle.memory.specs.declared.record.ResultState.{ResultState}
 use Rattle.memory.proofs.Laws.{length-splice, part-splice-after}
 use Rattle.memory.proofs.RowLaws.{rows-add, mul-step}

@@ -1,3 +1,4 @@
--- What the search for a record and its entry cite.
+-- What the search for a record, its entry and the records kept cite.
 pub mod Find
 pub mod Inserted
+pub mod Kept

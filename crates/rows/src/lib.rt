@@ -6,6 +6,7 @@ ghost use mathlib.Core.Path.{_≡_};
 ghost use Prim.Native.Nat.{_+_, _*_, _≤_, _<_};
 ghost use lib.ListN.{length};
 ghost use Rattle.rows.specs.Find.{indexOf, entry, enterOf};
+ghost use Rattle.rows.specs.Kept.{keptRecord};
 ghost use Rattle.memory.specs.Region.{rows};
 
 // What entering a record came to: it stood there already, it is new, or there is no room for it.
@@ -62,4 +63,15 @@ pub fn enter(work: &mut [u8], base: usize, count: u16, room: u16, wanted: &[u8])
             Entered::New(ResultState(count))
         }
     }
+}
+
+// The record with this number and these bytes, written where there is room for it.
+pub fn keep(work: &mut [u8], base: usize, room: usize, number: usize, bytes: &[u8])
+    requires { ⌜ (base + 16 * room ≤ length (now work)) × (length (now bytes) ≤ 16) ⌝ }
+    ensures { λ _. ⌜ now (work .exit) ≡ keptRecord base room number (now (bytes .entry)) (now (work .entry)) ⌝ }
+{
+    if room <= number {
+        return;
+    }
+    copy_into(work, base + 16 * number, bytes);
 }

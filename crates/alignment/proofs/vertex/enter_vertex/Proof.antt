@@ -1,5 +1,6 @@
 -- `alignment::vertex::enter_vertex` meets its contract. Assumes nothing.
-use Rattle.alignment.proofs.RecordLaws.{enter-fits, entered-row}
+use Rattle.rows.proofs.EntryLaws.{enter-fits, entered-row}
+use Rattle.alignment.proofs.RecordLaws.{length-vertex, row-written}
 use borrow.Author.Needs.{needs}
 use Rattle.alignment.proofs.vertex.enter_vertex.Statement.{statement}
 use Rattle.alignment.proofs.vertex.enter_vertex.Tie as tie
@@ -30,13 +31,13 @@ slice-aggregate-enter : tie.Need-slice-aggregate-enter
 slice-aggregate-enter c = search needs
 
 enter-requires : tie.Need-enter-requires
-enter-requires c κs = let s = c .before .before .before .before .before .before .before .before .before in enter-fits (s .args .v) _ _ _ _ _ (c .before .before .before .before .before .before .put16 .ensures) (c .before .before .before .put162 .ensures) (s .pre .0) (s .pre .1)
+enter-requires c κs = let s = c .before .before .before .before .before .before .before .before .before in enter-fits 4 _ _ (length-vertex (s .args .v)) (row-written (s .args .v) _ _ (c .before .before .before .before .before .before .put16 .ensures) (c .before .before .before .put162 .ensures)) _ _ _ (s .pre .0) (s .pre .1)
 
 same-length : tie.Need-same-length
 same-length c = search needs
 
 returns : tie.Need-returns
-returns c = let s = c .before .before .before .before .before .before .before .before .before .before .before .before in entered-row (s .args .v) _ _ _ _ _ _ _ (c .before .before .before .before .before .before .before .before .before .put16 .ensures) (c .before .before .before .before .before .before .put162 .ensures) (c .before .before .enter .ensures)
+returns c = let s = c .before .before .before .before .before .before .before .before .before .before .before .before in entered-row 4 _ _ (length-vertex (s .args .v)) (row-written (s .args .v) _ _ (c .before .before .before .before .before .before .before .before .before .put16 .ensures) (c .before .before .before .before .before .before .put162 .ensures)) _ _ _ _ _ (c .before .before .enter .ensures)
 
 pub enter-vertex-spec : {M : Type 1} → statement M
 enter-vertex-spec =

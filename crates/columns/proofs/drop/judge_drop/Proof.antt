@@ -1,7 +1,7 @@
 -- `columns::drop::judge_drop` meets its contract. Assumes nothing.
 use denote.Ref.{now}
 use Rattle.memory.specs.Answers.{lent, judgedAs}
-use Rattle.columns.specs.Results.{lentSpace}
+use Rattle.workspace.specs.Room.{lentSpace}
 use mathlib.Core.Path.{sym, ap, _∙_}
 use Rattle.memory.proofs.TableLaws.{judged-sound}
 use Rattle.memory.proofs.SoundLaws.{few-tapes}

@@ -12,7 +12,7 @@ use Rattle.columns.proofs.project.all_tapes.Statement.{statement}
 use Rattle.columns.proofs.project.all_tapes.Tie as tie
 use Rattle.columns.proofs.project.all_tapes.Reads as reads
 use Rattle.columns.proofs.project.all_tapes.Lts as lts
-use Rattle.columns.proofs.project.is_tape.Reads as is-tape-reads
+use Rattle.pairs.proofs.is_tape.Reads as is-tape-reads
 
 abbrev Inv-loop : tie.InvT-loop
 Inv-loop tapes count i₀ i-end i = (i ≤ length tapes) × (i-end ≡ length tapes) × (all (isTape count) (drop i tapes) ≡ all (isTape count) tapes)

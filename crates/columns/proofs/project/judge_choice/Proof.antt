@@ -1,7 +1,7 @@
 -- `columns::project::judge_choice` meets its contract. Assumes nothing.
 use denote.Ref.{now}
 use Rattle.memory.specs.Answers.{lent}
-use Rattle.columns.specs.Results.{lentSpace}
+use Rattle.workspace.specs.Room.{lentSpace}
 use Rattle.columns.proofs.ProjectCall.{project-table-judged, project-width-judged, project-choice-judged, project-space-judged}
 use borrow.Author.Needs.{needs}
 use Rattle.columns.proofs.project.judge_choice.Statement.{statement}

@@ -1,6 +1,6 @@
 -- `columns::room::fits` meets its contract. Assumes nothing.
 use native.Mathlib.Omega.{arith}
-use Rattle.columns.specs.Results.{lentSpace}
+use Rattle.workspace.specs.Room.{lentSpace}
 use Rattle.columns.proofs.RoomLaws.{states-over, arcs-over, both-fit}
 use Rattle.columns.proofs.room.fits.Statement.{statement}
 use Rattle.columns.proofs.room.fits.Tie as tie

@@ -1,7 +1,7 @@
 -- `columns::union::judge_union` meets its contract. Assumes nothing.
 use denote.Ref.{now}
 use Rattle.memory.specs.Answers.{lent}
-use Rattle.columns.specs.Results.{lentSpace}
+use Rattle.workspace.specs.Room.{lentSpace}
 use native.Mathlib.Omega.{arith}
 use Rattle.columns.proofs.UnionCall.{union-first-judged, union-second-judged, union-tapes-judged, sums-small, union-space-judged}
 use borrow.Author.Needs.{needs}

@@ -1,5 +1,6 @@
 -- `exploration::head::enter_config` meets its contract. Assumes nothing.
-use Rattle.exploration.proofs.HeldLaws.{enter-fits, entered-row}
+use Rattle.rows.proofs.EntryLaws.{enter-fits, entered-row}
+use Rattle.exploration.proofs.HeldLaws.{row-written, length-row-bytes}
 use borrow.Author.Needs.{needs}
 use Rattle.exploration.proofs.head.enter_config.Statement.{statement}
 use Rattle.exploration.proofs.head.enter_config.Tie as tie
@@ -24,13 +25,13 @@ slice-aggregate-enter : tie.Need-slice-aggregate-enter
 slice-aggregate-enter c = search needs
 
 enter-requires : tie.Need-enter-requires
-enter-requires c κs = let s = c .before .before .before .before .before .before in enter-fits _ _ _ _ _ _ (s .pre .3) (c .before .before .before .store-config .ensures) (s .pre .0) (s .pre .1)
+enter-requires c κs = let s = c .before .before .before .before .before .before in enter-fits 320 _ _ (length-row-bytes _ _ (s .pre .3)) (row-written _ _ _ (s .pre .3) (c .before .before .before .store-config .ensures)) _ _ _ (s .pre .0) (s .pre .1)
 
 same-length : tie.Need-same-length
 same-length c = search needs
 
 returns : tie.Need-returns
-returns c = let s = c .before .before .before .before .before .before .before .before .before in entered-row _ _ _ _ _ _ _ _ (s .pre .3) (c .before .before .before .before .before .before .store-config .ensures) (c .before .before .enter .ensures)
+returns c = let s = c .before .before .before .before .before .before .before .before .before in entered-row 320 _ _ (length-row-bytes _ _ (s .pre .3)) (row-written _ _ _ (s .pre .3) (c .before .before .before .before .before .before .store-config .ensures)) _ _ _ _ _ (c .before .before .enter .ensures)
 
 pub enter-config-spec : {M : Type 1} → statement M
 enter-config-spec =

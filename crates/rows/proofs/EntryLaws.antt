@@ -1,9 +1,10 @@
--- What the entry of a row leaves of the work space, whatever stands in it.
+-- What the entry of a row asks of the work space and leaves of it, whatever stands in it.
 use Prim.Native.Nat.{ℕ, _+_, _*_, _≤_, _<_}
 use mathlib.Core.Path.{_≡_, refl, ap, _∙_}
 use mathlib.Core.Bool.{Bool, true, false}
 use mathlib.Core.List.{List}
 use native.Mathlib.Omega.{arith}
+use native.Mathlib.Nat.{mul-comm}
 use lib.Dec.{leb}
 use lib.ListN.{length}
 use borrow.Author.Tests.{leb-false}
@@ -51,3 +52,14 @@ module _ (base count room : ℕ) (row v : List ℕ) where
       go : (f : Found) → entry (E.New n) w ≡ enterBy base count room row v f → count < room
       go (At s) e = let z : E.New n ≡ E.At s = ap (λ (x : Find.Entry). x .answer) e in let y : _≡_ {A = ℕ} 0 1 = cc in absurd (omega arith)
       go Nothing e = new (leb room count) refl e
+
+-- a row made of these bytes has room, and it is these bytes that are entered
+module _ (size : ℕ) (bytes row : List ℕ) (sized : length bytes ≡ size) (made : row ≡ bytes) where
+  pub enter-fits : (n count room : ℕ) → size * room ≤ n → count ≤ room → (0 + room * length row ≤ n) × (count ≤ room)
+  enter-fits n count room h k =
+      let l : length row ≡ size = ap length made ∙ sized in
+      let c : room * size ≡ size * room = mul-comm room size in
+      (rw (l, c) (omega arith), k)
+
+  pub entered-row : (count room : ℕ) (w v : List ℕ) (r : Entered) → entry r v ≡ enterOf 0 count room row w → entry r v ≡ enterOf 0 count room bytes w
+  entered-row count room w v r t = t ∙ ap (λ (z : List ℕ). enterOf 0 count room z w) made
