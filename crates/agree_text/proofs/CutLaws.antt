@@ -16,7 +16,7 @@ use Rattle.automata.proofs.TestFacts.{T-same, and-T, T-and}
 use Rattle.automata.proofs.AnswerFacts.{judge-refuses}
 use Rattle.pairs.specs.PairBytes.{pairsOf}
 use Rattle.pairs.proofs.TestLaws.{within-named}
-use Rattle.agree_text.specs.PairBytes.{tapeByte, pairBytes}
+use Rattle.pair_line.specs.PairBytes.{tapeByte, pairBytes}
 
 module _ (n : ℕ) (h : n ≤ 8) where
   in-range : (j : ℕ) → T (isTape n j) → (1 ≤ j) × (j ≤ n)

@@ -20,17 +20,17 @@ use Rattle.memory.specs.Region.{splice}
 use Rattle.memory.specs.declared.answer.Refusal.{Refusal}
 use Rattle.memory.proofs.Laws.{length-splice, take-splice-end}
 use Rattle.lines.proofs.LineLaws.{drop-take}
-use Rattle.text.specs.Recode.{recoded}
-use Rattle.text.proofs.RecodeLaws.{recoded-take, length-recoded}
-use Rattle.agree_text.specs.declared.line.LineParts.{LineParts}
-use Rattle.agree_text.specs.declared.line.PairLine.{PairLine}
-use Rattle.agree_text.specs.declared.line.PairLine.the-variants as line
-use Rattle.agree_text.specs.PairBytes.{pairBytes}
-use Rattle.agree_text.specs.PairColumns.{pairsRead, bytesOfColumns}
-use Rattle.agree_text.specs.LineParts.{countRead, lineRead, restRead, partsRead, partsAs}
+use Rattle.text_store.specs.Recode.{recoded}
+use Rattle.text_store.proofs.RecodeLaws.{recoded-take, length-recoded}
+use Rattle.pair_line.specs.declared.line.LineParts.{LineParts}
+use Rattle.pair_line.specs.declared.line.PairLine.{PairLine}
+use Rattle.pair_line.specs.declared.line.PairLine.the-variants as line
+use Rattle.pair_line.specs.PairBytes.{pairBytes}
+use Rattle.pair_line.specs.PairColumns.{pairsRead, bytesOfColumns}
+use Rattle.pair_line.specs.LineParts.{countRead, lineRead, restRead, partsRead, partsAs}
 use Rattle.agree_text.specs.FirstLine.{lineBytes, FirstLine}
-use Rattle.agree_text.proofs.PairLaws.{pair-sized, pairs-kept}
-use Rattle.agree_text.proofs.LineLaws.{lineParts, toParts, line-is, count-known, places}
+use Rattle.pair_line.proofs.PairLaws.{pair-sized, pairs-kept}
+use Rattle.pair_line.proofs.LineLaws.{lineParts, toParts, line-is, count-known, places}
 
 -- the number of pairs first, then the rest of the line
 pub pairs-by-count : (x : List ℕ) → readPairs x ≡ (countRead x >>= λ n. readFirst (pairLine n) (drop 3 x))

@@ -33,10 +33,10 @@ use Rattle.memory.specs.declared.answer.TableAnswer.the-variants as table
 use Rattle.memory.specs.declared.answer.Counts.{Counts}
 use Rattle.memory.specs.Answers.{refusalNumber, tableAs, lent}
 use Rattle.pairs.specs.PairBytes.{pairsOf}
-use Rattle.agree_text.specs.declared.line.LineParts.{LineParts}
-use Rattle.agree_text.specs.declared.line.PairLine.{PairLine}
-use Rattle.agree_text.specs.declared.line.PairLine.the-variants as line
-use Rattle.agree_text.specs.PairBytes.{pairBytes}
+use Rattle.pair_line.specs.declared.line.LineParts.{LineParts}
+use Rattle.pair_line.specs.declared.line.PairLine.{PairLine}
+use Rattle.pair_line.specs.declared.line.PairLine.the-variants as line
+use Rattle.pair_line.specs.PairBytes.{pairBytes}
 use Rattle.agree_text.specs.FirstLine.{lineAs, lineBytes, countOf, nextOf, FirstLine}
 use Rattle.agree_text.specs.Wrote.{Wrote}
 use Rattle.agree_text.specs.Kept.{room, keptOf, keptText}

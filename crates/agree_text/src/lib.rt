@@ -1,15 +1,13 @@
 // The text of the program `agree`: the first line of its input, and the line of a refusal.
 pub mod keep;
-pub mod line;
-pub mod pair;
 
 use crate::keep::keep_text;
-use crate::line::PairLine;
-use crate::line::read_line;
-use crate::pair::store_pairs;
 use memory::answer::Refusal;
 use memory::answer::refusal_number;
 use memory::bytes::copy_into;
+use pair_line::line::PairLine;
+use pair_line::line::read_line;
+use pair_line::pair::store_pairs;
 use text_columns::decimal::write_decimal;
 ghost use Prim.Native.Nat.{_≤_};
 ghost use lib.ListN.{length};

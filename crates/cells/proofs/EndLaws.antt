@@ -12,8 +12,8 @@ use Rattle.memory.specs.declared.record.Weight.{Weight}
 use Rattle.memory.specs.declared.record.Weight.the-variants.{Absent, Present}
 use Rattle.memory.specs.declared.record.State.{State}
 use Rattle.memory.proofs.RowLaws.{mul-step}
-use Rattle.cells.specs.Distances.{far, weightOf, cellsOf, lowered, Lowers}
-use Rattle.cells.specs.Ends.{endedBy, started, startedFrom, Starts, StartsAll, Stated, beginning, fromState, leastUpTo}
+use Rattle.cell_moves.specs.Distances.{far, weightOf, cellsOf, lowered, Lowers}
+use Rattle.distances.specs.Ends.{endedBy, started, startedFrom, Starts, StartsAll, Stated, beginning, fromState, leastUpTo}
 
 -- ---- final weights
 

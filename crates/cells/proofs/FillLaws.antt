@@ -19,20 +19,20 @@ use Rattle.memory.proofs.SoundLaws.{states-lent}
 use Rattle.automata.proofs.Cells.{place}
 use Rattle.tuple.specs.declared.Strings.{Strings}
 use Rattle.tuple.specs.Strings.{Stands}
-use Rattle.cells.specs.declared.spot.Spot.{Spot}
-use Rattle.cells.specs.declared.spot.Spans.{Spans}
-use Rattle.cells.specs.Distances.{far, weightOf, cellsOf}
-use Rattle.cells.specs.Ends.{startedFrom, StartsAll, Stated, leastUpTo}
+use Rattle.cell_moves.specs.declared.spot.Spot.{Spot}
+use Rattle.cell_moves.specs.declared.spot.Spans.{Spans}
+use Rattle.cell_moves.specs.Distances.{far, weightOf, cellsOf}
+use Rattle.distances.specs.Ends.{startedFrom, StartsAll, Stated, leastUpTo}
 use Rattle.cells.specs.Fillable.{Fillable}
-use Rattle.cells.specs.Spots.{Spanned, spotOf, Placed, Positive}
-use Rattle.cells.specs.Sweeps.{Ready, Spaced, Settles}
-use Rattle.cells.proofs.CellLaws.{length-cells}
-use Rattle.cells.proofs.DistanceLaws.{Distances}
-use Rattle.cells.proofs.RoundMeaning.{AtSpot, ready, settled-done}
-use Rattle.cells.proofs.SpotMeaning.{digits, place-digits, all-at, spans-positive, at-spot}
-use Rattle.cells.proofs.MoveMeaning.{combinations-positive}
-use Rattle.cells.proofs.StartMeaning.{sixteens, begun-distances}
-use Rattle.cells.proofs.LeastMeaning.{stands-short, lookup-means}
+use Rattle.cell_moves.specs.Spots.{Spanned, spotOf, Placed, Positive}
+use Rattle.distances.specs.Sweeps.{Ready, Spaced, Settles}
+use Rattle.cell_moves.proofs.CellLaws.{length-cells}
+use Rattle.distances.proofs.DistanceLaws.{Distances}
+use Rattle.distances.proofs.RoundMeaning.{AtSpot, ready, settled-done}
+use Rattle.distances.proofs.SpotMeaning.{digits, place-digits, all-at, spans-positive, at-spot}
+use Rattle.distances.proofs.MoveMeaning.{combinations-positive}
+use Rattle.distances.proofs.StartMeaning.{sixteens, begun-distances}
+use Rattle.distances.proofs.LeastMeaning.{stands-short, lookup-means}
 
 -- the combinations from a number on are done
 pub record Filling (c : Counts) (states arcs text : List ℕ) (s : Strings) (spans : Spans) (room left : ℕ) (w : List ℕ) : Type 0 where

@@ -1,16 +1,16 @@
 // The cells of final states at the last combination of positions, and the least weight from the initial states at the first.
 use crate::answer::Weight64;
-use crate::cell::cell_number;
-use crate::cell::lower;
-use crate::cell::weight_at;
+use cell_moves::cell::cell_number;
+use cell_moves::cell::lower;
+use cell_moves::cell::weight_at;
 use memory::record::Weight;
 use memory::record::load_state;
 ghost use mathlib.Core.Path.{_≡_};
 ghost use Prim.Native.Nat.{_+_, _*_, _≤_, _<_, min};
 ghost use lib.ListN.{length, getD};
 ghost use Rattle.cells.specs.Answers.{optionAs};
-ghost use Rattle.cells.specs.Distances.{far, weightOf, cellsOf};
-ghost use Rattle.cells.specs.Ends.{Starts, StartsAll, Stated, fromState, leastUpTo};
+ghost use Rattle.cell_moves.specs.Distances.{far, weightOf, cellsOf};
+ghost use Rattle.distances.specs.Ends.{Starts, StartsAll, Stated, fromState, leastUpTo};
 
 // The final weight of a state, where it has one, in its cell at the last combination.
 fn start_state(states: &[u8], q: usize, all: usize, work: &mut [u8])

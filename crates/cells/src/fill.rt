@@ -1,12 +1,12 @@
 // The least weight of a tuple: combinations of positions are worked off from the last to the first, so that an arc with a symbol leads to one
 // that is done; the least over the initial states at the first is the answer.
 use crate::answer::Weight64;
-use crate::cell::clear_cells;
 use crate::ends::least_from;
 use crate::ends::start_states;
 use crate::relax::settle;
-use crate::spot::spans_of;
-use crate::spot::spot_at;
+use cell_moves::cell::clear_cells;
+use cell_moves::spot::spans_of;
+use cell_moves::spot::spot_at;
 use memory::answer::Counts;
 use tuple::Strings;
 ghost use mathlib.Core.Path.{_≡_};

@@ -1,8 +1,5 @@
 // The least weight of a tuple, by shortest distances on cells: one for each state and combination of positions in the strings.
 pub mod answer;
-pub mod cell;
 pub mod ends;
 pub mod fill;
-pub mod moves;
 pub mod relax;
-pub mod spot;

@@ -1,11 +1,11 @@
 // Relaxation at one combination of positions: each arc whose labels continue the strings may lower the weight of its source.
-use crate::cell::cell_number;
-use crate::cell::lower;
-use crate::cell::weight_at;
-use crate::moves::Step;
-use crate::moves::moved_on;
-use crate::moves::no_symbol;
-use crate::spot::Spot;
+use cell_moves::cell::cell_number;
+use cell_moves::cell::lower;
+use cell_moves::cell::weight_at;
+use cell_moves::moves::Step;
+use cell_moves::moves::moved_on;
+use cell_moves::moves::no_symbol;
+use cell_moves::spot::Spot;
 use memory::answer::Counts;
 use memory::bytes::get16;
 use memory::bytes::get32;
@@ -13,8 +13,8 @@ ghost use Prim.Native.Nat.{_+_, _*_, _≤_};
 ghost use mathlib.Core.Path.{_≡_};
 ghost use mathlib.Core.Bool.{not};
 ghost use Rattle.automata.specs.Lists.{and, or};
-ghost use Rattle.cells.specs.Sweeps.{Passable, Spaced, Ready, Visits, Takes, Sweeps, Repeats, Settles};
-ghost use Rattle.cells.specs.Moves.{noSymbol, Laid};
+ghost use Rattle.distances.specs.Sweeps.{Passable, Spaced, Ready, Visits, Takes, Sweeps, Repeats, Settles};
+ghost use Rattle.cell_moves.specs.Moves.{noSymbol, Laid};
 ghost use lib.ListN.{length};
 
 // The arc whose record stands at `at`. Tells whether the weight of its source became less.

@@ -1,8 +1,8 @@
 // Tapes dropped by a mask: in place, as a step of a join, and as a call.
-use crate::choose::choose_arcs;
-use crate::kept::tapes_left;
-use crate::room::copy_table;
-use crate::room::fits;
+use column_records::choose::choose_arcs;
+use column_records::kept::tapes_left;
+use column_records::room::copy_table;
+use column_records::room::fits;
 use memory::answer::Counts;
 use memory::answer::Judged;
 use memory::answer::Refusal;
@@ -18,7 +18,7 @@ ghost use Rattle.automata.specs.Calls.Drop.{inMask, dropAnswer, dropOutcome};
 ghost use Rattle.automata.specs.Calls.JoinSteps.{dropStep};
 ghost use Rattle.automata.specs.Calls.Outcome.{put, madeOf, slicesOf};
 ghost use Rattle.memory.specs.Answers.{lent, countsAs, judgedAs, tableAs};
-ghost use Rattle.columns.specs.Choice.{Droppable};
+ghost use Rattle.column_records.specs.Choice.{Droppable};
 ghost use Rattle.workspace.specs.Room.{lentSpace};
 
 // The table in `states` and `arcs` without the tapes that the mask marks, where it stands: a step of a join.

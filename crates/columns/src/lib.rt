@@ -1,8 +1,4 @@
 // Columns of tables in memory: the union of two tables, the tapes of a table chosen by a list, and tapes dropped by a mask.
-pub mod choose;
 pub mod drop;
-pub mod kept;
 pub mod project;
-pub mod raise;
-pub mod room;
 pub mod union;

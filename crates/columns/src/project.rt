@@ -1,7 +1,7 @@
 // Tapes chosen by a list.
-use crate::choose::choose_arcs;
-use crate::room::copy_table;
-use crate::room::fits;
+use column_records::choose::choose_arcs;
+use column_records::room::copy_table;
+use column_records::room::fits;
 use memory::answer::Counts;
 use memory::answer::Judged;
 use memory::answer::Refusal;
@@ -19,7 +19,7 @@ ghost use Rattle.automata.specs.Calls.Project.{projectAnswer, projectOutcome};
 ghost use Rattle.automata.specs.Calls.Outcome.{put, madeOf, slicesOf};
 ghost use Rattle.memory.specs.Answers.{lent, countsAs, judgedAs, tableAs};
 ghost use Rattle.workspace.specs.Room.{lentSpace};
-ghost use Rattle.columns.specs.Results.{Choosable};
+ghost use Rattle.column_records.specs.Results.{Choosable};
 
 // Whether each byte is one of so many tapes, counted from 1.
 fn all_tapes(tapes: &[u8], count: usize) -> bool

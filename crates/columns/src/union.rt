@@ -1,7 +1,7 @@
 // The union of two tables: the second appended to the first.
-use crate::raise::raise_arcs;
-use crate::room::copy_table;
-use crate::room::fits;
+use column_records::raise::raise_arcs;
+use column_records::room::copy_table;
+use column_records::room::fits;
 use memory::answer::Counts;
 use memory::answer::Judged;
 use memory::answer::Refusal;
@@ -16,7 +16,7 @@ ghost use Rattle.automata.specs.Calls.Union.{unionAnswer, unionOutcome};
 ghost use Rattle.automata.specs.Calls.Outcome.{put, madeOf, slicesOf};
 ghost use Rattle.memory.specs.Answers.{lent, countsAs, judgedAs, tableAs};
 ghost use Rattle.workspace.specs.Room.{lentSpace};
-ghost use Rattle.columns.specs.Results.{Appends};
+ghost use Rattle.column_records.specs.Results.{Appends};
 
 // The first refusal of the call: the first table, the second, their tape counts, the space lent to the result.
 fn judge_union(

@@ -21,9 +21,9 @@ use Rattle.memory.specs.Region.{rows}
 use Rattle.delays.specs.ClosingRegion.{HoldsClosing}
 use Rattle.rows.proofs.SearchLaws.{inserted-longer}
 use Rattle.edges.proofs.EdgeLaws.{holds-none}
-use Rattle.exploration.specs.declared.plan.Plan.{Plan}
+use Rattle.offers.specs.declared.plan.Plan.{Plan}
 use Rattle.exploration.specs.declared.head.Head.{Head}
-use Rattle.exploration.specs.Plans.{Explorable, tableIn, pairsIn, tablesIn, viableIn}
+use Rattle.offers.specs.Plans.{Explorable, tableIn, pairsIn, tablesIn, viableIn}
 use Rattle.exploration.specs.Searching.{ConfigSearch, Holds, Comes}
 use Rattle.exploration.specs.Starting.{withConfigs, startBy, startsUpTo, Startable, Enters, Beginnable, Begun}
 use Rattle.exploration.proofs.StartLaws.{state-count}

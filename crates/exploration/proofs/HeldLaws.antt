@@ -30,12 +30,12 @@ use Rattle.delays.proofs.KeptLaws.{holds-part}
 use Rattle.delays.proofs.TestLaws.{length-closings}
 use Rattle.edges.specs.Edges.{edgeBytes, recordOf}
 use Rattle.edges.proofs.EdgeLaws.{length-edge, holds-kept, holds-more, holds-beyond}
-use Rattle.exploration.specs.declared.plan.Plan.{Plan}
+use Rattle.offers.specs.declared.plan.Plan.{Plan}
 use Rattle.exploration.specs.declared.head.Head.{Head}
-use Rattle.exploration.specs.Held.{rowOf}
-use Rattle.exploration.specs.Plans.{Explorable, tablesIn, StoredIn}
+use Rattle.offers.specs.Held.{rowOf}
+use Rattle.offers.specs.Plans.{Explorable, tablesIn, StoredIn}
 use Rattle.exploration.specs.Searching.{rowBytes, counted, ConfigSearch, Holds}
-use Rattle.exploration.proofs.FormLaws.{form-back, length-row, rows-tell}
+use Rattle.offers.proofs.FormLaws.{form-back, length-row, rows-tell}
 
 -- ---- a row and an edge record
 

@@ -1,7 +1,5 @@
 -- Laws that belong to no one function.
 pub mod PlanLaws
-pub mod FormLaws
-pub mod OfferLaws
 pub mod HeldLaws
 pub mod VisitLaws
 pub mod TurnLaws

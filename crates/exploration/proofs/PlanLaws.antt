@@ -8,8 +8,8 @@ use Rattle.automata.specs.Memory.{Sound}
 use Rattle.memory.specs.Answers.{lent}
 use Rattle.memory.specs.Pairs.{Named}
 use Rattle.workspace.specs.Room.{Divides}
-use Rattle.exploration.specs.declared.plan.Plan.{Plan}
-use Rattle.exploration.specs.Plans.{Explorable}
+use Rattle.offers.specs.declared.plan.Plan.{Plan}
+use Rattle.offers.specs.Plans.{Explorable}
 
 pub explorable-room : (p : Plan) (states arcs : List ℕ) (n m size : ℕ) → Sound (lent (p .counts) states arcs) → Named (p .counts .tapes) (p .pairs) → length (p .pairs .pairs) ≡ 4
     → p .limit ≤ 64 → Divides n m (p .counts .states) size (p .room) → Explorable p states arcs size

@@ -21,9 +21,9 @@ use Rattle.automata.proofs.IntersectSteps.{delayed-late}
 use Rattle.memory.specs.Answers.{lent}
 use Rattle.rows.proofs.SearchLaws.{searched-begun, searched-whole}
 use Rattle.delays.specs.ClosingRegion.{WritesClosing}
-use Rattle.exploration.specs.declared.plan.Plan.{Plan}
+use Rattle.offers.specs.declared.plan.Plan.{Plan}
 use Rattle.exploration.specs.declared.head.Head.{Head}
-use Rattle.exploration.specs.Plans.{Explorable, tableIn, pairsIn, viableIn}
+use Rattle.offers.specs.Plans.{Explorable, tableIn, pairsIn, viableIn}
 use Rattle.exploration.specs.Searching.{ConfigSearch, Holds, Comes, Takable, TakesUp}
 use Rattle.exploration.specs.Starting.{Beginnable, Begun}
 use Rattle.exploration.specs.Exploring.{begunSearch, ComesToReached, Runnable, Runs, Explored}

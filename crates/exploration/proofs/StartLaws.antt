@@ -31,13 +31,13 @@ use Rattle.configuration.specs.declared.config.Config.{Config}
 use Rattle.configuration.specs.Configs.{configAs, GoodConfig, Starts}
 use Rattle.delays.specs.ClosingRegion.{HoldsClosing}
 use Rattle.delays.proofs.TestLaws.{length-closings}
-use Rattle.exploration.specs.declared.plan.Plan.{Plan}
+use Rattle.offers.specs.declared.plan.Plan.{Plan}
 use Rattle.exploration.specs.declared.head.Head.{Head}
-use Rattle.exploration.specs.Plans.{Explorable, tableIn, pairsIn, tablesIn, viableIn}
-use Rattle.exploration.specs.Offers.{TellsViable}
+use Rattle.offers.specs.Plans.{Explorable, tableIn, pairsIn, tablesIn, viableIn}
+use Rattle.offers.specs.Offers.{TellsViable}
 use Rattle.exploration.specs.Searching.{rowBytes, Comes}
 use Rattle.exploration.specs.Starting.{withConfigs, Admittable, Admits, startBy, Startable, Enters}
-use Rattle.exploration.proofs.FormLaws.{stored-form, not-long}
+use Rattle.offers.proofs.FormLaws.{stored-form, not-long}
 use Rattle.exploration.proofs.HeldLaws.{was-at, was-new, was-full, inserted-held}
 use Rattle.exploration.proofs.VisitLaws.{withReached}
 

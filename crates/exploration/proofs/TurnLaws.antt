@@ -31,12 +31,12 @@ use Rattle.configuration.specs.declared.config.Config.{Config}
 use Rattle.configuration.specs.Leftovers.{outside}
 use Rattle.configuration.specs.Configs.{configAs, GoodConfig, configBytes, configAt}
 use Rattle.configuration.proofs.RoundLaws.{length-config, config-row, row-stored, load-stored}
-use Rattle.exploration.specs.declared.plan.Plan.{Plan}
+use Rattle.offers.specs.declared.plan.Plan.{Plan}
 use Rattle.exploration.specs.declared.head.Head.{Head}
-use Rattle.exploration.specs.Held.{configOf, rowOf}
-use Rattle.exploration.specs.Plans.{Explorable, tableIn, pairsIn, viableIn, StoredIn}
+use Rattle.offers.specs.Held.{configOf, rowOf}
+use Rattle.offers.specs.Plans.{Explorable, tableIn, pairsIn, viableIn, StoredIn}
 use Rattle.exploration.specs.Searching.{ConfigSearch, Holds, Comes, noteOffer, Visitable, Visits, Takable, TakesUp}
-use Rattle.exploration.proofs.OfferLaws.{arc-count, arc-exists}
+use Rattle.offers.proofs.OfferLaws.{arc-count, arc-exists}
 
 -- ---- the configuration that is loaded
 

@@ -30,16 +30,16 @@ use Rattle.configuration.specs.Configs.{configAs}
 use Rattle.edges.specs.declared.edge.EdgeRecord.{EdgeRecord}
 use Rattle.edges.specs.Edges.{edgeBytes}
 use Rattle.edges.proofs.EdgeLaws.{length-edge}
-use Rattle.exploration.specs.declared.plan.Plan.{Plan}
+use Rattle.offers.specs.declared.plan.Plan.{Plan}
 use Rattle.exploration.specs.declared.head.Head.{Head}
-use Rattle.exploration.specs.declared.offer.Kind.{Kind}
-use Rattle.exploration.specs.declared.offer.Kind.the-variants.{Nothing, Late, To}
-use Rattle.exploration.specs.declared.offer.Offered.{Offered}
-use Rattle.exploration.specs.Held.{rowOf}
-use Rattle.exploration.specs.Plans.{Explorable, tableIn, pairsIn, viableIn}
-use Rattle.exploration.specs.Offers.{offerBy, Offers}
+use Rattle.offers.specs.declared.offer.Kind.{Kind}
+use Rattle.offers.specs.declared.offer.Kind.the-variants.{Nothing, Late, To}
+use Rattle.offers.specs.declared.offer.Offered.{Offered}
+use Rattle.offers.specs.Held.{rowOf}
+use Rattle.offers.specs.Plans.{Explorable, tableIn, pairsIn, viableIn}
+use Rattle.offers.specs.Offers.{offerBy, Offers}
 use Rattle.exploration.specs.Searching.{rowBytes, counted, ConfigSearch, Holds, Comes, Arrivable, Arrives, noteOffer, Visitable, Visits}
-use Rattle.exploration.proofs.OfferLaws.{arc-count}
+use Rattle.offers.proofs.OfferLaws.{arc-count}
 use Rattle.exploration.proofs.HeldLaws.{was-at, was-new, was-full, inserted-held, edge-held}
 
 -- a head with so many configurations

@@ -8,9 +8,9 @@ use Rattle.automata.specs.Config as automata
 use Rattle.automata.specs.Explore.{edges}
 use Rattle.automata.specs.Search.{searchFrom}
 use Rattle.automata.specs.Intersect.{starts, out, reachedConfigs, delayed}
-use Rattle.exploration.specs.declared.plan.Plan.{Plan}
+use Rattle.offers.specs.declared.plan.Plan.{Plan}
 use Rattle.exploration.specs.declared.head.Head.{Head}
-use Rattle.exploration.specs.Plans.{Explorable, tableIn, pairsIn, viableIn}
+use Rattle.offers.specs.Plans.{Explorable, tableIn, pairsIn, viableIn}
 use Rattle.exploration.specs.Searching.{ConfigSearch, Comes}
 
 module _ (p : Plan) (states arcs : List ℕ) where

@@ -1,7 +1,4 @@
 -- What the contracts of the search over configurations cite.
-pub mod Held
-pub mod Plans
-pub mod Offers
 pub mod Searching
 pub mod Starting
 pub mod Exploring

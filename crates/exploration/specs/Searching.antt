@@ -16,10 +16,10 @@ use Rattle.configuration.specs.Leftovers.{outside}
 use Rattle.configuration.specs.Configs.{configAs, GoodConfig, configBytes}
 use Rattle.delays.specs.ClosingRegion.{HoldsClosing}
 use Rattle.edges.specs.Edges.{HoldsEdges}
-use Rattle.exploration.specs.declared.plan.Plan.{Plan}
+use Rattle.offers.specs.declared.plan.Plan.{Plan}
 use Rattle.exploration.specs.declared.head.Head.{Head}
-use Rattle.exploration.specs.Held.{HoldsConfigs}
-use Rattle.exploration.specs.Plans.{Explorable, tableIn, pairsIn, tablesIn, viableIn, StoredIn}
+use Rattle.offers.specs.Held.{HoldsConfigs}
+use Rattle.offers.specs.Plans.{Explorable, tableIn, pairsIn, tablesIn, viableIn, StoredIn}
 
 -- the bytes of a configuration's row, by value
 unfoldable pub rowBytes : Config → List ℕ

@@ -15,9 +15,9 @@ use Rattle.automata.specs.Intersect.{starts}
 use Rattle.configuration.specs.declared.config.Config.{Config}
 use Rattle.configuration.specs.Configs.{configAs, GoodConfig}
 use Rattle.delays.specs.ClosingRegion.{HoldsClosing}
-use Rattle.exploration.specs.declared.plan.Plan.{Plan}
+use Rattle.offers.specs.declared.plan.Plan.{Plan}
 use Rattle.exploration.specs.declared.head.Head.{Head}
-use Rattle.exploration.specs.Plans.{Explorable, tableIn, pairsIn, tablesIn, viableIn, StoredIn}
+use Rattle.offers.specs.Plans.{Explorable, tableIn, pairsIn, tablesIn, viableIn, StoredIn}
 use Rattle.exploration.specs.Searching.{ConfigSearch, Holds, Comes}
 
 -- the search with further configurations, and no edge more

@@ -1,11 +1,11 @@
 // The search over all configurations that are reached.
 ghost use lib.ListN.{length};
-ghost use Rattle.exploration.specs.Plans.{Explorable};
+ghost use Rattle.offers.specs.Plans.{Explorable};
 ghost use Rattle.exploration.specs.Starting.{Beginnable, Begun};
 ghost use Rattle.exploration.specs.Exploring.{Runnable, Runs, Explored};
 use crate::head::Head;
-use crate::plan::Plan;
 use delays::closing_tables;
+use offers::plan::Plan;
 
 // The configurations in which paths start.
 fn begin(plan: Plan, states: &[u8], work: &mut [u8]) -> Head

@@ -1,5 +1,3 @@
 // The search over the configurations of the auto-intersection that are reached, in work space.
 pub mod explore;
 pub mod head;
-pub mod offer;
-pub mod plan;

@@ -1,8 +1,4 @@
 -- Laws of the auto-intersection as it is called.
-pub mod KeepLaws
-pub mod FinishLaws
-pub mod PrepareLaws
-pub mod CallLaws
 pub mod ConfigRows
 pub mod SearchLaws
 pub mod StepLaws

@@ -20,14 +20,14 @@ use Rattle.trimming.specs.Rows.{RowOf, RowsOf}
 use Rattle.trimming.proofs.StateModel.{rows-of-codes}
 use Rattle.workspace.specs.declared.room.Room.{Room}
 use Rattle.workspace.specs.Room.{Divides}
-use Rattle.exploration.specs.declared.plan.Plan.{Plan}
-use Rattle.exploration.specs.Held.{configOf, rowOf, Stored}
-use Rattle.exploration.specs.Plans.{Explorable, tableIn, pairsIn, viableIn}
+use Rattle.offers.specs.declared.plan.Plan.{Plan}
+use Rattle.offers.specs.Held.{configOf, rowOf, Stored}
+use Rattle.offers.specs.Plans.{Explorable, tableIn, pairsIn, viableIn}
 use Rattle.exploration.specs.declared.head.Head.{Head}
 use Rattle.exploration.specs.Exploring.{reachedIn, Explored}
-use Rattle.intersect.specs.declared.prepare.Prepared.{Prepared}
-use Rattle.intersect.specs.Prepared.{Prepares}
-use Rattle.intersect.specs.Searched.{Searched, Settleable}
+use Rattle.intersect_result.specs.declared.prepare.Prepared.{Prepared}
+use Rattle.intersect_result.specs.Prepared.{Prepares}
+use Rattle.intersect_result.specs.Searched.{Searched, Settleable}
 use Rattle.intersect.proofs.ConfigRows.{row-of}
 
 -- the row of a configuration that is stored holds it

@@ -19,8 +19,8 @@ use Rattle.memory.specs.declared.pair.PairList.{PairList}
 use Rattle.memory.specs.Answers.{lent}
 use Rattle.workspace.specs.declared.room.RoomAnswer.{RoomAnswer}
 use Rattle.workspace.specs.Room.{lentSpace, Divides, RoomFor}
-use Rattle.exploration.specs.Plans.{Explorable}
-use Rattle.intersect.specs.Searched.{tableBy}
+use Rattle.offers.specs.Plans.{Explorable}
+use Rattle.intersect_result.specs.Searched.{tableBy}
 use Rattle.intersect.specs.Step.{Intersectable}
 use Rattle.intersect.proofs.SearchLaws.{searchable}
 

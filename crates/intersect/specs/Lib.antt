@@ -1,5 +1,2 @@
 -- What the contracts of the auto-intersection as it is called cite.
-pub mod Standing
-pub mod Searched
-pub mod Prepared
 pub mod Step

@@ -1,11 +1,11 @@
 // The call: a refusal before any configuration is reached, the search, the answer that it settles, and work space cleared.
-use crate::prepare::prepare;
 use crate::step::reach;
-use exploration::plan::Plan;
+use intersect_result::prepare::prepare;
 use memory::answer::Counts;
 use memory::answer::Judged;
 use memory::answer::TableAnswer;
 use memory::bytes::zero;
+use offers::plan::Plan;
 use pairs::PairsJudged;
 use pairs::judge_pairs;
 ghost use mathlib.Core.Path.{_≡_};
@@ -16,7 +16,7 @@ ghost use Rattle.automata.specs.Calls.Intersect.{intersectAnswer, intersectOutc
 ghost use Rattle.memory.specs.Answers.{lent, tableAs};
 ghost use Rattle.pairs.specs.PairBytes.{pairsOf};
 ghost use Rattle.pairs.specs.Judgement.{KeepJudged};
-ghost use Rattle.intersect.specs.Prepared.{Listed};
+ghost use Rattle.intersect_result.specs.Prepared.{Listed};
 
 // The answer of the call on pairs that were judged, with whatever is left in work space.
 fn build(

@@ -1,10 +1,10 @@
 // The auto-intersection behind its tests: the search over the configurations, and the answer that it settles.
-use crate::finish::settle;
 use exploration::explore::explore;
-use exploration::plan::Plan;
+use intersect_result::finish::settle;
 use memory::answer::Counts;
 use memory::answer::TableAnswer;
 use memory::pair::PairList;
+use offers::plan::Plan;
 use workspace::room::room_for;
 ghost use mathlib.Core.Path.{_≡_};
 ghost use Prim.Native.Nat.{_/_};
@@ -14,8 +14,8 @@ ghost use Rattle.automata.specs.Calls.JoinSteps.{intersectStep};
 ghost use Rattle.memory.specs.Answers.{lent, tableAs};
 ghost use Rattle.memory.specs.Pairs.{pairsAs};
 ghost use Rattle.workspace.specs.Room.{Divides};
-ghost use Rattle.exploration.specs.Plans.{Explorable, pairsIn, viableIn};
-ghost use Rattle.intersect.specs.Searched.{tableBy};
+ghost use Rattle.offers.specs.Plans.{Explorable, pairsIn, viableIn};
+ghost use Rattle.intersect_result.specs.Searched.{tableBy};
 ghost use Rattle.intersect.specs.Step.{Intersectable};
 
 // The search over the configurations of a plan, and the answer that it settles.

@@ -26,7 +26,7 @@ use Rattle.memory.specs.Pairs.{pairsAs}
 use Rattle.pairs.specs.declared.PairsJudged.{PairsJudged}
 use Rattle.pairs.specs.Judgement.{JoinJudged}
 use Rattle.join.specs.Judged.{Prepares}
-use Rattle.join.specs.Steps.{Joinable}
+use Rattle.join_steps.specs.Steps.{Joinable}
 
 module _ (a b : Memory) (ps : List Pair) (D : ℕ) (product result : Slices) (work : List ℕ) (listed : PairsJudged) (j : Judged)
     (k : JoinJudged ps (a .tapes) (b .tapes) D listed) (p : Prepares a b ps D (spaceOf product) (spaceOf result) (length work) listed j) where

@@ -1,3 +1,2 @@
 -- What the contracts of a join cite.
 pub mod Judged
-pub mod Steps

@@ -1,6 +1,6 @@
 // The call: a refusal before any step, the steps, and the product's space and the work space cleared.
 use crate::judge::judge_join;
-use crate::steps::join_steps;
+use join_steps::steps::join_steps;
 use memory::answer::Counts;
 use memory::answer::Judged;
 use memory::answer::TableAnswer;

@@ -1,7 +1,4 @@
 // The join of two tables in memory on pairs of their tapes: product, auto-intersection, and the second tapes dropped.
 pub mod call;
 pub mod judge;
-pub mod keep;
-pub mod mask;
 pub mod room;
-pub mod steps;

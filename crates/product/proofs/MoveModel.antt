@@ -36,8 +36,8 @@ use Rattle.alignment.specs.declared.vertex.Vertex.{Vertex}
 use Rattle.alignment.specs.declared.vertex.Move.{Move}
 use Rattle.alignment.specs.Vertices.{placeNumber, vertexOf, vertexBytes, vertexAt, rowOf, HoldsVertices, VertexBelow}
 use Rattle.alignment.specs.Moves.{moveAt, Carries, by-both, by-second, by-first, RecordOf}
-use Rattle.product.specs.Sums.{placeState, plus, plusState, vertexSum, stateFits, sideSum, moveSum, sideLabels, moveFront, moveLabels, moveRecord, verticesAt, movesAt, VertexFits, MoveFits}
-use Rattle.product.specs.Results.{statesFit, stateRecords, Vertices, movesFit, moveRecords, Moves}
+use Rattle.product_records.specs.Sums.{placeState, plus, plusState, vertexSum, stateFits, sideSum, moveSum, sideLabels, moveFront, moveLabels, moveRecord, verticesAt, movesAt, VertexFits, MoveFits}
+use Rattle.product_records.specs.Results.{statesFit, stateRecords, Vertices, movesFit, moveRecords, Moves}
 use Rattle.product.proofs.SideModel.{SideOf, place-model, place-fits, place-number, side-follows, side-stays}
 
 -- the element at a place of a mapped list

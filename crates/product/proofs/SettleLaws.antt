@@ -31,8 +31,8 @@ use Rattle.alignment.specs.Vertices.{vertexOf}
 use Rattle.alignment.specs.Moves.{HoldsMoves, RecordOf, moveAt}
 use Rattle.alignment.specs.Plans.{firstIn, secondIn}
 use Rattle.alignment.specs.Exploring.{reachedIn, edgesIn, Held}
-use Rattle.product.specs.Sums.{verticesAt, movesAt}
-use Rattle.product.specs.Results.{statesFit, stateRecords, Vertices, movesFit, moveRecords, Moves}
+use Rattle.product_records.specs.Sums.{verticesAt, movesAt}
+use Rattle.product_records.specs.Results.{statesFit, stateRecords, Vertices, movesFit, moveRecords, Moves}
 use Rattle.product.specs.Settled.{Settleable}
 use Rattle.product.proofs.CrossLaws.{numberedBy, states-over, arcs-over, weights-over, product-made}
 use Rattle.product.proofs.MoveModel.{vertices-held, vertices-fit, states-judged, states-encoded, moves-fit, moves-judged, moves-encoded}

@@ -31,7 +31,7 @@ use Rattle.memory.proofs.Laws.{part-part}
 use Rattle.memory.proofs.LoadedLaws.{zeros-label}
 use Rattle.memory.proofs.SoundLaws.{few-tapes, few-states, few-arcs, states-lent, arcs-lent, state-loaded, arc-bytes, arc-loaded}
 use Rattle.alignment.specs.Vertices.{placeNumber, PlaceBelow}
-use Rattle.product.specs.Sums.{placeState, amount, sideSum, sideLabels, PlaceFits, SideFits}
+use Rattle.product_records.specs.Sums.{placeState, amount, sideSum, sideLabels, PlaceFits, SideFits}
 
 -- zeros are the records of empty labels
 blank-labels : (t : ℕ) → zeros (t * 9) ≡ writeAll (labelRecord .write) (emptyTuple t)

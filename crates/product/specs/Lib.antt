@@ -1,6 +1,4 @@
 -- What the contracts of the aligned product as it is called cite.
-pub mod Sums
-pub mod Results
 pub mod Settled
 pub mod Multiplied
 pub mod Prepared

@@ -1,12 +1,12 @@
 // The answer of a product, by what the search over its states left in work space.
-use crate::judge::sums_fit;
-use crate::result::write_moves;
-use crate::result::write_states;
 use alignment::head::Head;
 use alignment::plan::Plan;
 use memory::answer::Counts;
 use memory::answer::Refusal;
 use memory::answer::TableAnswer;
+use product_records::judge::sums_fit;
+use product_records::result::write_moves;
+use product_records::result::write_states;
 ghost use mathlib.Core.Path.{_≡_};
 ghost use lib.ListN.{length};
 ghost use Rattle.automata.specs.Calls.Outcome.{madeOf, slicesOf};

@@ -1,6 +1,4 @@
 -- Laws of texts that are read and written.
-pub mod RecodeLaws
-pub mod StoredLaws
 pub mod ReadLaws
 pub mod PrintedLaws
 pub mod WrittenLaws

@@ -18,9 +18,9 @@ use Rattle.memory.specs.declared.answer.Counts.{Counts}
 use Rattle.memory.proofs.Laws.{splice-behind, splice-snoc}
 use Rattle.text_columns.specs.Columns.{decimalText}
 use Rattle.text_columns.proofs.WriteLaws.{length-decimal}
-use Rattle.text.specs.Recode.{recoded}
+use Rattle.text_store.specs.Recode.{recoded}
 use Rattle.text.specs.Printed.{weightOfRecord, lineOfState, columnsOfLabel, numbersOfRecord, lineOfArc, headerOf}
-use Rattle.text.proofs.RecodeLaws.{length-recoded}
+use Rattle.text_store.proofs.RecodeLaws.{length-recoded}
 
 -- ---- a weight
 

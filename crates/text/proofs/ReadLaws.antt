@@ -35,9 +35,9 @@ use Rattle.lines.specs.declared.header.HeaderLine.{HeaderLine}
 use Rattle.lines.specs.declared.header.HeaderLine.the-variants as header
 use Rattle.lines.proofs.LineLaws.{drop-take}
 use Rattle.text.specs.Answers.{countsAnswer}
-use Rattle.text.specs.Recode.{recoded}
-use Rattle.text.specs.Stored.{stateOfLine, labelOfColumns, numberBytes, arcOfLine}
-use Rattle.text.proofs.RecodeLaws.{recoded-take, recoded-many, recoded-copies}
+use Rattle.text_store.specs.Recode.{recoded}
+use Rattle.text_store.specs.Stored.{stateOfLine, labelOfColumns, numberBytes, arcOfLine}
+use Rattle.text_store.proofs.RecodeLaws.{recoded-take, recoded-many, recoded-copies}
 
 -- the length of a text of t tapes, n states and m arcs, and the space that is lent for its records
 pub record Room (t n m l s a : ℕ) : Type 0 where

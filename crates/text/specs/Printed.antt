@@ -10,7 +10,7 @@ use Rattle.memory.specs.Region.{part}
 use Rattle.memory.specs.Endian.{le}
 use Rattle.memory.specs.declared.answer.Counts.{Counts}
 use Rattle.text_columns.specs.Columns.{decimalText}
-use Rattle.text.specs.Recode.{recoded}
+use Rattle.text_store.specs.Recode.{recoded}
 
 -- the columns of the weight in a record of 5 bytes
 unfoldable pub weightOfRecord : List ℕ → List ℕ

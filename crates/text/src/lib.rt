@@ -1,10 +1,7 @@
 // The text of a table: read into the records of a table in memory, and written from them.
 pub mod print;
-pub mod store;
 
 use crate::print::write_table;
-use crate::store::store_arcs;
-use crate::store::store_states;
 use lines::header::HeaderLine;
 use lines::table::judge_text;
 use memory::answer::Counts;
@@ -12,6 +9,8 @@ use memory::answer::Judged;
 use memory::answer::Refusal;
 use memory::answer::TableAnswer;
 use memory::judge::judge;
+use text_store::store::store_arcs;
+use text_store::store::store_states;
 ghost use mathlib.Core.Path.{_≡_};
 ghost use Prim.Native.Nat.{_+_, _*_, _≤_};
 ghost use Rattle.automata.specs.Calls.Outcome.{slicesOf, madeOf};

@@ -12,7 +12,7 @@ ghost use Rattle.automata.specs.TableText.{writeTable};
 ghost use Rattle.automata.specs.Calls.Outcome.{overwrite};
 ghost use Rattle.memory.specs.Answers.{lent};
 ghost use Rattle.memory.specs.Region.{splice};
-ghost use Rattle.text.specs.Recode.{recoded};
+ghost use Rattle.text_store.specs.Recode.{recoded};
 ghost use Rattle.text.specs.Printed.{weightOfRecord, lineOfState, columnsOfLabel, numbersOfRecord, lineOfArc, headerOf};
 
 // The columns of the weight in a record.

@@ -28,7 +28,7 @@ use Rattle.automata.proofs.TextLaws.{length-writeTable}
 use Rattle.laws.specs.Storable.{Storable}
 use Rattle.laws.proofs.Lemmas.CallTables.{read-fits, intersect-fits, product-fits, join-fits, union-fits, project-fits, drop-fits}
 use Rattle.text.specs.Answers.{writtenOf}
-use Rattle.tomchoen.specs.Words.{CountsFit, BytesFit}
+use Rattle.c_words.specs.Words.{CountsFit, BytesFit}
 
 -- ---- calls that make a table
 

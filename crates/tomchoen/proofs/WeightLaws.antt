@@ -25,7 +25,7 @@ use Rattle.automata.proofs.LookupBounds.{lookup-le}
 use Rattle.automata.proofs.MemoryLaws.{decode-only}
 use Rattle.automata.proofs.WellFormedFacts.{well-formed, weights-bounded}
 use Rattle.laws.proofs.Lookup.{short-total}
-use Rattle.tomchoen.specs.Words.{WeightFits}
+use Rattle.c_words.specs.Words.{WeightFits}
 
 -- of a table and eight strings of at most 64 symbols
 weight-small : (A : Automaton ℕ) → WellFormed A → (t : Tuple) → total length t ≤ 512 → (w : ℕ) → lookup ℕ-sum A t ≡ some w → w < 72057594037927936

@@ -6,7 +6,7 @@ use Prim.Native.Nat.{ℕ}
 use Rattle.automata.specs.Answer.{Answer}
 use Rattle.automata.specs.Calls.Outcome.{TableCounts, Made, Built, Joined, Written, Found, madeOf, builtOf, joinedOf, foundOf}
 use Rattle.text.specs.Answers.{writtenOf}
-use Rattle.tomchoen.specs.Words.{tableWord, bytesWord, weightWord, tellsMade, toldMade, tellsBuilt, toldBuilt, tellsJoined, toldJoined, tellsWritten, toldWritten, tellsFound, toldFound}
+use Rattle.c_words.specs.Words.{tableWord, bytesWord, weightWord, tellsMade, toldMade, tellsBuilt, toldBuilt, tellsJoined, toldJoined, tellsWritten, toldWritten, tellsFound, toldFound}
 
 -- calls that make a table
 pub made-told : (r : ℕ) (a : Answer TableCounts) (states arcs : List ℕ) (o : Made) → madeOf a states arcs ≡ o → r ≡ tableWord a

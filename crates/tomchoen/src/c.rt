@@ -1,7 +1,7 @@
 // The calls for C, on numbers and byte slices. A slice is a pointer and a length; the slices of a call must not overlap.
-use crate::word::bytes_word;
-use crate::word::table_word;
-use crate::word::weight_word;
+use c_words::word::bytes_word;
+use c_words::word::table_word;
+use c_words::word::weight_word;
 use memory::answer::Counts;
 ghost use mathlib.Core.Path.{_≡_};
 ghost use Rattle.automata.specs.Memory.{memoryOf};
@@ -16,7 +16,7 @@ ghost use Rattle.automata.specs.Calls.Project.{projectOutcome};
 ghost use Rattle.automata.specs.Calls.Drop.{dropOutcome};
 ghost use Rattle.automata.specs.Calls.Lookup.{lookupOutcome};
 ghost use Rattle.pairs.specs.PairBytes.{pairsOf};
-ghost use Rattle.tomchoen.specs.Words.{tellsMade, toldMade, tellsBuilt, toldBuilt, tellsJoined, toldJoined, tellsWritten, toldWritten, tellsFound, toldFound};
+ghost use Rattle.c_words.specs.Words.{tellsMade, toldMade, tellsBuilt, toldBuilt, tellsJoined, toldJoined, tellsWritten, toldWritten, tellsFound, toldFound};
 
 // Reads the text of a table.
 #[no_mangle]

@@ -7,8 +7,8 @@ use Rattle.agree_text.proofs.read_pair_line.Statement.{statement}
 use Rattle.agree_text.proofs.read_pair_line.Tie as tie
 use Rattle.agree_text.proofs.read_pair_line.Reads as reads
 use Rattle.agree_text.proofs.read_pair_line.Lts as lts
-use Rattle.agree_text.proofs.line.read_line.Reads as read-line-reads
-use Rattle.agree_text.proofs.pair.store_pairs.Reads as store-pairs-reads
+use Rattle.pair_line.proofs.line.read_line.Reads as read-line-reads
+use Rattle.pair_line.proofs.pair.store_pairs.Reads as store-pairs-reads
 
 read-line-requires : tie.Need-read-line-requires
 read-line-requires c κs = search needs

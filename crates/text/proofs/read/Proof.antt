@@ -9,8 +9,8 @@ use Rattle.text.proofs.read.Reads as reads
 use Rattle.text.proofs.read.Lts as lts
 use Rattle.lines.proofs.table.judge_text.Reads as judge-text-reads
 use Rattle.text.proofs.answer_of.Reads as answer-of-reads
-use Rattle.text.proofs.store.store_arcs.Reads as store-arcs-reads
-use Rattle.text.proofs.store.store_states.Reads as store-states-reads
+use Rattle.text_store.proofs.store.store_arcs.Reads as store-arcs-reads
+use Rattle.text_store.proofs.store.store_states.Reads as store-states-reads
 
 judge-text-requires : tie.Need-judge-text-requires
 judge-text-requires c κs = search needs

@@ -4,14 +4,14 @@ use Prim.Native.Nat.{ℕ, _≤_}
 use mathlib.Core.Path.{sym, ap, subst, _∙_}
 use denote.Ref.{now}
 use lib.ListN.{getD}
-use Rattle.cells.specs.Distances.{cellsOf}
+use Rattle.cell_moves.specs.Distances.{cellsOf}
 use borrow.Author.Needs.{needs}
 use Rattle.cells.proofs.ends.from_state.Statement.{statement}
 use Rattle.cells.proofs.ends.from_state.Tie as tie
 use Rattle.cells.proofs.ends.from_state.Reads as reads
 use Rattle.cells.proofs.ends.from_state.Lts as lts
-use Rattle.cells.proofs.cell.cell_number.Reads as cell-number-reads
-use Rattle.cells.proofs.cell.weight_at.Reads as weight-at-reads
+use Rattle.cell_moves.proofs.cell.cell_number.Reads as cell-number-reads
+use Rattle.cell_moves.proofs.cell.weight_at.Reads as weight-at-reads
 use Rattle.memory.proofs.record.load_state.Reads as load-state-reads
 
 mul-load-state : tie.Need-mul-load-state

@@ -3,8 +3,8 @@ use Rattle.cells.proofs.EndLaws.{state-room, least-turn, least-first, a
 use Prim.Native.Nat.{_-_, _≤_}
 use mathlib.Core.Path.{_≡_, refl}
 use native.Mathlib.Omega.{arith}
-use Rattle.cells.specs.Distances.{cellsOf}
-use Rattle.cells.specs.Ends.{leastUpTo}
+use Rattle.cell_moves.specs.Distances.{cellsOf}
+use Rattle.distances.specs.Ends.{leastUpTo}
 use borrow.Author.Needs.{needs}
 use Rattle.cells.proofs.ends.least_from.Statement.{statement}
 use Rattle.cells.proofs.ends.least_from.Tie as tie

@@ -5,8 +5,8 @@ use Rattle.cells.proofs.ends.start_state.Statement.{statement}
 use Rattle.cells.proofs.ends.start_state.Tie as tie
 use Rattle.cells.proofs.ends.start_state.Reads as reads
 use Rattle.cells.proofs.ends.start_state.Lts as lts
-use Rattle.cells.proofs.cell.cell_number.Reads as cell-number-reads
-use Rattle.cells.proofs.cell.lower.Reads as lower-reads
+use Rattle.cell_moves.proofs.cell.cell_number.Reads as cell-number-reads
+use Rattle.cell_moves.proofs.cell.lower.Reads as lower-reads
 use Rattle.memory.proofs.record.load_state.Reads as load-state-reads
 
 mul-load-state : tie.Need-mul-load-state

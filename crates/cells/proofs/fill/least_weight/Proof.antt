@@ -3,7 +3,7 @@ use Rattle.cells.proofs.FillLaws.{Filling, fillable-kept, placed, state
 use Prim.Native.Nat.{_-_, _<_}
 use lib.ListN.{length}
 use denote.Ref.{now}
-use Rattle.cells.proofs.StartMeaning.{sixteens}
+use Rattle.distances.proofs.StartMeaning.{sixteens}
 use mathlib.Core.Path.{sym, ap, _∙_}
 use native.Mathlib.Omega.{arith}
 use borrow.Author.Needs.{needs}
@@ -11,12 +11,12 @@ use Rattle.cells.proofs.fill.least_weight.Statement.{statement}
 use Rattle.cells.proofs.fill.least_weight.Tie as tie
 use Rattle.cells.proofs.fill.least_weight.Reads as reads
 use Rattle.cells.proofs.fill.least_weight.Lts as lts
-use Rattle.cells.proofs.cell.clear_cells.Reads as clear-cells-reads
+use Rattle.cell_moves.proofs.cell.clear_cells.Reads as clear-cells-reads
 use Rattle.cells.proofs.ends.least_from.Reads as least-from-reads
 use Rattle.cells.proofs.ends.start_states.Reads as start-states-reads
 use Rattle.cells.proofs.relax.settle.Reads as settle-reads
-use Rattle.cells.proofs.spot.spans_of.Reads as spans-of-reads
-use Rattle.cells.proofs.spot.spot_at.Reads as spot-at-reads
+use Rattle.cell_moves.proofs.spot.spans_of.Reads as spans-of-reads
+use Rattle.cell_moves.proofs.spot.spot_at.Reads as spot-at-reads
 
 abbrev Inv-loop : tie.InvT-loop
 Inv-loop counts states arcs text strings work₀ spans left₀ work left = Filling counts states arcs text strings spans (length work₀) left work

@@ -1,11 +1,11 @@
 -- `cells::relax::left_out` meets its contract. Assumes nothing.
-use Rattle.cells.proofs.SweepLaws.{out-none, out-some}
+use Rattle.distances.proofs.SweepLaws.{out-none, out-some}
 use borrow.Author.Needs.{needs}
 use Rattle.cells.proofs.relax.left_out.Statement.{statement}
 use Rattle.cells.proofs.relax.left_out.Tie as tie
 use Rattle.cells.proofs.relax.left_out.Reads as reads
 use Rattle.cells.proofs.relax.left_out.Lts as lts
-use Rattle.cells.proofs.moves.no_symbol.Reads as no-symbol-reads
+use Rattle.cell_moves.proofs.moves.no_symbol.Reads as no-symbol-reads
 
 returns : tie.Need-returns
 returns c = out-none (c .before .before .args .only) _ (c .if1 .taken)

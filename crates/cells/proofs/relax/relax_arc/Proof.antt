@@ -1,5 +1,5 @@
 -- `cells::relax::relax_arc` meets its contract. Assumes nothing.
-use Rattle.cells.proofs.SweepLaws.{cell-fits, visits-stuck, leads-to, visits-moved}
+use Rattle.distances.proofs.SweepLaws.{cell-fits, visits-stuck, leads-to, visits-moved}
 use Prim.Native.Nat.{_<_}
 use native.Mathlib.Omega.{arith}
 use borrow.Author.Needs.{needs}
@@ -7,10 +7,10 @@ use Rattle.cells.proofs.relax.relax_arc.Statement.{statement}
 use Rattle.cells.proofs.relax.relax_arc.Tie as tie
 use Rattle.cells.proofs.relax.relax_arc.Reads as reads
 use Rattle.cells.proofs.relax.relax_arc.Lts as lts
-use Rattle.cells.proofs.cell.cell_number.Reads as cell-number-reads
-use Rattle.cells.proofs.cell.lower.Reads as lower-reads
-use Rattle.cells.proofs.cell.weight_at.Reads as weight-at-reads
-use Rattle.cells.proofs.moves.moved_on.Reads as moved-on-reads
+use Rattle.cell_moves.proofs.cell.cell_number.Reads as cell-number-reads
+use Rattle.cell_moves.proofs.cell.lower.Reads as lower-reads
+use Rattle.cell_moves.proofs.cell.weight_at.Reads as weight-at-reads
+use Rattle.cell_moves.proofs.moves.moved_on.Reads as moved-on-reads
 use Rattle.memory.proofs.bytes.get16.Reads as get16-reads
 use Rattle.memory.proofs.bytes.get32.Reads as get32-reads
 

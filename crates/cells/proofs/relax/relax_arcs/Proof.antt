@@ -1,5 +1,5 @@
 -- `cells::relax::relax_arcs` meets its contract. Assumes nothing.
-use Rattle.cells.proofs.SweepLaws.{Sweeping, sweep-start, sweep-requires, sweep-turn, sweep-end}
+use Rattle.distances.proofs.SweepLaws.{Sweeping, sweep-start, sweep-requires, sweep-turn, sweep-end}
 use Prim.Native.Nat.{_-_}
 use native.Mathlib.Omega.{arith}
 use borrow.Author.Needs.{needs}

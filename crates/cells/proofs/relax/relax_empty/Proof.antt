@@ -1,5 +1,5 @@
 -- `cells::relax::relax_empty` meets its contract. Assumes nothing.
-use Rattle.cells.proofs.SweepLaws.{spaced-kept, Repeating, repeat-start, repeat-turn, repeat-still, repeat-end}
+use Rattle.distances.proofs.SweepLaws.{spaced-kept, Repeating, repeat-start, repeat-turn, repeat-still, repeat-end}
 use Prim.Native.Nat.{_-_}
 use mathlib.Core.Path.{_∙_}
 use native.Mathlib.Omega.{arith}

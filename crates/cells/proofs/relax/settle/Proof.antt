@@ -1,5 +1,5 @@
 -- `cells::relax::settle` meets its contract. Assumes nothing.
-use Rattle.cells.proofs.SweepLaws.{spaced-kept, sweeps-le, settle-still, settle-rest}
+use Rattle.distances.proofs.SweepLaws.{spaced-kept, sweeps-le, settle-still, settle-rest}
 use borrow.Author.Needs.{needs}
 use Rattle.cells.proofs.relax.settle.Statement.{statement}
 use Rattle.cells.proofs.relax.settle.Tie as tie

@@ -1,5 +1,5 @@
 -- `cells::relax::take_arc` meets its contract. Assumes nothing.
-use Rattle.cells.proofs.SweepLaws.{takes-not, takes-so}
+use Rattle.distances.proofs.SweepLaws.{takes-not, takes-so}
 use borrow.Author.Needs.{needs}
 use Rattle.cells.proofs.relax.take_arc.Statement.{statement}
 use Rattle.cells.proofs.relax.take_arc.Tie as tie

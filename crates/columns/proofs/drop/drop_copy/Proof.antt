@@ -1,15 +1,15 @@
 -- `columns::drop::drop_copy` meets its contract. Assumes nothing.
 use denote.Ref.{now}
 use Rattle.memory.specs.Answers.{lent}
-use Rattle.columns.proofs.RoomLaws.{copy-ready}
-use Rattle.columns.proofs.DropCall.{copy-droppable, copy-dropped}
+use Rattle.column_records.proofs.RoomLaws.{copy-ready}
+use Rattle.column_laws.proofs.DropCall.{copy-droppable, copy-dropped}
 use borrow.Author.Needs.{needs}
 use Rattle.columns.proofs.drop.drop_copy.Statement.{statement}
 use Rattle.columns.proofs.drop.drop_copy.Tie as tie
 use Rattle.columns.proofs.drop.drop_copy.Reads as reads
 use Rattle.columns.proofs.drop.drop_copy.Lts as lts
 use Rattle.columns.proofs.drop.drop_in_place.Reads as drop-in-place-reads
-use Rattle.columns.proofs.room.copy_table.Reads as copy-table-reads
+use Rattle.column_records.proofs.room.copy_table.Reads as copy-table-reads
 
 copy-table-requires : tie.Need-copy-table-requires
 copy-table-requires c κs = let s = c .before .before .before .before .before .before in copy-ready (lent (s .args .counts) (now (s .args .states)) (now (s .args .arcs))) (s .pre .0 .sound) _ _ (s .pre .1) (s .pre .2)

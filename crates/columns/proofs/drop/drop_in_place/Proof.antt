@@ -5,14 +5,14 @@ use Prim.Native.Nat.{_<_}
 use native.Mathlib.Omega.{arith}
 use Rattle.memory.specs.Answers.{lent}
 use Rattle.memory.proofs.SoundLaws.{few-tapes, arcs-lent}
-use Rattle.columns.proofs.DropLaws.{left-choice, fewer-marks, dropped-in-place}
+use Rattle.column_laws.proofs.DropLaws.{left-choice, fewer-marks, dropped-in-place}
 use borrow.Author.Needs.{needs}
 use Rattle.columns.proofs.drop.drop_in_place.Statement.{statement}
 use Rattle.columns.proofs.drop.drop_in_place.Tie as tie
 use Rattle.columns.proofs.drop.drop_in_place.Reads as reads
 use Rattle.columns.proofs.drop.drop_in_place.Lts as lts
-use Rattle.columns.proofs.choose.choose_arcs.Reads as choose-arcs-reads
-use Rattle.columns.proofs.kept.tapes_left.Reads as tapes-left-reads
+use Rattle.column_records.proofs.choose.choose_arcs.Reads as choose-arcs-reads
+use Rattle.column_records.proofs.kept.tapes_left.Reads as tapes-left-reads
 
 slice-aggregate-tapes-left : tie.Need-slice-aggregate-tapes-left
 slice-aggregate-tapes-left c = search needs

@@ -1,7 +1,7 @@
 -- `columns::drop::drop_tapes` meets its contract. Assumes nothing.
 use denote.Ref.{now}
 use Rattle.memory.specs.Answers.{lent}
-use Rattle.columns.proofs.DropCall.{drop-ready, drop-refused, drop-done}
+use Rattle.column_laws.proofs.DropCall.{drop-ready, drop-refused, drop-done}
 use borrow.Author.Needs.{needs}
 use Rattle.columns.proofs.drop.drop_tapes.Statement.{statement}
 use Rattle.columns.proofs.drop.drop_tapes.Tie as tie

@@ -5,14 +5,14 @@ use Rattle.workspace.specs.Room.{lentSpace}
 use mathlib.Core.Path.{sym, ap, _∙_}
 use Rattle.memory.proofs.TableLaws.{judged-sound}
 use Rattle.memory.proofs.SoundLaws.{few-tapes}
-use Rattle.columns.proofs.DropCall.{drop-table-judged, drop-marks-judged, drop-space-judged}
+use Rattle.column_laws.proofs.DropCall.{drop-table-judged, drop-marks-judged, drop-space-judged}
 use borrow.Author.Needs.{needs}
 use Rattle.columns.proofs.drop.judge_drop.Statement.{statement}
 use Rattle.columns.proofs.drop.judge_drop.Tie as tie
 use Rattle.columns.proofs.drop.judge_drop.Reads as reads
 use Rattle.columns.proofs.drop.judge_drop.Lts as lts
 use Rattle.columns.proofs.drop.may_drop.Reads as may-drop-reads
-use Rattle.columns.proofs.room.fits.Reads as fits-reads
+use Rattle.column_records.proofs.room.fits.Reads as fits-reads
 use Rattle.memory.proofs.judge.judge.Reads as judge-reads
 
 judge-requires : tie.Need-judge-requires

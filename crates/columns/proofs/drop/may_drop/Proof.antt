@@ -2,7 +2,7 @@
 use native.Mathlib.Omega.{arith}
 use Prim.Native.Nat.{_<_}
 use lib.Count.{ones-le}
-use Rattle.columns.proofs.DropCall.{marks-beyond, marks-within}
+use Rattle.column_laws.proofs.DropCall.{marks-beyond, marks-within}
 use borrow.Author.Needs.{needs}
 use Rattle.columns.proofs.drop.may_drop.Statement.{statement}
 use Rattle.columns.proofs.drop.may_drop.Tie as tie

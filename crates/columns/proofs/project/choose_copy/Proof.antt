@@ -2,15 +2,15 @@
 use denote.Ref.{now}
 use Rattle.memory.specs.Answers.{lent}
 use native.Mathlib.Omega.{arith}
-use Rattle.columns.proofs.RoomLaws.{copy-ready}
-use Rattle.columns.proofs.ProjectCall.{choice-named, copy-chosen}
+use Rattle.column_records.proofs.RoomLaws.{copy-ready}
+use Rattle.column_laws.proofs.ProjectCall.{choice-named, copy-chosen}
 use borrow.Author.Needs.{needs}
 use Rattle.columns.proofs.project.choose_copy.Statement.{statement}
 use Rattle.columns.proofs.project.choose_copy.Tie as tie
 use Rattle.columns.proofs.project.choose_copy.Reads as reads
 use Rattle.columns.proofs.project.choose_copy.Lts as lts
-use Rattle.columns.proofs.choose.choose_arcs.Reads as choose-arcs-reads
-use Rattle.columns.proofs.room.copy_table.Reads as copy-table-reads
+use Rattle.column_records.proofs.choose.choose_arcs.Reads as choose-arcs-reads
+use Rattle.column_records.proofs.room.copy_table.Reads as copy-table-reads
 
 copy-table-requires : tie.Need-copy-table-requires
 copy-table-requires c κs = let s = c .before .before .before .before .before .before .before in copy-ready (lent (s .args .counts) (now (s .args .states)) (now (s .args .arcs))) (s .pre .0 .sound) _ _ (s .pre .1) (s .pre .2)

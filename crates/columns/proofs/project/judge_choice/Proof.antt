@@ -2,14 +2,14 @@
 use denote.Ref.{now}
 use Rattle.memory.specs.Answers.{lent}
 use Rattle.workspace.specs.Room.{lentSpace}
-use Rattle.columns.proofs.ProjectCall.{project-table-judged, project-width-judged, project-choice-judged, project-space-judged}
+use Rattle.column_laws.proofs.ProjectCall.{project-table-judged, project-width-judged, project-choice-judged, project-space-judged}
 use borrow.Author.Needs.{needs}
 use Rattle.columns.proofs.project.judge_choice.Statement.{statement}
 use Rattle.columns.proofs.project.judge_choice.Tie as tie
 use Rattle.columns.proofs.project.judge_choice.Reads as reads
 use Rattle.columns.proofs.project.judge_choice.Lts as lts
 use Rattle.columns.proofs.project.may_choose.Reads as may-choose-reads
-use Rattle.columns.proofs.room.fits.Reads as fits-reads
+use Rattle.column_records.proofs.room.fits.Reads as fits-reads
 use Rattle.memory.proofs.judge.judge.Reads as judge-reads
 
 judge-requires : tie.Need-judge-requires

@@ -1,6 +1,6 @@
 -- `columns::project::may_choose` meets its contract. Assumes nothing.
 use denote.Ref.{now}
-use Rattle.columns.proofs.ProjectCall.{choice-empty, choice-some}
+use Rattle.column_laws.proofs.ProjectCall.{choice-empty, choice-some}
 use borrow.Author.Needs.{needs}
 use Rattle.columns.proofs.project.may_choose.Statement.{statement}
 use Rattle.columns.proofs.project.may_choose.Tie as tie

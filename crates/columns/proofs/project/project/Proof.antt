@@ -1,7 +1,7 @@
 -- `columns::project::project` meets its contract. Assumes nothing.
 use denote.Ref.{now}
 use Rattle.memory.specs.Answers.{lent}
-use Rattle.columns.proofs.ProjectCall.{project-ready, project-refused, project-done}
+use Rattle.column_laws.proofs.ProjectCall.{project-ready, project-refused, project-done}
 use borrow.Author.Needs.{needs}
 use Rattle.columns.proofs.project.project.Statement.{statement}
 use Rattle.columns.proofs.project.project.Tie as tie

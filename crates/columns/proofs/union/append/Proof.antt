@@ -4,13 +4,13 @@ use Rattle.memory.specs.Answers.{lent}
 use native.Mathlib.Omega.{arith}
 use mathlib.Core.Path.{refl, _∙_}
 use Rattle.memory.proofs.SoundLaws.{few-states, few-arcs}
-use Rattle.columns.proofs.UnionCall.{first-copies, second-copies, raise-ready, union-made}
+use Rattle.column_laws.proofs.UnionCall.{first-copies, second-copies, raise-ready, union-made}
 use Rattle.columns.proofs.union.append.Statement.{statement}
 use Rattle.columns.proofs.union.append.Tie as tie
 use Rattle.columns.proofs.union.append.Reads as reads
 use Rattle.columns.proofs.union.append.Lts as lts
-use Rattle.columns.proofs.raise.raise_arcs.Reads as raise-arcs-reads
-use Rattle.columns.proofs.room.copy_table.Reads as copy-table-reads
+use Rattle.column_records.proofs.raise.raise_arcs.Reads as raise-arcs-reads
+use Rattle.column_records.proofs.room.copy_table.Reads as copy-table-reads
 
 copy-table-requires : tie.Need-copy-table-requires
 copy-table-requires c κs = let s = c .before .before .before .before .before .before .before .before in first-copies (lent (s .args .first) (now (s .args .first-states)) (now (s .args .first-arcs))) (lent (s .args .second) (now (s .args .second-states)) (now (s .args .second-arcs))) _ _ (s .pre)

@@ -3,13 +3,13 @@ use denote.Ref.{now}
 use Rattle.memory.specs.Answers.{lent}
 use Rattle.workspace.specs.Room.{lentSpace}
 use native.Mathlib.Omega.{arith}
-use Rattle.columns.proofs.UnionCall.{union-first-judged, union-second-judged, union-tapes-judged, sums-small, union-space-judged}
+use Rattle.column_laws.proofs.UnionCall.{union-first-judged, union-second-judged, union-tapes-judged, sums-small, union-space-judged}
 use borrow.Author.Needs.{needs}
 use Rattle.columns.proofs.union.judge_union.Statement.{statement}
 use Rattle.columns.proofs.union.judge_union.Tie as tie
 use Rattle.columns.proofs.union.judge_union.Reads as reads
 use Rattle.columns.proofs.union.judge_union.Lts as lts
-use Rattle.columns.proofs.room.fits.Reads as fits-reads
+use Rattle.column_records.proofs.room.fits.Reads as fits-reads
 use Rattle.memory.proofs.judge.judge.Reads as judge-reads
 
 judge-requires : tie.Need-judge-requires

@@ -1,7 +1,7 @@
 -- `columns::union::union` meets its contract. Assumes nothing.
 use denote.Ref.{now}
 use Rattle.memory.specs.Answers.{lent}
-use Rattle.columns.proofs.UnionCall.{union-ready, union-refused, union-done}
+use Rattle.column_laws.proofs.UnionCall.{union-ready, union-refused, union-done}
 use borrow.Author.Needs.{needs}
 use Rattle.columns.proofs.union.union.Statement.{statement}
 use Rattle.columns.proofs.union.union.Tie as tie

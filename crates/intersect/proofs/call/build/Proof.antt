@@ -4,13 +4,13 @@ use native.Mathlib.Omega.{arith}
 use denote.Ref.{now}
 use Rattle.memory.specs.Answers.{lent}
 use Rattle.intersect.proofs.SearchLaws.{explorable}
-use Rattle.intersect.proofs.CallLaws.{call-refused, call-settled}
+use Rattle.intersect_result.proofs.CallLaws.{call-refused, call-settled}
 use borrow.Author.Needs.{needs}
 use Rattle.intersect.proofs.call.build.Statement.{statement}
 use Rattle.intersect.proofs.call.build.Tie as tie
 use Rattle.intersect.proofs.call.build.Reads as reads
 use Rattle.intersect.proofs.call.build.Lts as lts
-use Rattle.intersect.proofs.prepare.prepare.Reads as prepare-reads
+use Rattle.intersect_result.proofs.prepare.prepare.Reads as prepare-reads
 use Rattle.intersect.proofs.step.reach.Reads as reach-reads
 
 prepare-requires : tie.Need-prepare-requires

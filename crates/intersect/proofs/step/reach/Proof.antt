@@ -5,7 +5,7 @@ use Rattle.intersect.proofs.step.reach.Statement.{statement}
 use Rattle.intersect.proofs.step.reach.Tie as tie
 use Rattle.intersect.proofs.step.reach.Reads as reads
 use Rattle.intersect.proofs.step.reach.Lts as lts
-use Rattle.intersect.proofs.finish.settle.Reads as settle-reads
+use Rattle.intersect_result.proofs.finish.settle.Reads as settle-reads
 use Rattle.exploration.proofs.explore.explore.Reads as explore-reads
 
 explore-requires : tie.Need-explore-requires

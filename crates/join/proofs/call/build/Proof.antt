@@ -9,7 +9,7 @@ use Rattle.join.proofs.call.build.Tie as tie
 use Rattle.join.proofs.call.build.Reads as reads
 use Rattle.join.proofs.call.build.Lts as lts
 use Rattle.join.proofs.judge.judge_join.Reads as judge-join-reads
-use Rattle.join.proofs.steps.join_steps.Reads as join-steps-reads
+use Rattle.join_steps.proofs.steps.join_steps.Reads as join-steps-reads
 
 judge-join-requires : tie.Need-judge-join-requires
 judge-join-requires c κs = search needs

@@ -8,9 +8,9 @@ use Rattle.product.proofs.finish.settle.Statement.{statement}
 use Rattle.product.proofs.finish.settle.Tie as tie
 use Rattle.product.proofs.finish.settle.Reads as reads
 use Rattle.product.proofs.finish.settle.Lts as lts
-use Rattle.product.proofs.judge.sums_fit.Reads as sums-fit-reads
-use Rattle.product.proofs.result.write_moves.Reads as write-moves-reads
-use Rattle.product.proofs.result.write_states.Reads as write-states-reads
+use Rattle.product_records.proofs.judge.sums_fit.Reads as sums-fit-reads
+use Rattle.product_records.proofs.result.write_moves.Reads as write-moves-reads
+use Rattle.product_records.proofs.result.write_states.Reads as write-states-reads
 
 returns : tie.Need-returns
 returns c =

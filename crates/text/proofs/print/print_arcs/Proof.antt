@@ -1,8 +1,8 @@
 -- `text::print::print_arcs` meets its contract. Assumes nothing.
 use Rattle.text.proofs.PrintedLaws.{arc-sized}
 use Rattle.text.specs.Printed.{lineOfArc}
-use Rattle.text.proofs.RecodeLaws.{recode-turn, recode-done, product-turn}
-use Rattle.text.specs.Recode.{recoded}
+use Rattle.text_store.proofs.RecodeLaws.{recode-turn, recode-done, product-turn}
+use Rattle.text_store.specs.Recode.{recoded}
 use Rattle.memory.specs.Region.{splice}
 use lib.ListN.{length, drop}
 use Prim.Native.Nat.{_+_, _*_, _≤_}

@@ -7,7 +7,7 @@ use Rattle.tomchoen.proofs.c.tomchoen_build.Tie as tie
 use Rattle.tomchoen.proofs.c.tomchoen_build.Reads as reads
 use Rattle.tomchoen.proofs.c.tomchoen_build.Lts as lts
 use Rattle.intersect.proofs.call.intersect.Reads as intersect-reads
-use Rattle.tomchoen.proofs.word.table_word.Reads as table-word-reads
+use Rattle.c_words.proofs.word.table_word.Reads as table-word-reads
 
 intersect-requires : tie.Need-intersect-requires
 intersect-requires c κs = search needs

@@ -7,7 +7,7 @@ use Rattle.tomchoen.proofs.c.tomchoen_drop.Tie as tie
 use Rattle.tomchoen.proofs.c.tomchoen_drop.Reads as reads
 use Rattle.tomchoen.proofs.c.tomchoen_drop.Lts as lts
 use Rattle.columns.proofs.drop.drop_tapes.Reads as drop-tapes-reads
-use Rattle.tomchoen.proofs.word.table_word.Reads as table-word-reads
+use Rattle.c_words.proofs.word.table_word.Reads as table-word-reads
 
 drop-tapes-requires : tie.Need-drop-tapes-requires
 drop-tapes-requires c κs = search needs

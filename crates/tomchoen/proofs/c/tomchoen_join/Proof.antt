@@ -7,7 +7,7 @@ use Rattle.tomchoen.proofs.c.tomchoen_join.Tie as tie
 use Rattle.tomchoen.proofs.c.tomchoen_join.Reads as reads
 use Rattle.tomchoen.proofs.c.tomchoen_join.Lts as lts
 use Rattle.join.proofs.call.join.Reads as join-reads
-use Rattle.tomchoen.proofs.word.table_word.Reads as table-word-reads
+use Rattle.c_words.proofs.word.table_word.Reads as table-word-reads
 
 join-requires : tie.Need-join-requires
 join-requires c κs = search needs

@@ -7,7 +7,7 @@ use Rattle.tomchoen.proofs.c.tomchoen_lookup.Tie as tie
 use Rattle.tomchoen.proofs.c.tomchoen_lookup.Reads as reads
 use Rattle.tomchoen.proofs.c.tomchoen_lookup.Lts as lts
 use Rattle.lookup.proofs.call.lookup.Reads as lookup-reads
-use Rattle.tomchoen.proofs.word.weight_word.Reads as weight-word-reads
+use Rattle.c_words.proofs.word.weight_word.Reads as weight-word-reads
 
 lookup-requires : tie.Need-lookup-requires
 lookup-requires c κs = search needs

@@ -7,7 +7,7 @@ use Rattle.tomchoen.proofs.c.tomchoen_product.Tie as tie
 use Rattle.tomchoen.proofs.c.tomchoen_product.Reads as reads
 use Rattle.tomchoen.proofs.c.tomchoen_product.Lts as lts
 use Rattle.product.proofs.call.product.Reads as product-reads
-use Rattle.tomchoen.proofs.word.table_word.Reads as table-word-reads
+use Rattle.c_words.proofs.word.table_word.Reads as table-word-reads
 
 product-requires : tie.Need-product-requires
 product-requires c κs = search needs

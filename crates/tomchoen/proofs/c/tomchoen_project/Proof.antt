@@ -7,7 +7,7 @@ use Rattle.tomchoen.proofs.c.tomchoen_project.Tie as tie
 use Rattle.tomchoen.proofs.c.tomchoen_project.Reads as reads
 use Rattle.tomchoen.proofs.c.tomchoen_project.Lts as lts
 use Rattle.columns.proofs.project.project.Reads as project-reads
-use Rattle.tomchoen.proofs.word.table_word.Reads as table-word-reads
+use Rattle.c_words.proofs.word.table_word.Reads as table-word-reads
 
 project-requires : tie.Need-project-requires
 project-requires c κs = search needs

@@ -7,7 +7,7 @@ use Rattle.tomchoen.proofs.c.tomchoen_read.Tie as tie
 use Rattle.tomchoen.proofs.c.tomchoen_read.Reads as reads
 use Rattle.tomchoen.proofs.c.tomchoen_read.Lts as lts
 use Rattle.text.proofs.read.Reads as read-reads
-use Rattle.tomchoen.proofs.word.table_word.Reads as table-word-reads
+use Rattle.c_words.proofs.word.table_word.Reads as table-word-reads
 
 read-requires : tie.Need-read-requires
 read-requires c κs = search needs

@@ -7,7 +7,7 @@ use Rattle.tomchoen.proofs.c.tomchoen_union.Tie as tie
 use Rattle.tomchoen.proofs.c.tomchoen_union.Reads as reads
 use Rattle.tomchoen.proofs.c.tomchoen_union.Lts as lts
 use Rattle.columns.proofs.union.union.Reads as union-reads
-use Rattle.tomchoen.proofs.word.table_word.Reads as table-word-reads
+use Rattle.c_words.proofs.word.table_word.Reads as table-word-reads
 
 union-requires : tie.Need-union-requires
 union-requires c κs = search needs

@@ -7,7 +7,7 @@ use Rattle.tomchoen.proofs.c.tomchoen_write.Tie as tie
 use Rattle.tomchoen.proofs.c.tomchoen_write.Reads as reads
 use Rattle.tomchoen.proofs.c.tomchoen_write.Lts as lts
 use Rattle.text.proofs.write.Reads as write-reads
-use Rattle.tomchoen.proofs.word.bytes_word.Reads as bytes-word-reads
+use Rattle.c_words.proofs.word.bytes_word.Reads as bytes-word-reads
 
 write-requires : tie.Need-write-requires
 write-requires c κs = search needs

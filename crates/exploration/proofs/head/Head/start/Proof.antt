@@ -8,7 +8,7 @@ use Rattle.exploration.proofs.head.Head.start.Reads as reads
 use Rattle.exploration.proofs.head.Head.start.Lts as lts
 use Rattle.configuration.proofs.config.start_config.Reads as start-config-reads
 use Rattle.exploration.proofs.head.Head.admit.Reads as admit-reads
-use Rattle.exploration.proofs.offer.viable_config.Reads as viable-config-reads
+use Rattle.offers.proofs.offer.viable_config.Reads as viable-config-reads
 
 mul-if1 : tie.Need-mul-if1
 mul-if1 c = search needs

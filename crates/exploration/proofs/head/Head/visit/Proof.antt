@@ -6,7 +6,7 @@ use Rattle.exploration.proofs.head.Head.visit.Tie as tie
 use Rattle.exploration.proofs.head.Head.visit.Reads as reads
 use Rattle.exploration.proofs.head.Head.visit.Lts as lts
 use Rattle.exploration.proofs.head.Head.arrive.Reads as arrive-reads
-use Rattle.exploration.proofs.offer.offer.Reads as offer-reads
+use Rattle.offers.proofs.offer.offer.Reads as offer-reads
 
 offer-requires : tie.Need-offer-requires
 offer-requires c κs = search needs

@@ -1,0 +1,91 @@
+-- Comparing bytes, turn by turn, and the labels of an arc, tape by tape.
+use mathlib.Core.Path.{_≡_, sym}
+use mathlib.Core.Logic.{_≢_}
+use mathlib.Core.Bool.{Bool, true, false, not}
+use mathlib.Core.Option.{none, some, Option·none-ne-some, Option·some-injective}
+use mathlib.Core.List.{List}
+use Prim.Native.Nat.{ℕ, suc, _+_, _*_, _≤_, _<_}
+use native.Mathlib.Nat.{mul-le-mul}
+use native.Mathlib.Omega.{arith}
+use borrow.Author.Tests.{lt-ltb, le-ltb, not-true, not-false}
+use lib.Dec.{eqb, ltb, eqb-refl}
+use lib.ListN.{length, getD}
+use Rattle.automata.specs.Lists.{if, and, sameList}
+use Rattle.automata.proofs.TestFacts.{eqb-false, T-true}
+use Rattle.memory.specs.Region.{part}
+use Rattle.memory.proofs.PartLaws.{part-zero, part-suc}
+use Rattle.cell_moves.specs.declared.spot.Spot.{Spot}
+use Rattle.cell_moves.specs.declared.moves.Step.{Step}
+use Rattle.cell_moves.specs.declared.moves.Step.the-variants.{Moved, Stuck}
+use Rattle.cell_moves.specs.Moves.{stepAs, tapeMove, movesFrom, noSymbol}
+
+pub same-turn : (a b left rest : ℕ) (x y : List ℕ) → left ≡ suc rest → a < length x → b < length y → getD x a 0 ≡ getD y b 0
+    → sameList (part (a + 1) rest x) (part (b + 1) rest y) ≡ sameList (part a left x) (part b left y)
+same-turn a b left rest x y s f g h = rw (s, part-suc a rest x 0 f, part-suc b rest y 0 g, h, T-true (eqb (getD y b 0) (getD y b 0)) (eqb-refl (getD y b 0)))
+
+pub same-not : (a b left rest : ℕ) (x y : List ℕ) → left ≡ suc rest → a < length x → b < length y → getD x a 0 ≢ getD y b 0
+    → false ≡ sameList (part a left x) (part b left y)
+same-not a b left rest x y s f g h = rw (s, part-suc a rest x 0 f, part-suc b rest y 0 g, eqb-false (getD x a 0) (getD y b 0) h)
+
+pub same-end : (a b left : ℕ) (x y : List ℕ) → left ≡ 0 → true ≡ sameList (part a left x) (part b left y)
+same-end a b left x y s = rw (s, part-zero a x, part-zero b y)
+
+-- ---- one tape
+
+module _ (arcs : List ℕ) (at : ℕ) (text : List ℕ) (start size span : ℕ) where
+  pub move-long : size < getD arcs at 0 → none ≡ tapeMove arcs at text start size span
+  unfolding tapeMove
+  move-long h = rw (lt-ltb size (getD arcs at 0) h)
+
+  module _ (h : getD arcs at 0 ≤ size) (b : Bool) (e : b ≡ sameList (part (at + 1) (getD arcs at 0) arcs) (part start (getD arcs at 0) text)) where
+    pub move-differs : not b ≡ true → none ≡ tapeMove arcs at text start size span
+    unfolding tapeMove
+    move-differs n = rw (le-ltb size (getD arcs at 0) h, ← e, not-true b n)
+
+    pub move-same : not b ≡ false → some (getD arcs at 0 * span) ≡ tapeMove arcs at text start size span
+    unfolding tapeMove
+    move-same n = rw (le-ltb size (getD arcs at 0) h, ← e, not-false b n)
+
+  -- a move on one tape is not too long
+  pub move-bound : (m : ℕ) → getD arcs at 0 ≤ 8 → span ≤ 318644812890625 → tapeMove arcs at text start size span ≡ some m → m ≤ 2549158503125000
+  unfolding tapeMove
+  move-bound m short small e = go (ltb size (getD arcs at 0)) (sameList (part (at + 1) (getD arcs at 0) arcs) (part start (getD arcs at 0) text)) e
+    where
+      go : (b c : Bool) → if b none (if c (some (getD arcs at 0 * span)) none) ≡ some m → m ≤ 2549158503125000
+      go true c e = absurd (Option·none-ne-some m e)
+      go false true e = omega (arith, Option·some-injective (getD arcs at 0 * span) m e, mul-le-mul short small)
+      go false false e = absurd (Option·none-ne-some m e)
+
+-- ---- all tapes
+
+module _ (left rest h from total : ℕ) (arcs text : List ℕ) (s : Spot) (r : Step) (d : left ≡ suc rest)
+    (e : stepAs r ≡ tapeMove arcs from text (getD (s .starts) h 0) (getD (s .lengths) h 0) (getD (s .spans) h 0)) where
+  pub moves-stuck : r ≡ Stuck → stepAs r ≡ movesFrom left h from total arcs text s
+  unfolding movesFrom
+  moves-stuck k = let f = rw k at e in rw (d, k, ← f)
+
+  pub moves-turn : (by : ℕ) → r ≡ Moved by → movesFrom rest (h + 1) (from + 9) (total + by) arcs text s ≡ movesFrom left h from total arcs text s
+  unfolding movesFrom
+  moves-turn by k = let f = rw k at e in rw (d, ← f)
+
+  -- it is not too long
+  pub turn-bound : (by : ℕ) → r ≡ Moved by → getD arcs from 0 ≤ 8 → getD (s .spans) h 0 ≤ 318644812890625 → by ≤ 2549158503125000
+  turn-bound by k short small = let f = rw k at e in move-bound arcs from text (getD (s .starts) h 0) (getD (s .lengths) h 0) (getD (s .spans) h 0) by short small (sym f)
+
+pub moves-end : (left h from total : ℕ) (arcs text : List ℕ) (s : Spot) → left ≡ 0 → some total ≡ movesFrom left h from total arcs text s
+unfolding movesFrom
+moves-end left h from total arcs text s d = rw d
+
+-- ---- labels that are all empty
+
+pub empty-turn : (from left rest : ℕ) (arcs : List ℕ) → left ≡ suc rest → getD arcs from 0 ≡ 0 → noSymbol rest (from + 9) arcs ≡ noSymbol left from arcs
+unfolding noSymbol
+empty-turn from left rest arcs d e = rw (d, e)
+
+pub empty-not : (from left rest : ℕ) (arcs : List ℕ) → left ≡ suc rest → getD arcs from 0 ≢ 0 → false ≡ noSymbol left from arcs
+unfolding noSymbol
+empty-not from left rest arcs d e = rw (d, eqb-false (getD arcs from 0) 0 e)
+
+pub empty-end : (from left : ℕ) (arcs : List ℕ) → left ≡ 0 → true ≡ noSymbol left from arcs
+unfolding noSymbol
+empty-end from left arcs d = rw d

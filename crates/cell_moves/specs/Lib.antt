@@ -1,0 +1,4 @@
+-- What the contracts on the cells of a lookup cite.
+pub mod Distances
+pub mod Spots
+pub mod Moves

@@ -1,0 +1,94 @@
+// Whether the labels of an arc continue the strings from a combination of positions on, and to which one they lead.
+use crate::spot::Spot;
+ghost use mathlib.Core.Path.{_≡_};
+ghost use Prim.Native.Nat.{_+_, _*_, _≤_, _<_};
+ghost use lib.ListN.{length, getD};
+ghost use Rattle.automata.specs.Lists.{sameList};
+ghost use Rattle.memory.specs.Region.{part};
+ghost use Rattle.cell_moves.specs.Moves.{stepAs, tapeMove, movesFrom, noSymbol, Laid, Labelled};
+
+// How far the number of a combination moves, or that the labels do not continue the strings.
+pub enum Step {
+    Moved(usize),
+    Stuck,
+}
+
+// Whether n bytes of two slices are equal.
+fn same_bytes(x: &[u8], i: usize, y: &[u8], j: usize, n: usize) -> bool
+    requires { ⌜ (i + n ≤ length (now x)) × (j + n ≤ length (now y)) ⌝ }
+    ensures { λ r. ⌜ r ≡ sameList (part i n (now (x .entry))) (part j n (now (y .entry))) ⌝ }
+{
+    let mut left = n;
+    let mut a = i;
+    let mut b = j;
+    while 0 < left {
+        if x[a] != y[b] {
+            return false;
+        }
+        a += 1;
+        b += 1;
+        left -= 1;
+    }
+    true
+}
+
+// The label at a place of the arcs against what is left of one string, with so many combinations behind it.
+fn move_tape(arcs: &[u8], at: usize, text: &[u8], start: usize, size: usize, span: usize) -> Step
+    requires { ⌜ (at + 9 ≤ length (now arcs)) × (getD (now arcs) at 0 ≤ 8) × (start + size ≤ length (now text)) × (span ≤ 318644812890625) ⌝ }
+    ensures { λ r. ⌜ stepAs r ≡ tapeMove (now (arcs .entry)) at (now (text .entry)) start size span ⌝ }
+{
+    let n = arcs[at] as usize;
+    if size < n {
+        return Step::Stuck;
+    }
+    if !same_bytes(arcs, at + 1, text, start, n) {
+        return Step::Stuck;
+    }
+    Step::Moved(n * span)
+}
+
+// The labels from a place of the arcs on so many tapes against what is left of the strings.
+pub fn moved_on(arcs: &[u8], at: usize, tapes: usize, text: &[u8], spot: Spot) -> Step
+    requires { ⌜ Labelled (now arcs) at × Laid tapes (length (now text)) spot ⌝ }
+    ensures { λ r. ⌜ stepAs r ≡ movesFrom tapes 0 at 0 (now (arcs .entry)) (now (text .entry)) spot ⌝ }
+{
+    let mut total: usize = 0;
+    let mut from = at;
+    let mut h: usize = 0;
+    let mut left = tapes;
+    while 0 < left {
+        let step = move_tape(
+            arcs,
+            from,
+            text,
+            spot.starts[h],
+            spot.lengths[h],
+            spot.spans[h],
+        );
+        let Step::Moved(by) = step else {
+            return step;
+        };
+        total += by;
+        from += 9;
+        h += 1;
+        left -= 1;
+    }
+    Step::Moved(total)
+}
+
+// Whether the labels from a place of the arcs on so many tapes are all empty.
+pub fn no_symbol(arcs: &[u8], at: usize, tapes: usize) -> bool
+    requires { ⌜ at + 9 * tapes ≤ length (now arcs) ⌝ }
+    ensures { λ r. ⌜ r ≡ noSymbol tapes at (now (arcs .entry)) ⌝ }
+{
+    let mut place = at;
+    let mut left = tapes;
+    while 0 < left {
+        if arcs[place] != 0 {
+            return false;
+        }
+        place += 9;
+        left -= 1;
+    }
+    true
+}

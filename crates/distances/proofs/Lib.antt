@@ -1,0 +1,10 @@
+-- Laws that belong to no one function.
+pub mod DistanceLaws
+pub mod SweepLaws
+pub mod MoveMeaning
+pub mod RelaxLaws
+pub mod EmptyRounds
+pub mod RoundMeaning
+pub mod SpotMeaning
+pub mod StartMeaning
+pub mod LeastMeaning

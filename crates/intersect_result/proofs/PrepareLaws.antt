@@ -1,0 +1,108 @@
+-- The judgements before any configuration is reached, and the call that they are made for.
+use Prim.Native.Nat.{ℕ}
+use mathlib.Core.Path.{_≡_, refl, sym, ap, _∙_}
+use mathlib.Core.Bool.{Bool, true, false}
+use mathlib.Core.List.{List}
+use lib.Dec.{leb}
+use lib.ListN.{length}
+use Rattle.automata.specs.Refusal as refusal
+use Rattle.automata.specs.Answer.{_>>=_, Answer, ok, refused, require, judge, forget}
+use Rattle.automata.specs.Automaton.{Automaton, size}
+use Rattle.automata.specs.TapePair.{Pair}
+use Rattle.automata.specs.Memory.{Memory, Sound, tableOf, decodeTable}
+use Rattle.automata.specs.IntersectCall.{intersectOn, intersectCall}
+use Rattle.automata.specs.Calls.Work.{buildWork, enough}
+use Rattle.automata.specs.Calls.Intersect.{intersectAnswer}
+use Rattle.automata.proofs.AnswerFacts.{refused≢ok, bind-ok}
+use Rattle.automata.proofs.SoundFacts.{sound, tableOf-is, sound-holds}
+use Rattle.memory.specs.declared.answer.Judged.{Judged}
+use Rattle.memory.specs.declared.answer.Judged.the-variants.{Fine, Refused}
+use Rattle.memory.specs.Answers.{judgedAs}
+use Rattle.memory.proofs.TableLaws.{judged-sound}
+use Rattle.pairs.specs.declared.PairsJudged.{PairsJudged}
+use Rattle.pairs.specs.PairTests.{pairsAnswer}
+use Rattle.pairs.specs.Judgement.{KeepJudged}
+use Rattle.pairs.proofs.CallLaws.{intersect-then}
+use Rattle.workspace.specs.declared.room.RoomAnswer.{RoomAnswer}
+use Rattle.workspace.specs.Room.{lentSpace, RoomFor}
+use Rattle.intersect_result.specs.Prepared.{inTurn, Prepares}
+
+-- ---- judgements in turn
+
+-- the tests before an answer, and the answer
+pub turn-then : {A : Type 0} (p : Answer (Unit {0})) (b : Bool) (n : ℕ) (rest : Answer A)
+    → (p >>= λ (u : Unit {0}). judge b n rest) ≡ ((p >>= λ (u : Unit {0}). require b n) >>= λ (u : Unit {0}). rest)
+turn-then (refused k) b n rest = refl
+turn-then (ok u) true n rest = refl
+turn-then (ok u) false n rest = refl
+
+-- a judgement that is no refusal
+judged-fine : (j : Judged) (u : Unit {0}) → judgedAs j ≡ ok u → j ≡ Fine
+judged-fine Fine u e = refl
+judged-fine (Refused why) u e = absurd (refused≢ok e)
+
+require-true : (b : Bool) (n : ℕ) (u : Unit {0}) → require b n ≡ ok u → b ≡ true
+require-true true n u e = refl
+require-true false n u e = absurd (refused≢ok e)
+
+-- work space that is too short
+pub turn-short : (t p : Judged) (b : Bool) → t ≡ Fine → p ≡ Fine → b ≡ false → refused refusal.space ≡ inTurn (judgedAs t) (judgedAs p) b
+turn-short t p b e f g = rw (e, f, g)
+
+-- ---- the call
+module _ (m : Memory) (ps : List Pair) (D states arcs work : ℕ) (t p j : Answer (Unit {0})) (b : Bool)
+    (e : t ≡ forget (decodeTable m)) (f : p ≡ pairsAnswer (m .tapes) D ps) (g : b ≡ leb (buildWork (lentSpace states arcs) (m .states)) work) (h : j ≡ inTurn t p b) where
+  -- the call by the judgements
+  pub call-in-turn : (w : List ℕ) → length w ≡ work
+      → intersectAnswer m ps D (lentSpace states arcs) w ≡ (j >>= λ (u : Unit {0}). intersectOn D (lentSpace states arcs) ps (tableOf m))
+  unfolding intersectAnswer
+  call-in-turn w l = go (decodeTable m) refl
+    where
+      rest : Answer (Automaton ℕ)
+      rest = intersectOn D (lentSpace states arcs) ps (tableOf m)
+
+      next : Automaton ℕ → Answer (Automaton ℕ)
+      next A = intersectCall D (enough (buildWork (lentSpace states arcs) (size A)) w) (lentSpace states arcs) ps A
+
+      go : (r : Answer (Automaton ℕ)) → decodeTable m ≡ r → (decodeTable m >>= next) ≡ (j >>= λ (u : Unit {0}). rest)
+      go (refused n) d =
+          let x : t ≡ refused n = e ∙ ap forget d in
+          ap (λ (r : Answer (Automaton ℕ)). r >>= next) d ∙ sym (ap (λ (a : Answer (Unit {0})). a >>= λ (u : Unit {0}). rest) (h ∙ ap (λ (a : Answer (Unit {0})). inTurn a p b) x))
+      go (ok A) d =
+          let s : Sound m = sound m A d in
+          let a : A ≡ tableOf m = sym (tableOf-is m A d) in
+          let x : t ≡ ok tt = e ∙ ap forget d in
+          let y : enough (buildWork (lentSpace states arcs) (size (tableOf m))) w ≡ b =
+          ap (λ (n : ℕ). leb (buildWork (lentSpace states arcs) n) (length w)) (sym (sound-holds m s .states)) ∙ ap (leb (buildWork (lentSpace states arcs) (m .states))) l ∙ sym g in
+          ap (λ (r : Answer (Automaton ℕ)). r >>= next) d ∙ ap next a
+          ∙ intersect-then D (enough (buildWork (lentSpace states arcs) (size (tableOf m))) w) (lentSpace states arcs) ps (tableOf m) (m .tapes) (sym (sound-holds m s .tapes))
+          ∙ ap (λ (c : Bool). pairsAnswer (m .tapes) D ps >>= λ (u : Unit {0}). judge c refusal.space rest) y
+          ∙ ap (λ (a : Answer (Unit {0})). a >>= λ (u : Unit {0}). judge b refusal.space rest) (sym f)
+          ∙ turn-then p b refusal.space rest
+          ∙ sym (ap (λ (a : Answer (Unit {0})). a >>= λ (u : Unit {0}). rest) (h ∙ ap (λ (a : Answer (Unit {0})). inTurn a p b) x))
+
+-- The judgements are those of the call.
+pub prepared : (m : Memory) (ps : List Pair) (D states arcs work : ℕ) (t j : Judged) (l : PairsJudged) (r : RoomAnswer)
+    → judgedAs t ≡ forget (decodeTable m) → KeepJudged ps (m .tapes) D l → RoomFor states arcs (m .states) work r → judgedAs j ≡ inTurn (judgedAs t) (judgedAs (l .judged)) (r .enough)
+    → Prepares m ps D states arcs work (record { judged = j; pairs = l .pairs; room = r .room })
+prepared m ps D states arcs work t j l r e f g h = record {
+  answer = call-in-turn m ps D states arcs work (judgedAs t) (judgedAs (l .judged)) (judgedAs j) (r .enough) e (f .answer) (g .enough) h;
+  sound = λ k. judged-sound m (sym e ∙ first k .1);
+  pairs-are = λ k. f .pairs (second k);
+  four = λ k. f .four (second k);
+  named = λ k. f .tapes-named (second k);
+  limit-fits = λ k. f .limit-fits (second k);
+  divides = λ k. g .divides (third k);
+}
+  where
+    first : j ≡ Fine → (u : Unit {0}) × (judgedAs t ≡ ok u) × ((judgedAs (l .judged) >>= λ (v : Unit {0}). require (r .enough) refusal.space) ≡ ok tt)
+    first k = bind-ok (judgedAs t) (λ (u : Unit {0}). judgedAs (l .judged) >>= λ (v : Unit {0}). require (r .enough) refusal.space) tt (sym h ∙ ap judgedAs k)
+
+    next : j ≡ Fine → (u : Unit {0}) × (judgedAs (l .judged) ≡ ok u) × (require (r .enough) refusal.space ≡ ok tt)
+    next k = bind-ok (judgedAs (l .judged)) (λ (v : Unit {0}). require (r .enough) refusal.space) tt (first k .2)
+
+    second : j ≡ Fine → l .judged ≡ Fine
+    second k = judged-fine (l .judged) (next k .0) (next k .1)
+
+    third : j ≡ Fine → r .enough ≡ true
+    third k = require-true (r .enough) refusal.space tt (next k .2)

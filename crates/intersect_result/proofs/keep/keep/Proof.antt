@@ -1,0 +1,43 @@
+-- `intersect_result::keep::keep` meets its contract. Assumes nothing.
+use Rattle.intersect_result.proofs.KeepLaws.{finals-bits, rows-kept}
+use borrow.Author.Needs.{needs}
+use Rattle.intersect_result.proofs.keep.keep.Statement.{statement}
+use Rattle.intersect_result.proofs.keep.keep.Tie as tie
+use Rattle.intersect_result.proofs.keep.keep.Reads as reads
+use Rattle.intersect_result.proofs.keep.keep.Lts as lts
+use Rattle.edges.proofs.mark.mark_coaccessible.Reads as mark-coaccessible-reads
+use Rattle.trimming.proofs.final_marks.mark_final.Reads as mark-final-reads
+use Rattle.trimming.proofs.rank.number_marked.Reads as number-marked-reads
+
+mark-final-requires : tie.Need-mark-final-requires
+mark-final-requires c κs = search needs
+
+slice-aggregate-mark-coaccessible : tie.Need-slice-aggregate-mark-coaccessible
+slice-aggregate-mark-coaccessible c = search needs
+
+mark-coaccessible-requires : tie.Need-mark-coaccessible-requires
+mark-coaccessible-requires c κs = (search needs, search needs, search needs, search needs, finals-bits _ _ _ _ _ (c .before .before .before .before .mark-final .ensures))
+
+number-marked-requires : tie.Need-number-marked-requires
+number-marked-requires c κs = search needs
+
+same-length : tie.Need-same-length
+same-length c = search needs
+
+same-length-2 : tie.Need-same-length-2
+same-length-2 c = search needs
+
+returns : tie.Need-returns
+returns c = rows-kept _ _ _ _ _ (c .before .before .before .before .before .before .before .before .before .before .before .before .before .mark-final .ensures) _ _ _ _ _ (c .before .before .before .before .before .before .before .before .mark-coaccessible .ensures) (c .before .before .number-marked .ensures)
+
+pub keep-spec : {M : Type 1} → statement M
+keep-spec =
+    tie.close
+    (tie.spec
+    mark-final-requires
+    slice-aggregate-mark-coaccessible
+    mark-coaccessible-requires
+    number-marked-requires
+    same-length
+    same-length-2
+    returns)

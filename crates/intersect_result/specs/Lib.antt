@@ -1,0 +1,4 @@
+-- What the contracts of the auto-intersection as it is called cite.
+pub mod Standing
+pub mod Searched
+pub mod Prepared

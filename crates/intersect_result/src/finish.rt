@@ -1,0 +1,78 @@
+// The answer of an auto-intersection, by what the search over its configurations left in work space.
+use crate::keep::keep;
+use memory::answer::Counts;
+use memory::answer::Refusal;
+use memory::answer::TableAnswer;
+use trimming::result::write_arcs;
+use trimming::result::write_states;
+use workspace::room::Room;
+ghost use lib.ListN.{length};
+ghost use Rattle.memory.specs.Answers.{lent, tableAs};
+ghost use Rattle.intersect_result.specs.Standing.{Finishable, Finished};
+ghost use Rattle.intersect_result.specs.Searched.{Settleable, Settled};
+
+// The result on the configurations that stand in `work`, the edges between them from `base` on: those from which a final one is reached.
+pub fn finish(
+    counts: Counts,
+    base: usize,
+    reached: usize,
+    arcs: usize,
+    states: &[u8],
+    inputs: &[u8],
+    work: &[u8],
+    out_states: &mut [u8],
+    out_arcs: &mut [u8],
+) -> TableAnswer
+    requires { ⌜ Finishable (lent counts (now states) (now inputs)) base reached arcs (now work) (length (now «out_states»)) (length (now «out_arcs»)) ⌝ }
+    ensures { λ r. ⌜ Finished (lent counts (now (states .entry)) (now (inputs .entry))) base reached arcs (now (work .entry)) (tableAs r) (now («out_states» .exit)) (now («out_arcs» .exit)) (now («out_states» .entry)) (now («out_arcs» .entry)) ⌝ }
+{
+    let mut marks = [0u8; 1024];
+    let mut ranks = [0u16; 1024];
+    let kept = keep(base, reached, arcs, states, work, &mut marks, &mut ranks);
+    write_states(work, reached, &marks, states, out_states);
+    let number = write_arcs(work, base, arcs, &marks, &ranks, inputs, out_arcs);
+    TableAnswer::Table(Counts {
+        tapes: counts.tapes,
+        states: kept,
+        arcs: number,
+    })
+}
+
+// The answer: more configurations than there is room for (8), more arcs (9), a step that is too long (10), or the result.
+pub fn settle(
+    counts: Counts,
+    room: Room,
+    full: bool,
+    late: bool,
+    reached: usize,
+    arcs: usize,
+    states: &[u8],
+    inputs: &[u8],
+    work: &[u8],
+    out_states: &mut [u8],
+    out_arcs: &mut [u8],
+) -> TableAnswer
+    requires { ⌜ Settleable (lent counts (now states) (now inputs)) room full late reached arcs (now work) (length (now «out_states»)) (length (now «out_arcs»)) ⌝ }
+    ensures { λ r. ⌜ Settled (lent counts (now (states .entry)) (now (inputs .entry))) room full late reached arcs (now (work .entry)) (tableAs r) (now («out_states» .exit)) (now («out_arcs» .exit)) (now («out_states» .entry)) (now («out_arcs» .entry)) ⌝ }
+{
+    if full {
+        return TableAnswer::Refused(Refusal::StatesFull);
+    }
+    if room.arcs < arcs {
+        return TableAnswer::Refused(Refusal::ArcsFull);
+    }
+    if late {
+        return TableAnswer::Refused(Refusal::Delay);
+    }
+    finish(
+        counts,
+        room.edges,
+        reached,
+        arcs,
+        states,
+        inputs,
+        work,
+        out_states,
+        out_arcs,
+    )
+}

@@ -1,0 +1,26 @@
+// The configurations that are kept: those from which a final one is reached.
+use edges::mark::mark_coaccessible;
+use trimming::final_marks::mark_final;
+use trimming::rank::number_marked;
+ghost use Prim.Native.Nat.{_≤_};
+ghost use lib.ListN.{length};
+ghost use Rattle.intersect_result.specs.Standing.{Laid, Kept};
+
+// The marks of the rows from which a final one is reached, and the number of marked rows before each. Answers how many are marked.
+pub fn keep(
+    base: usize,
+    reached: usize,
+    arcs: usize,
+    states: &[u8],
+    work: &[u8],
+    marks: &mut [u8],
+    ranks: &mut [u16],
+) -> usize
+    requires { ⌜ Laid base reached arcs (now states) (now work) × (reached ≤ length (now marks)) × (reached ≤ length (now ranks)) ⌝ }
+    ensures { λ r. ⌜ Kept base reached arcs (now (states .entry)) (now (work .entry)) (now (marks .exit)) (now (ranks .exit)) r ⌝ }
+{
+    let mut scratch = [0u8; 1024];
+    mark_final(work, reached, states, marks);
+    mark_coaccessible(work, base, arcs, reached, marks, &mut scratch);
+    number_marked(marks, reached, ranks)
+}

@@ -1,0 +1,2 @@
+-- What the contracts of a join cite.
+pub mod Steps

@@ -1,0 +1,101 @@
+-- Configurations and their rows: a configuration in its one form comes back, rows tell configurations apart, and which ones may be stored.
+use Prim.Native.Nat.{ℕ, zero, suc, _+_, _-_, _≤_, _<_}
+use mathlib.Core.Path.{_≡_, sym, ap, _∙_, subst}
+use mathlib.Core.Bool.{Bool, true, false}
+use mathlib.Core.List.{List, [], _∷_, _++_, map}
+use native.Mathlib.Omega.{arith}
+use lib.Dec.{ltb}
+use lib.ListN.{length, getD, take, replicate, length-append, length-map}
+use lib.Seq.{take-at, getD-take, length-take-le}
+use Rattle.automata.specs.Lists.{All, or}
+use Rattle.automata.specs.TapePair.{Pair, limited}
+use Rattle.automata.specs.Config as automata
+use Rattle.automata.proofs.TestFacts
+use Rattle.automata.proofs.Configurations.{configs-decided}
+use Rattle.configuration.specs.declared.leftover.Leftover.{Leftover}
+use Rattle.configuration.specs.declared.config.Config.{Config}
+use Rattle.configuration.specs.Leftovers.{sided, leftoverAs, leftoverOf, blank, outside, Good}
+use Rattle.configuration.specs.Configs.{configAs, GoodConfig, configBytes}
+use Rattle.configuration.proofs.ListLaws.{All-take}
+use Rattle.configuration.proofs.TestLaws.{kept-length}
+use Rattle.configuration.proofs.RoundLaws.{all-leftovers, same-bytes, length-config}
+use Rattle.rows.specs.Inserted.{Tells}
+use Rattle.rows.proofs.CodeLaws.{codes-tell}
+use Rattle.offers.specs.Held.{configOf, rowOf, Stored}
+
+-- ---- by value and back
+
+-- A configuration in its one form is the one by value of what it stands for.
+pub form-back : (used : ℕ) (d : Config) → used ≤ 4 → GoodConfig used d → configOf (configAs used d) ≡ d
+form-back used d h g =
+    let n : length (configAs used d .leftovers) ≡ used = length-map (take used (d .leftovers)) leftoverAs ∙ length-take-le used (d .leftovers) (omega (arith, g .four)) in
+    let ls : configOf (configAs used d) .leftovers ≡ d .leftovers =
+    ap (λ (k : ℕ). map leftoverOf (configAs used d .leftovers) ++ replicate (4 - k) blank) n ∙ all-leftovers used d d g g d g in
+    λ i. record { state = d .state; leftovers = ls i }
+
+-- it may be stored where its state and its leftovers are within bounds
+pub stored-form : (used limit n : ℕ) (d : Config) → used ≤ 4 → GoodConfig used d → d .state .0 < n
+    → ((h : ℕ) → h < used → getD (d .leftovers) h outside .len ≤ limit) → Stored used limit n (configAs used d)
+stored-form used limit n d h g s k =
+    let e : configOf (configAs used d) ≡ d = form-back used d h g in
+    record {
+      state-fits = s;
+      form = subst (GoodConfig used) (sym e) g;
+      meaning = ap (configAs used) e;
+      short = subst (λ (x : Config). (i : ℕ) → i < used → getD (x .leftovers) i outside .len ≤ limit) (sym e) k;
+    }
+
+-- ---- rows
+
+-- a row takes up 320 bytes
+pub length-row : (used limit n : ℕ) (c : automata.Config) → Stored used limit n c → length (rowOf c) ≡ 320
+unfolding rowOf
+length-row used limit n c s =
+    let l = length-config used (configOf c) (s .form) in
+    length-append (configBytes (configOf c)) (replicate 22 0) ∙ omega (arith, l)
+
+-- rows with the same bytes are those of the same configuration
+row-injective : (used limit n : ℕ) (c d : automata.Config) → Stored used limit n c → Stored used limit n d → rowOf c ≡ rowOf d → c ≡ d
+unfolding rowOf
+row-injective used limit n c d s t e =
+    let z : List ℕ = replicate 22 0 in
+    let a : take 298 (configBytes (configOf c) ++ z) ≡ configBytes (configOf c) = take-at (configBytes (configOf c)) z 298 (length-config used (configOf c) (s .form)) in
+    let b : take 298 (configBytes (configOf d) ++ z) ≡ configBytes (configOf d) = take-at (configBytes (configOf d)) z 298 (length-config used (configOf d) (t .form)) in
+    let q : configBytes (configOf c) ≡ configBytes (configOf d) = sym a ∙ ap (take 298) e ∙ b in
+    sym (s .meaning) ∙ ap (configAs used) (same-bytes used (configOf c) (configOf d) (s .form) (t .form) q) ∙ t .meaning
+
+-- so they tell one that may be stored from all that are
+pub rows-tell : (used limit n : ℕ) (c : automata.Config) (cs : List automata.Config) → Stored used limit n c → All (Stored used limit n) cs → Tells rowOf automata.sameConfig c cs
+rows-tell used limit n c cs s t = codes-tell rowOf automata.sameConfig configs-decided (Stored used limit n) (row-injective used limit n) c cs s t
+
+-- ---- the limit
+
+-- a leftover that is not longer than the limit on either tape
+one-short : (D : ℕ) (l : Leftover) → Good l → or (ltb D (length (leftoverAs l .first))) (ltb D (length (leftoverAs l .second))) ≡ false → l .len ≤ D
+one-short D l g t = go (l .second) t
+  where
+    r : List ℕ
+    r = take (l .len) (l .symbols)
+
+    go : (b : Bool) → or (ltb D (length (sided b r .first))) (ltb D (length (sided b r .second))) ≡ false → l .len ≤ D
+    go true t = let k : length r ≤ D = TestFacts.ltb-false (TestFacts.or-false (ltb D 0) (ltb D (length r)) t .1) in omega (arith, kept-length l g)
+    go false t = let k : length r ≤ D = TestFacts.ltb-false (TestFacts.or-false (ltb D (length r)) (ltb D 0) t .0) in omega (arith, kept-length l g)
+
+-- all of several
+each-short : (D : ℕ) (ps : List Pair) (ls : List Leftover) → All Good ls → length ps ≡ length ls → automata.tooLong (limited D ps) (map leftoverAs ls) ≡ false
+    → (h : ℕ) → h < length ls → getD ls h outside .len ≤ D
+each-short D [] [] g e t h b = absurd (omega arith)
+each-short D [] (l ∷ ls) g e t h b = absurd (omega arith)
+each-short D (p ∷ ps) [] g e t h b = absurd (omega arith)
+each-short D (p ∷ ps) (l ∷ ls) g e t zero b = one-short D l (g .0)
+    (TestFacts.or-false (or (ltb D (length (leftoverAs l .first))) (ltb D (length (leftoverAs l .second)))) (automata.tooLong (limited D ps) (map leftoverAs ls)) t .0)
+each-short D (p ∷ ps) (l ∷ ls) g e t (suc h) b = each-short D ps ls (g .1) (omega arith)
+    (TestFacts.or-false (or (ltb D (length (leftoverAs l .first))) (ltb D (length (leftoverAs l .second)))) (automata.tooLong (limited D ps) (map leftoverAs ls)) t .1) h (omega arith)
+
+-- A configuration of which no leftover is too long.
+pub not-long : (used limit : ℕ) (ps : List Pair) (d : Config) → used ≤ 4 → GoodConfig used d → length ps ≡ used → automata.tooLong (limited limit ps) (configAs used d .leftovers) ≡ false
+    → (h : ℕ) → h < used → getD (d .leftovers) h outside .len ≤ limit
+not-long used limit ps d k g e t h b =
+    let n : length (take used (d .leftovers)) ≡ used = length-take-le used (d .leftovers) (omega (arith, g .four)) in
+    let q : getD (take used (d .leftovers)) h outside ≡ getD (d .leftovers) h outside = getD-take used (d .leftovers) h outside b in
+    rw (← q) (each-short limit ps (take used (d .leftovers)) (All-take Good used (d .leftovers) (g .each)) (e ∙ sym n) t h (omega arith))

@@ -1,0 +1,63 @@
+-- `pair_line::pair::judge_pair` meets its contract. Assumes nothing.
+use Rattle.pair_line.proofs.PairLaws.{pair-judged}
+use borrow.Author.Needs.{needs}
+use Rattle.pair_line.proofs.pair.judge_pair.Statement.{statement}
+use Rattle.pair_line.proofs.pair.judge_pair.Tie as tie
+use Rattle.pair_line.proofs.pair.judge_pair.Reads as reads
+use Rattle.pair_line.proofs.pair.judge_pair.Lts as lts
+use Rattle.text_columns.proofs.decimal.judge_number.Reads as judge-number-reads
+use Rattle.text_columns.proofs.decimal.read_decimal.Reads as read-decimal-reads
+use Rattle.memory.proofs.answer.both.Reads as both-reads
+
+sub-read-decimal : tie.Need-sub-read-decimal
+sub-read-decimal c = search needs
+
+part-read-decimal-start : tie.Need-part-read-decimal-start
+part-read-decimal-start c = search needs
+
+part-read-decimal-end : tie.Need-part-read-decimal-end
+part-read-decimal-end c = search needs
+
+read-decimal-requires : tie.Need-read-decimal-requires
+read-decimal-requires c κs = search needs
+
+sub-read-decimal-2 : tie.Need-sub-read-decimal-2
+sub-read-decimal-2 c = search needs
+
+part-read-decimal-start-2 : tie.Need-part-read-decimal-start-2
+part-read-decimal-start-2 c = search needs
+
+part-read-decimal-end-2 : tie.Need-part-read-decimal-end-2
+part-read-decimal-end-2 c = search needs
+
+read-decimal-requires-2 : tie.Need-read-decimal-requires-2
+read-decimal-requires-2 c κs = search needs
+
+judge-number-requires : tie.Need-judge-number-requires
+judge-number-requires c κs = search needs
+
+judge-number-requires-2 : tie.Need-judge-number-requires-2
+judge-number-requires-2 c κs = search needs
+
+both-requires : tie.Need-both-requires
+both-requires c κs = search needs
+
+returns : tie.Need-returns
+returns c = let s = c .before .before .before .before .before .before .before .before in pair-judged _ (s .pre) (c .before .before .before .before .before .read-decimal .result) (c .before .before .before .read-decimal2 .result) (c .before .before .judge-number .result) (c .before .judge-number2 .result) (c .both .result) (c .before .before .before .before .before .read-decimal .ensures) (c .before .before .before .read-decimal2 .ensures) (c .before .before .judge-number .ensures) (c .before .judge-number2 .ensures) (c .both .ensures)
+
+pub judge-pair-spec : {M : Type 1} → statement M
+judge-pair-spec =
+    tie.close
+    (tie.spec
+    sub-read-decimal
+    part-read-decimal-start
+    part-read-decimal-end
+    read-decimal-requires
+    sub-read-decimal-2
+    part-read-decimal-start-2
+    part-read-decimal-end-2
+    read-decimal-requires-2
+    judge-number-requires
+    judge-number-requires-2
+    both-requires
+    returns)

@@ -1,0 +1,3 @@
+// The pair line of the program agree.
+pub mod line;
+pub mod pair;

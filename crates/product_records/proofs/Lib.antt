@@ -1,0 +1,4 @@
+-- Laws of the aligned product as it is called.
+pub mod SumLaws
+pub mod RecordLaws
+pub mod ResultLaws

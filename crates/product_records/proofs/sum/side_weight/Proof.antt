@@ -1,0 +1,44 @@
+-- `product_records::sum::side_weight` meets its contract. Assumes nothing.
+use Rattle.product_records.proofs.SumLaws.{side-ended, side-arc}
+use native.Mathlib.Omega.{arith}
+use borrow.Author.Needs.{needs}
+use Rattle.product_records.proofs.sum.side_weight.Statement.{statement}
+use Rattle.product_records.proofs.sum.side_weight.Tie as tie
+use Rattle.product_records.proofs.sum.side_weight.Reads as reads
+use Rattle.product_records.proofs.sum.side_weight.Lts as lts
+use Rattle.memory.proofs.bytes.get32.Reads as get32-reads
+use Rattle.product_records.proofs.sum.place_state.Reads as place-state-reads
+use Rattle.product_records.proofs.sum.weight_amount.Reads as weight-amount-reads
+
+place-state-requires : tie.Need-place-state-requires
+place-state-requires c κs = search needs
+
+weight-amount-requires : tie.Need-weight-amount-requires
+weight-amount-requires c κs = search needs
+
+returns : tie.Need-returns
+returns c = side-ended _ _ _ _ _ _ (c .before .before .before .before .before .pre) (c .before .before .if1 .taken) (c .before .place-state .ensures) (c .weight-amount .ensures)
+
+mul-get32 : tie.Need-mul-get32
+mul-get32 c = search needs
+
+add-get32 : tie.Need-add-get32
+add-get32 c = search needs
+
+get32-requires : tie.Need-get32-requires
+get32-requires c κs = let k = c .before .before .before .pre .arc-there (c .if1 .left) in omega (arith, k)
+
+returns-2 : tie.Need-returns-2
+returns-2 c = side-arc _ _ _ _ _ (c .before .before .before .before .pre) (c .before .if1 .left) (c .get32 .ensures)
+
+pub side-weight-spec : {M : Type 1} → statement M
+side-weight-spec =
+    tie.close
+    (tie.spec
+    place-state-requires
+    weight-amount-requires
+    returns
+    mul-get32
+    add-get32
+    get32-requires
+    returns-2)

@@ -1,0 +1,3 @@
+-- Laws of texts that are read and written.
+pub mod RecodeLaws
+pub mod StoredLaws

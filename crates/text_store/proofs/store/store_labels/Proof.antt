@@ -1,0 +1,97 @@
+-- `text_store::store::store_labels` meets its contract. Assumes nothing.
+use Rattle.text_store.proofs.StoredLaws.{label-sized}
+use Rattle.text_store.specs.Stored.{labelOfColumns}
+use Rattle.text_store.proofs.RecodeLaws.{recode-turn, recode-done}
+use Rattle.text_store.specs.Recode.{recoded}
+use Rattle.memory.specs.Region.{splice}
+use lib.ListN.{length, drop}
+use Prim.Native.Nat.{_+_, _*_, _≤_}
+use native.Mathlib.Omega.{arith}
+use mathlib.Core.Path.{_≡_, refl, sym, ap, _∙_}
+use borrow.Author.Needs.{needs}
+use Rattle.text_store.proofs.store.store_labels.Statement.{statement}
+use Rattle.text_store.proofs.store.store_labels.Tie as tie
+use Rattle.text_store.proofs.store.store_labels.Reads as reads
+use Rattle.text_store.proofs.store.store_labels.Lts as lts
+use Rattle.memory.proofs.bytes.copy_into.Reads as copy-into-reads
+use Rattle.text_store.proofs.store.label_record.Reads as label-record-reads
+
+abbrev Inv-loop : tie.InvT-loop
+Inv-loop labels tapes arcs₀ start left₀ at₀ to₀ arcs left at to = (at + left * 9 ≤ length labels) × (to + left * 9 ≤ length arcs) × (length arcs ≡ length arcs₀)
+    × (splice to (recoded labelOfColumns 9 left (drop at labels)) arcs ≡ splice start (recoded labelOfColumns 9 tapes labels) arcs₀)
+
+abbrev μ-loop : tie.MeasureT-loop
+μ-loop labels tapes arcs₀ start left₀ at₀ to₀ arcs left at to = left
+
+loop-holds : tie.Need-loop-holds Inv-loop μ-loop
+loop-holds c = (search needs, search needs, search needs, refl)
+
+add-label-record : tie.Need-add-label-record Inv-loop μ-loop
+add-label-record c = search needs
+
+sub-label-record : tie.Need-sub-label-record Inv-loop μ-loop
+sub-label-record c = search needs
+
+part-label-record-start : tie.Need-part-label-record-start Inv-loop μ-loop
+part-label-record-start c = search needs
+
+part-label-record-end : tie.Need-part-label-record-end Inv-loop μ-loop
+part-label-record-end c = search needs
+
+label-record-requires : tie.Need-label-record-requires Inv-loop μ-loop
+label-record-requires c κs = search needs
+
+slice-aggregate-copy-into : tie.Need-slice-aggregate-copy-into Inv-loop μ-loop
+slice-aggregate-copy-into c = search needs
+
+copy-into-requires : tie.Need-copy-into-requires Inv-loop μ-loop
+copy-into-requires c κs = search needs
+
+sub-left : tie.Need-sub-left Inv-loop μ-loop
+sub-left c = search needs
+
+add-at : tie.Need-add-at Inv-loop μ-loop
+add-at c = search needs
+
+add-to : tie.Need-add-to Inv-loop μ-loop
+add-to c = search needs
+
+loop-less : tie.Need-loop-less Inv-loop μ-loop
+loop-less c = search needs
+
+loop-again : tie.Need-loop-again Inv-loop μ-loop
+loop-again c = let l = c .before .before .before .before .before .before .before .before .loop in
+    let k = c .before .before .copy-into .kept .0 in (
+      omega arith,
+      omega (arith, k),
+      k ∙ l .inv .2,
+      recode-turn labelOfColumns 9 9 label-sized _ _ _ (l .at) (l .to) (l .left) (c .before .before .before .before .before .before .before .loop-test .taken) (l .inv .0) (l .inv .1) (c .before .before .copy-into .ensures ∙ ap (λ r. splice (l .to) r (l .arcs)) (c .before .before .before .before .before .label-record .ensures)) ∙ l .inv .3,
+    )
+
+same-length : tie.Need-same-length Inv-loop μ-loop
+same-length c = search needs
+
+returns : tie.Need-returns Inv-loop μ-loop
+returns c = let l = c .before .loop in sym (recode-done labelOfColumns 9 _ _ (l .to) (l .left) (omega arith)) ∙ l .inv .3
+
+pub store-labels-spec : {M : Type 1} → statement M
+store-labels-spec =
+    tie.close
+    (tie.spec
+    Inv-loop
+    μ-loop
+    loop-holds
+    add-label-record
+    sub-label-record
+    part-label-record-start
+    part-label-record-end
+    label-record-requires
+    slice-aggregate-copy-into
+    copy-into-requires
+    sub-left
+    add-at
+    add-to
+    loop-less
+    loop-again
+    same-length
+    returns)

@@ -1,0 +1,3 @@
+-- What the contracts of text cite besides the definitions of the automata.
+pub mod Recode
+pub mod Stored

@@ -1,0 +1,2 @@
+// The records of a table stored from its text.
+pub mod store;
