@@ -1,4 +1,4 @@
--- Laws of the first line of an input, of pairs as bytes, and of the program's steps.
+-- Laws of the first line of an input and of the program's steps.
 pub mod FirstLaws
 pub mod CutLaws
 pub mod RefusalLaws

@@ -1,2 +1,2 @@
--- What the contracts of the library's face cite.
+-- What an answer as one number stands for.
 pub mod Words

@@ -1,1 +1,1 @@
-// What the calls over columns come to, from what their steps gave: no code.
+// What the calls over columns come to, from what their steps gave. No code.

@@ -1,4 +1,4 @@
--- Laws of unions and columns of tables.
+-- Laws of the records of unions and columns.
 pub mod RewriteLaws
 pub mod ChoiceLaws
 pub mod RoomLaws

@@ -1,4 +1,4 @@
--- What the contracts over unions and columns of tables cite.
+-- What the contracts on the records of unions and columns cite.
 pub mod Rewritten
 pub mod Choice
 pub mod Results

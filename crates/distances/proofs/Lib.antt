@@ -1,4 +1,4 @@
--- Laws that belong to no one function.
+-- Laws of shortest distances on the cells of a lookup.
 pub mod DistanceLaws
 pub mod SweepLaws
 pub mod MoveMeaning

@@ -1,3 +1,3 @@
--- What the contracts on the cells of a lookup cite.
+-- What the rounds over arcs and the final weights make of the cells of a lookup.
 pub mod Sweeps
 pub mod Ends

@@ -1,1 +1,1 @@
-// Shortest distances on the cells of a lookup: no code, only what rounds over the arcs come to.
+// Shortest distances on the cells of a lookup: what rounds over the arcs come to. No code.

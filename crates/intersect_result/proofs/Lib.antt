@@ -1,4 +1,4 @@
--- Laws of the auto-intersection as it is called.
+-- Laws of the result of an auto-intersection.
 pub mod KeepLaws
 pub mod FinishLaws
 pub mod PrepareLaws

@@ -1,4 +1,4 @@
--- What the contracts of the auto-intersection as it is called cite.
+-- What the contracts on the result of an auto-intersection cite.
 pub mod Standing
 pub mod Searched
 pub mod Prepared

@@ -1,4 +1,4 @@
--- Laws of a join as it is called.
+-- Laws of a join's steps.
 pub mod MaskLaws
 pub mod DropLaws
 pub mod KeepLaws

@@ -1,2 +1,2 @@
--- What the contracts of a join cite.
+-- What the contracts of a join's steps cite.
 pub mod Steps

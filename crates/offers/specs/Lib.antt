@@ -1,4 +1,4 @@
--- What the contracts of the search over configurations cite.
+-- What the contracts on the plan of a search and on the offers of arcs cite.
 pub mod Held
 pub mod Plans
 pub mod Offers

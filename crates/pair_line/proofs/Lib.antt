@@ -1,3 +1,3 @@
--- Laws of the first line of an input, of pairs as bytes, and of the program's steps.
+-- Laws of the pair line and of pairs as bytes.
 pub mod PairLaws
 pub mod LineLaws

@@ -1,4 +1,4 @@
--- What the contracts of agree_text cite besides the definitions of the automata.
+-- What the contracts on the pair line cite.
 pub mod PairBytes
 pub mod PairColumns
 pub mod LineParts

@@ -1,4 +1,4 @@
--- Laws of the aligned product as it is called.
+-- Laws of the records of a product.
 pub mod SumLaws
 pub mod RecordLaws
 pub mod ResultLaws

@@ -1,3 +1,3 @@
--- What the contracts of the aligned product as it is called cite.
+-- What the contracts on the records of a product cite.
 pub mod Sums
 pub mod Results

@@ -1,3 +1,3 @@
--- Laws of texts that are read and written.
+-- Laws of records stored from a text.
 pub mod RecodeLaws
 pub mod StoredLaws

@@ -1,3 +1,3 @@
--- What the contracts of text cite besides the definitions of the automata.
+-- What the contracts on records stored from a text cite.
 pub mod Recode
 pub mod Stored
