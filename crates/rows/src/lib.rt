@@ -1,4 +1,4 @@
-// Records of one size in a lent slice: the search for one, and its entry behind the last.
+// Records in a lent slice: the search for one among those of one size, its entry behind the last, and a record kept where there is room for it.
 // Document 01: "the same configuration is one state, however often it is reached".
 use memory::bytes::copy_into;
 use memory::record::ResultState;
