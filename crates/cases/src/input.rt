@@ -112,6 +112,12 @@ pub fn next(input: &[u8], at: usize) -> usize {
     if mark < input.len() { mark + 1 } else { 0 }
 }
 
+// Where the line behind the one that a byte stands on begins; the end where there is none.
+pub fn line_after(input: &[u8], at: usize) -> usize {
+    let end = find(input, at, b'\n');
+    if end < input.len() { end + 1 } else { end }
+}
+
 // The numbers of a line from a place on, as bytes, and how many there are; a number above 255 ends them.
 pub fn bytes(input: &[u8], at: usize, place: usize, out: &mut [u8]) -> usize
     ensures { λ r. ⌜ r ≤ length (now (out .entry)) ⌝ }
@@ -164,7 +170,7 @@ pub fn string_after(input: &[u8], at: usize) -> usize
 }
 
 // The lesser of two places.
-fn least(a: usize, b: usize) -> usize
+pub fn least(a: usize, b: usize) -> usize
     ensures { λ r. ⌜ r ≤ b ⌝ }
 {
     if a < b { a } else { b }
