@@ -1,18 +1,24 @@
 // Unions of tables, tapes chosen and tapes dropped. Prints, for each case, its number, the answer, whether the result space kept its bytes
-// (all of them on a refusal, those past the records of a table), and the table.
-mod cases;
+// (all of them on a refusal, those past the records of a table), and the table. The cases stand in the file `stdin`, in the form that the crate
+// `cases` reads.
 mod run;
 
+use cases::input::next;
+
+// Every case of an input, of at most 200.
+fn run_all(input: &[u8]) {
+    let mut at: usize = 0;
+    for _ in 0u64..200 {
+        at = next(input, at);
+        if at == 0 {
+            return;
+        }
+        run::case(input, at);
+    }
+}
+
 fn main() {
-    cases::appended();
-    cases::appended_2();
-    cases::appended_3();
-    cases::damaged();
-    cases::greatest();
-    cases::chosen();
-    cases::chosen_2();
-    cases::chosen_3();
-    cases::dropped();
-    cases::dropped_2();
-    cases::dropped_3();
+    let mut input = io::large_buffer();
+    io::read_full(0, &mut input);
+    run_all(&input);
 }

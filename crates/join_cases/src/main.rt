@@ -1,15 +1,23 @@
 // Joins tables and prints, for each case, its number, the answer, whether a refusal kept the result space, whether product space and work space are
-// clear, and the joined table where it is small.
-mod documents;
-mod refusals;
+// clear, and the joined table where it is small. The cases stand in the file `stdin`, in the form that the crate `cases` reads.
 mod run;
-mod tables;
+
+use cases::input::next;
+
+// Every case of an input, of at most 200.
+fn run_all(input: &[u8]) {
+    let mut at: usize = 0;
+    for _ in 0u64..200 {
+        at = next(input, at);
+        if at == 0 {
+            return;
+        }
+        run::case(input, at);
+    }
+}
 
 fn main() {
-    documents::part_1();
-    refusals::part_1();
-    refusals::part_2();
-    refusals::part_3();
-    refusals::part_4();
-    refusals::part_5();
+    let mut input = io::large_buffer();
+    io::read_full(0, &mut input);
+    run_all(&input);
 }

@@ -1,279 +1,171 @@
 // One join: two tables read from their texts, joined in space of a given size, and what is printed of the answer.
+use cases::input::bytes;
+use cases::input::least;
+use cases::input::lent;
+use cases::input::named;
+use cases::input::number;
+use cases::input::read_string;
+use cases::input::table;
+use cases::print::front_clear;
+use cases::print::print_answer;
+use cases::print::print_clear;
+use cases::print::print_clear_line;
+use cases::print::print_refused_kept;
+use cases::print::print_text;
 use join::call::join;
 use memory::answer::Counts;
 use memory::answer::TableAnswer;
-use memory::answer::refusal_number;
-use memory::judge::all_zero;
-use text::WriteAnswer;
 
-// A blank and a number.
-fn print_number(n: usize) {
-    io::write_all(1, b" ");
-    io::print_decimal(1, n as u64);
-}
-
-// One of two words.
-fn print_whether(fine: bool, yes: &[u8], no: &[u8]) {
-    if fine {
-        io::write_all(1, yes);
-    } else {
-        io::write_all(1, no);
+// Another byte at a place, if the place is there.
+fn put(bytes: &mut [u8], at: usize, b: u8) {
+    if at < bytes.len() {
+        bytes[at] = b;
     }
 }
 
-// The text of a joined table, where it has at most two states.
-fn print_text(c: Counts, states: &[u8; 600], arcs: &[u8; 16000]) {
-    if 2 < c.states {
-        return;
-    }
-    let mut output = [0u8; 1000];
-    let answer = text::write(c, states, arcs, &mut output);
-    let WriteAnswer::Bytes(n) = answer else {
-        io::write_all(1, b"not written\n");
-        return;
-    };
-    if n <= 1000 {
-        io::write_all(1, &output[0..n]);
-    }
+// 1, or 2 where something holds.
+fn two_where(holds: bool) -> u8 {
+    if holds { 2 } else { 1 }
 }
 
-// The answer, and of a refusal whether the result space kept its bytes.
-fn print_answer(answer: TableAnswer, states: &[u8; 600], arcs: &[u8; 16000]) {
-    match answer {
-        TableAnswer::Table(c) => {
-            io::write_all(1, b" table");
-            print_number(c.tapes);
-            print_number(c.states);
-            print_number(c.arcs);
-        }
-        TableAnswer::Refused(r) => {
-            io::write_all(1, b" refused");
-            print_number(refusal_number(r) as usize);
-            let old_states = [170u8; 600];
-            let old_arcs = [170u8; 16000];
-            let kept = check::same(states, &old_states) && check::same(arcs, &old_arcs);
-            print_whether(kept, b" kept", b" changed");
-        }
-    }
+// 1, or 9 where something holds.
+fn nine_where(holds: bool) -> usize {
+    if holds { 9 } else { 1 }
 }
 
-// Whether the first bytes of a slice are zero.
-fn front_clear(bytes: &[u8], n: usize) -> bool {
-    if bytes.len() < n {
-        return false;
-    }
-    all_zero(&bytes[0..n])
-}
-
-// The same of the states.
-fn states_clear(bytes: &[u8; 600], n: usize) -> bool {
-    front_clear(bytes, n)
-}
-
-// The same of the arcs.
-fn arcs_clear(bytes: &[u8; 16000], n: usize) -> bool {
-    front_clear(bytes, n)
-}
-
-// The same of the work space.
-fn work_clear(bytes: &[u8; 31000], n: usize) -> bool {
-    front_clear(bytes, n)
-}
-
-// Joins two tables with so many bytes lent to the states and arcs of the product and of the result, and to work.
-fn join_in(
-    a: Counts,
-    a_states: &[u8],
-    a_arcs: &[u8],
-    b: Counts,
-    b_states: &[u8],
-    b_arcs: &[u8],
-    pairs: &[u8],
-    limit: usize,
-    ps: usize,
-    pa: usize,
-    rs: usize,
-    ra: usize,
-    work: usize,
-) {
-    if 600 < ps {
-        return;
-    }
-    if 16000 < pa {
-        return;
-    }
-    if 600 < rs {
-        return;
-    }
-    if 16000 < ra {
-        return;
-    }
-    if 31000 < work {
-        return;
-    }
-    let mut product_states = [170u8; 600];
-    let mut product_arcs = [170u8; 16000];
-    let mut states = [170u8; 600];
-    let mut arcs = [170u8; 16000];
-    let mut bytes = [170u8; 31000];
-    let answer = join(
-        a,
-        a_states,
-        a_arcs,
-        b,
-        b_states,
-        b_arcs,
-        pairs,
-        limit,
-        &mut product_states[0..ps],
-        &mut product_arcs[0..pa],
-        &mut states[0..rs],
-        &mut arcs[0..ra],
-        &mut bytes[0..work],
-    );
-    print_answer(answer, &states, &arcs);
-    let clear = states_clear(&product_states, ps) && arcs_clear(&product_arcs, pa);
-    print_whether(clear, b" clear", b" dirty");
-    print_whether(work_clear(&bytes, work), b" clear\n", b" dirty\n");
-    if let TableAnswer::Table(made) = answer {
-        print_text(made, &states, &arcs);
-    }
-}
-
-// The case of two tables given as texts, of at most 16 states and 16 arcs each; space in records, work in bytes.
-pub fn case(
-    number: u64,
-    first: &[u8],
-    second: &[u8],
-    pairs: &[u8],
-    limit: usize,
-    ps: usize,
-    pa: usize,
-    rs: usize,
-    ra: usize,
-    work: usize,
-) {
-    io::print_decimal(1, number);
-    if 60 < ps {
-        return;
-    }
-    if 200 < pa {
-        return;
-    }
-    if 60 < rs {
-        return;
-    }
-    if 200 < ra {
-        return;
-    }
-    let mut a_states = [0u8; 160];
-    let mut a_arcs = [0u8; 1280];
-    let mut b_states = [0u8; 160];
-    let mut b_arcs = [0u8; 1280];
-    let TableAnswer::Table(a) = text::read(first, &mut a_states, &mut a_arcs) else {
-        io::write_all(1, b" not read\n");
-        return;
-    };
-    let TableAnswer::Table(b) = text::read(second, &mut b_states, &mut b_arcs) else {
-        io::write_all(1, b" not read\n");
-        return;
-    };
-    join_in(
-        a,
-        &a_states,
-        &a_arcs,
-        b,
-        &b_states,
-        &b_arcs,
-        pairs,
-        limit,
-        10 * ps,
-        80 * pa,
-        10 * rs,
-        80 * ra,
-        work,
-    );
-}
-
-// The counts of a table of two states and one arc, by how it is damaged: 3 has nine tapes.
-fn counts_for(damage: u8) -> Counts {
-    let tapes: usize = if damage == 3 { 9 } else { 1 };
+// The table of the name X, damaged in one of four ways, or not (0): 1 has its last state record cut by a byte, 2 has a presence mark 2, 3 has nine
+// tapes, 4 has an arc to a state that is not there.
+fn damaged(input: &[u8], damage: usize, states: &mut [u8], arcs: &mut [u8]) -> Counts {
+    read_string(input, named(input, b'X' as usize), states, arcs);
+    put(states, 0, two_where(damage == 2));
+    put(arcs, 2, two_where(damage == 4));
     Counts {
-        tapes,
+        tapes: nine_where(damage == 3),
         states: 2,
         arcs: 1,
     }
 }
 
-// Its state records: 1 is cut by a byte, 2 has a presence mark 2.
-fn states_for(damage: u8) -> [u8; 20] {
-    let mark: u8 = if damage == 2 { 2 } else { 1 };
-    [
-        mark,
-        0,
-        0,
-        0,
-        0,
-        0,
-        0,
-        0,
-        0,
-        0,
-        0,
-        0,
-        0,
-        0,
-        0,
-        1,
-        0,
-        0,
-        0,
-        0,
-    ]
+// Whether a case is of damaged tables, by the letter that comes first on its line.
+fn of_damaged(input: &[u8], at: usize) -> bool {
+    number(input, at, 0) == b'D' as usize
 }
 
-// How many bytes of them are lent.
-fn lent_for(damage: u8) -> usize {
-    if damage == 1 { 19 } else { 20 }
-}
-
-// Its arc record: 4 leads to a state that is not there.
-fn arcs_for(damage: u8) -> [u8; 80] {
-    let mut arc = [0u8; 80];
-    arc[2] = if damage == 4 { 2 } else { 1 };
-    arc[8] = 1;
-    arc[9] = 65;
-    arc
-}
-
-// The case of two tables damaged in one of four ways, or not (0).
-pub fn damaged(number: u64, first: u8, second: u8) {
-    io::print_decimal(1, number);
-    let a_states = states_for(first);
-    let a_arcs = arcs_for(first);
-    let b_states = states_for(second);
-    let b_arcs = arcs_for(second);
-    let a_end = lent_for(first);
-    let b_end = lent_for(second);
-    if 20 < a_end {
-        return;
+// A table of at most 16 states and 16 arcs that stands at a place of the line, by its name or by its damage.
+fn operand(input: &[u8], at: usize, place: usize, states: &mut [u8], arcs: &mut [u8]) -> Counts {
+    if of_damaged(input, at) {
+        return damaged(input, number(input, at, place), states, arcs);
     }
-    if 20 < b_end {
-        return;
+    table(input, at, place, states, arcs)
+}
+
+// How many bytes of its states are lent.
+fn state_bytes(input: &[u8], at: usize, place: usize) -> usize {
+    if of_damaged(input, at) && number(input, at, place) == 1 {
+        return 19;
     }
-    join_in(
-        counts_for(first),
+    160
+}
+
+// Joins the two tables of a line, on the pairs at its end.
+fn join_tables(
+    input: &[u8],
+    at: usize,
+    product_states: &mut [u8],
+    product_arcs: &mut [u8],
+    states: &mut [u8],
+    arcs: &mut [u8],
+    work: &mut [u8],
+) -> TableAnswer {
+    let mut a_states = [0u8; 160];
+    let mut a_arcs = [0u8; 1280];
+    let mut b_states = [0u8; 160];
+    let mut b_arcs = [0u8; 1280];
+    let mut pairs = [0u8; 12];
+    let a = operand(input, at, 2, &mut a_states, &mut a_arcs);
+    let b = operand(input, at, 3, &mut b_states, &mut b_arcs);
+    let a_end = least(state_bytes(input, at, 2), a_states.len());
+    let b_end = least(state_bytes(input, at, 3), b_states.len());
+    let n = bytes(input, at, 10, &mut pairs);
+    join(
+        a,
         &a_states[0..a_end],
         &a_arcs,
-        counts_for(second),
+        b,
         &b_states[0..b_end],
         &b_arcs,
-        &[1u8, 1],
-        0,
-        30,
-        240,
-        30,
-        240,
-        2000,
+        &pairs[0..n],
+        number(input, at, 4),
+        product_states,
+        product_arcs,
+        states,
+        arcs,
+        work,
+    )
+}
+
+// The same with as much lent as the line says: states and arcs of the product and of the result, and bytes of work.
+fn join_in(
+    input: &[u8],
+    at: usize,
+    product_states: &mut [u8],
+    product_arcs: &mut [u8],
+    states: &mut [u8],
+    arcs: &mut [u8],
+    work: &mut [u8],
+) -> TableAnswer {
+    let ps = lent(input, at, 5, 10, product_states.len());
+    let pa = lent(input, at, 6, 80, product_arcs.len());
+    let rs = lent(input, at, 7, 10, states.len());
+    let ra = lent(input, at, 8, 80, arcs.len());
+    let w = lent(input, at, 9, 1, work.len());
+    join_tables(
+        input,
+        at,
+        &mut product_states[0..ps],
+        &mut product_arcs[0..pa],
+        &mut states[0..rs],
+        &mut arcs[0..ra],
+        &mut work[0..w],
+    )
+}
+
+// The text of a joined table, where it has at most two states.
+fn print_small(answer: TableAnswer, states: &[u8], arcs: &[u8]) {
+    if let TableAnswer::Table(c) = answer {
+        if c.states <= 2 {
+            print_text(c, states, arcs);
+        }
+    }
+}
+
+// Whether as many bytes of a product as the line says are clear.
+fn product_clear(input: &[u8], at: usize, states: &[u8], arcs: &[u8]) -> bool {
+    let ps = lent(input, at, 5, 10, states.len());
+    let pa = lent(input, at, 6, 80, arcs.len());
+    front_clear(states, ps) && front_clear(arcs, pa)
+}
+
+// The case whose line begins at a place: its kind and its number come first.
+pub fn case(input: &[u8], at: usize) {
+    let mut product_states = [170u8; 600];
+    let mut product_arcs = [170u8; 16000];
+    let mut states = [170u8; 600];
+    let mut arcs = [170u8; 16000];
+    let mut work = [170u8; 31000];
+    let answer = join_in(
+        input,
+        at,
+        &mut product_states,
+        &mut product_arcs,
+        &mut states,
+        &mut arcs,
+        &mut work,
     );
+    io::print_decimal(1, number(input, at, 1) as u64);
+    print_answer(answer);
+    print_refused_kept(answer, &states, &arcs);
+    print_clear(product_clear(input, at, &product_states, &product_arcs));
+    print_clear_line(front_clear(&work, number(input, at, 9)));
+    print_small(answer, &states, &arcs);
 }

@@ -1,15 +1,24 @@
-// Joins tables and prints, for each case, its number and the weight of a tuple in the join, or in joins that must give the same.
-mod documents;
-mod laws;
+// Joins tables and prints, for each case, its number and the weight of a tuple in the join, or in joins that must give the same. The cases stand in the
+// file `stdin`, in the form that the crate `cases` reads.
+mod run;
 mod tables;
-mod weights;
+
+use cases::input::next;
+
+// Every case of an input, of at most 200.
+fn run_all(input: &[u8]) {
+    let mut at: usize = 0;
+    for _ in 0u64..200 {
+        at = next(input, at);
+        if at == 0 {
+            return;
+        }
+        run::case(input, at);
+    }
+}
 
 fn main() {
-    documents::part_1();
-    documents::part_2();
-    documents::part_3();
-    laws::part_1();
-    laws::part_2();
-    laws::part_3();
-    laws::part_4();
+    let mut input = io::large_buffer();
+    io::read_full(0, &mut input);
+    run_all(&input);
 }

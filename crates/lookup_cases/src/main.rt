@@ -1,11 +1,23 @@
-// Looks tuples up in tables and prints, for each case, its number, the answer, and whether work space is clear.
-mod cases;
+// Looks tuples up in tables and prints, for each case, its number, the answer, and whether work space is clear. The cases stand in the file
+// `stdin`, in the form that the crate `cases` reads.
 mod run;
 
+use cases::input::next;
+
+// Every case of an input, of at most 200.
+fn run_all(input: &[u8]) {
+    let mut at: usize = 0;
+    for _ in 0u64..200 {
+        at = next(input, at);
+        if at == 0 {
+            return;
+        }
+        run::case(input, at);
+    }
+}
+
 fn main() {
-    cases::part_1();
-    cases::part_2();
-    cases::part_3();
-    cases::part_4();
-    cases::part_5();
+    let mut input = io::large_buffer();
+    io::read_full(0, &mut input);
+    run_all(&input);
 }

@@ -1,10 +1,14 @@
 // One case: a table read from its text, a tuple looked up in it, and what is printed of the answer.
+use cases::input::find;
+use cases::input::lent;
+use cases::input::number;
+use cases::input::string_after;
+use cases::input::table;
+use cases::print::front_clear;
+use cases::print::print_clear_line;
 use lookup::call::WeightAnswer;
 use lookup::call::lookup;
-use memory::answer::Counts;
-use memory::answer::TableAnswer;
 use memory::answer::refusal_number;
-use memory::judge::all_zero;
 
 // The answer.
 fn print_answer(answer: WeightAnswer) {
@@ -23,44 +27,28 @@ fn print_answer(answer: WeightAnswer) {
     }
 }
 
-// Whether the first bytes of a slice are zero.
-fn front_clear(bytes: &[u8], work: usize) -> bool {
-    if bytes.len() < work {
-        return false;
-    }
-    all_zero(&bytes[0..work])
-}
-
-// The same of the work space, told.
-fn print_clear(bytes: &[u8; 5000], work: usize) {
-    if front_clear(bytes, work) {
-        io::write_all(1, b" clear\n");
-    } else {
-        io::write_all(1, b" dirty\n");
-    }
-}
-
-// Looks a tuple up with so many bytes of work.
-fn look(c: Counts, states: &[u8], arcs: &[u8], tuple: &[u8], work: usize) {
-    if 5000 < work {
-        return;
-    }
-    let mut bytes = [170u8; 5000];
-    let answer = lookup(c, states, arcs, tuple, &mut bytes[0..work]);
-    print_answer(answer);
-    print_clear(&bytes, work);
-}
-
-// The case of a table given as text, of at most 4 states and 5 arcs.
-pub fn case(number: u64, table: &[u8], tuple: &[u8], work: usize) {
+// Looks a tuple up in a table of at most 4 states and 5 arcs, whose name stands on the line, in so much work space.
+fn look(input: &[u8], at: usize, tuple: &[u8], work: &mut [u8]) {
     let mut states = [0u8; 40];
     let mut arcs = [0u8; 400];
-    let answer = text::read(table, &mut states, &mut arcs);
-    io::print_decimal(1, number);
-    match answer {
-        TableAnswer::Table(c) => look(c, &states, &arcs, tuple, work),
-        TableAnswer::Refused(_) => {
-            io::write_all(1, b" not read\n");
-        }
+    let c = table(input, at, 1, &mut states, &mut arcs);
+    print_answer(lookup(c, &states, &arcs, tuple, work));
+}
+
+// The same with as many bytes of work lent as the line says, and the tuple behind it.
+fn look_in(input: &[u8], at: usize, work: &mut [u8]) {
+    let work_end = lent(input, at, 2, 1, work.len());
+    let from = string_after(input, at);
+    let end = find(input, from, b'}');
+    if from <= end {
+        look(input, at, &input[from..end], &mut work[0..work_end]);
     }
+}
+
+// The case whose line begins at a place: its number comes first.
+pub fn case(input: &[u8], at: usize) {
+    let mut work = [170u8; 5000];
+    io::print_decimal(1, number(input, at, 0) as u64);
+    look_in(input, at, &mut work);
+    print_clear_line(front_clear(&work, number(input, at, 2)));
 }

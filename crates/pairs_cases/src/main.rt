@@ -1,5 +1,8 @@
 // Lists of pairs, judged for an auto-intersection and for a join: each line is an answer with the pairs by value, for a join also as they are
-// named in the product. Beside each list stands the answer that document 01 calls for.
+// named in the product. The lists stand in the file `stdin`, in the form that the crate `cases` reads.
+use cases::input::bytes;
+use cases::input::next;
+use cases::input::number;
 use memory::answer::Judged;
 use memory::answer::refusal_number;
 use memory::pair::PairList;
@@ -81,73 +84,40 @@ fn join(bytes: &[u8], n: usize, m: usize, limit: usize)
     io::write_all(1, b"\n");
 }
 
-// The number of pairs: none to four pass, five are 6, and 5 is judged over the whole list first.
-fn keep_counts() {
-    keep(b"", 2, 0); // fine
-    keep(b"\x01\x02", 2, 0); // fine
-    keep(b"\x01\x02\x04\x03", 4, 5); // fine
-    keep(b"\x01\x02\x03\x04\x05\x06", 6, 5); // fine
-    keep(b"\x01\x08\x02\x07\x03\x06\x04\x05", 8, 5); // fine: four pairs
-    keep(b"\x01\x02\x03\x04\x05\x06\x07\x08\x01\x02", 8, 5); // 6: five pairs, and tapes named twice
-    keep(b"\x01\x02\x03\x04\x05\x06\x07\x08\x09\x0a", 10, 5); // 6: five pairs, all tapes differ
-    keep(b"\x01\x02\x03\x04\x05\x06\x07\x08\x09\x01", 8, 5); // 5: the fifth pair names tape 9 of 8
+// The case whose line begins at a place: its kind, the numbers of tapes, a limit, and the pairs.
+fn case(input: &[u8], at: usize) {
+    let mut list = [0u8; 12];
+    let used = bytes(input, at, 4, &mut list);
+    let n = number(input, at, 1);
+    let m = number(input, at, 2);
+    let limit = number(input, at, 3);
+    if 100 < n {
+        return;
+    }
+    if 100 < m {
+        return;
+    }
+    if number(input, at, 0) == b'K' as usize {
+        keep(&list[0..used], n, limit);
+    } else {
+        join(&list[0..used], n, m, limit);
+    }
 }
 
-// Tapes: those that are not there are 5, those named twice 6.
-fn keep_tapes() {
-    keep(b"\x00\x01", 2, 0); // 5: tape 0
-    keep(b"\x01\x00", 2, 0); // 5: tape 0
-    keep(b"\x03\x01", 2, 0); // 5: tape 3 of 2
-    keep(b"\x01\x03", 2, 0); // 5: tape 3 of 2
-    keep(b"\x01\xff", 8, 0); // 5: tape 255 of 8
-    keep(b"\x01\x01", 2, 0); // 6: one tape, twice in one pair
-    keep(b"\x01\x02\x03\x01", 3, 0); // 6: tape 1, a first and a second
-    keep(b"\x01\x02\x01\x03", 3, 0); // 6: tape 1, twice a first
-    keep(b"\x01\x03\x02\x03", 3, 0); // 6: tape 3, twice a second
-    keep(b"\x01\x01\x02\x04", 3, 0); // 5 of the last pair before 6 of the first
-}
-
-// The limit is judged last, also where no pairs are named; a last byte alone is no pair.
-fn keep_limits() {
-    keep(b"", 2, 64); // fine
-    keep(b"", 2, 65); // 7
-    keep(b"\x01\x02", 2, 64); // fine
-    keep(b"\x01\x02", 2, 65); // 7
-    keep(b"\x01\x01", 2, 65); // 6 before 7
-    keep(b"\x01\x03", 2, 65); // 5 before 7
-    keep(b"\x09", 2, 0); // fine: no pair
-    keep(b"\x01\x02\x02", 3, 0); // fine: one pair
-    keep(b"\x01\x02\x03\x04\x05\x06\x07\x08\x09", 8, 0); // fine: four pairs
-}
-
-// A join: first tapes are among n, second tapes among m, and each side's tapes differ among themselves.
-fn join_tapes() {
-    join(b"", 2, 2, 0); // fine
-    join(b"\x01\x01", 2, 2, 0); // fine: tape 1 of each
-    join(b"\x01\x02\x02\x01", 2, 2, 0); // fine
-    join(b"\x01\x03", 2, 3, 0); // fine: tape 3 of the second
-    join(b"\x03\x01", 2, 3, 0); // 5: tape 3 of the first, which has 2
-    join(b"\x00\x01", 2, 2, 0); // 5
-    join(b"\x01\x00", 2, 2, 0); // 5
-    join(b"\x01\x01\x01\x02", 2, 2, 0); // 6: tape 1 of the first, twice
-    join(b"\x01\x01\x02\x01", 2, 2, 0); // 6: tape 1 of the second, twice
-    join(b"\x01\x01\x01\x09", 2, 2, 0); // 5 before 6
-}
-
-// A join: the number of pairs and the limit.
-fn join_counts() {
-    join(b"\x01\x01\x02\x02\x03\x03\x04\x04", 4, 4, 64); // fine: four pairs
-    join(b"\x01\x01\x02\x02\x03\x03\x04\x04", 4, 4, 65); // 7
-    join(b"\x01\x01\x02\x02\x03\x03\x04\x04\x05\x05", 5, 5, 0); // 6: five pairs
-    join(b"\x01\x01\x02\x02\x03\x03\x04\x04\x05\x05", 4, 4, 0); // 5: tape 5 of 4
-    join(b"\x01\x02\x02", 2, 2, 0); // fine: one pair, a last byte alone
-    join(b"", 1, 1, 65); // 7
+// Every case of an input, of at most 200.
+fn run_all(input: &[u8]) {
+    let mut at: usize = 0;
+    for _ in 0u64..200 {
+        at = next(input, at);
+        if at == 0 {
+            return;
+        }
+        case(input, at);
+    }
 }
 
 fn main() {
-    keep_counts();
-    keep_tapes();
-    keep_limits();
-    join_tapes();
-    join_counts();
+    let mut input = io::large_buffer();
+    io::read_full(0, &mut input);
+    run_all(&input);
 }

@@ -1,40 +1,23 @@
-// Reads texts and writes tables, and prints a line for each: the number of the case and the answer.
+// Reads texts and writes tables, and prints a line for each: the number of the case and the answer. The cases stand in the file `stdin`, in the
+// form that the crate `cases` reads.
 mod run;
-mod tables;
-mod texts;
+
+use cases::input::next;
+
+// Every case of an input, of at most 200.
+fn run_all(input: &[u8]) {
+    let mut at: usize = 0;
+    for _ in 0u64..200 {
+        at = next(input, at);
+        if at == 0 {
+            return;
+        }
+        run::case(input, at);
+    }
+}
 
 fn main() {
-    read_all();
-    write_all();
-}
-
-// Every text.
-fn read_all() {
-    texts::accepted();
-    texts::accepted_2();
-    texts::short();
-    texts::short_2();
-    texts::grown();
-    texts::grown_2();
-    texts::numbers();
-    texts::numbers_2();
-    texts::numbers_3();
-    texts::labels();
-    texts::labels_2();
-    texts::ranges();
-    texts::ranges_2();
-    texts::ranges_3();
-    texts::within();
-    texts::within_2();
-    texts::between();
-    texts::between_2();
-}
-
-// Every table.
-fn write_all() {
-    tables::changed();
-    tables::changed_2();
-    tables::changed_3();
-    tables::counted();
-    tables::counted_2();
+    let mut input = io::large_buffer();
+    io::read_full(0, &mut input);
+    run_all(&input);
 }

@@ -1,0 +1,3 @@
+// Cases that a program reads from its standard input, and what it prints of each.
+pub mod input;
+pub mod print;
