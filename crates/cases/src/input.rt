@@ -1,6 +1,7 @@
 // The form of an input. A case is a line that begins with the byte >, and holds numbers; a capital letter on it counts as a number too, that
-// of its byte; all other bytes of the line are for the reader alone. A string stands between { and a byte 10, and }. The strings of tables have
-// a capital letter for a name, which stands with a blank before the {. A line of a comment begins with the byte #.
+// of its byte; all other bytes of the line are for the reader alone. A string stands between {, with the byte 10 behind it, and }. The string of a
+// table has a capital letter for a name, which stands before the {, with a blank between. Anything else is a comment: a line of one begins with the
+// byte #. No string and no comment holds one of the bytes >, { and }.
 use memory::answer::Counts;
 use memory::answer::TableAnswer;
 ghost use Prim.Native.Nat.{_≤_};

@@ -5,61 +5,71 @@ use cases::input::number;
 use cases::input::table;
 use cases::print::print_result;
 use intersect::call::intersect;
+use memory::answer::Counts;
 use memory::answer::TableAnswer;
 
-// Keeps a table of at most 6 states and 6 arcs on pairs: its name, the limit, the states, the arcs and the bytes of work lent stand on the line, and
-// then the pairs.
-fn keep(
-    input: &[u8],
-    at: usize,
-    states: &mut [u8],
-    arcs: &mut [u8],
-    work: &mut [u8],
-) -> TableAnswer {
-    let mut table_states = [0u8; 60];
-    let mut table_arcs = [0u8; 480];
-    let mut pairs = [0u8; 12];
-    let c = table(input, at, 1, &mut table_states, &mut table_arcs);
-    let limit = number(input, at, 2);
-    let n = bytes(input, at, 6, &mut pairs);
-    intersect(
-        c,
-        &table_states,
-        &table_arcs,
-        &pairs[0..n],
-        limit,
-        states,
-        arcs,
-        work,
-    )
+// The answer of a build, and the space that was lent to it.
+struct Built {
+    answer: TableAnswer,
+    states: [u8; 1300],
+    arcs: [u8; 15440],
+    work: [u8; 45000],
 }
 
-// The same with as much lent as the line says.
-fn keep_in(
-    input: &[u8],
-    at: usize,
-    states: &mut [u8],
-    arcs: &mut [u8],
-    work: &mut [u8],
-) -> TableAnswer {
-    let state_end = lent(input, at, 3, 10, states.len());
-    let arc_end = lent(input, at, 4, 80, arcs.len());
-    let work_end = lent(input, at, 5, 1, work.len());
-    keep(
-        input,
-        at,
+// Keeps a table on the pairs at the end of the line, with the limit, and with as many states, arcs and bytes of work lent as the line says.
+fn keep(input: &[u8], at: usize, c: Counts, table_states: &[u8], table_arcs: &[u8]) -> Built {
+    let mut states = [170u8; 1300];
+    let mut arcs = [170u8; 15440];
+    let mut work = [170u8; 45000];
+    let mut pairs = [0u8; 12];
+    let n = bytes(input, at, 6, &mut pairs);
+    let state_end = lent(input, at, 3, 10, 1300);
+    let arc_end = lent(input, at, 4, 80, 15440);
+    let work_end = lent(input, at, 5, 1, 45000);
+    let answer = intersect(
+        c,
+        table_states,
+        table_arcs,
+        &pairs[0..n],
+        number(input, at, 2),
         &mut states[0..state_end],
         &mut arcs[0..arc_end],
         &mut work[0..work_end],
-    )
+    );
+    Built {
+        answer,
+        states,
+        arcs,
+        work,
+    }
+}
+
+// What is built of the table of at most 6 states and 6 arcs that the line names.
+fn build(input: &[u8], at: usize) -> Built {
+    let mut states = [0u8; 60];
+    let mut arcs = [0u8; 480];
+    let c = table(input, at, 1, &mut states, &mut arcs);
+    keep(input, at, c, &states, &arcs)
+}
+
+// What is printed of space lent whole, of which so many bytes of work were lent.
+fn print_space(
+    answer: TableAnswer,
+    states: &[u8; 1300],
+    arcs: &[u8; 15440],
+    work: &[u8; 45000],
+    n: usize,
+) {
+    print_result(answer, states, arcs, work, n);
 }
 
 // The case whose line begins at a place: its number comes first.
 pub fn case(input: &[u8], at: usize) {
-    let mut states = [170u8; 1300];
-    let mut arcs = [170u8; 15440];
-    let mut work = [170u8; 45000];
-    let answer = keep_in(input, at, &mut states, &mut arcs, &mut work);
+    let made = build(input, at);
+    let answer = made.answer;
+    let states = made.states;
+    let arcs = made.arcs;
+    let work = made.work;
     io::print_decimal(1, number(input, at, 0) as u64);
-    print_result(answer, &states, &arcs, &work, number(input, at, 5));
+    print_space(answer, &states, &arcs, &work, number(input, at, 5));
 }

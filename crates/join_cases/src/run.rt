@@ -16,6 +16,24 @@ use join::call::join;
 use memory::answer::Counts;
 use memory::answer::TableAnswer;
 
+// A table of at most 16 states and 16 arcs, and how many bytes of its states are lent.
+struct Operand {
+    counts: Counts,
+    states: [u8; 160],
+    lent: usize,
+    arcs: [u8; 1280],
+}
+
+// The answer of a join, and the space that was lent to it.
+struct Joined {
+    answer: TableAnswer,
+    product_states: [u8; 600],
+    product_arcs: [u8; 16000],
+    states: [u8; 600],
+    arcs: [u8; 16000],
+    work: [u8; 31000],
+}
+
 // Another byte at a place, if the place is there.
 fn put(bytes: &mut [u8], at: usize, b: u8) {
     if at < bytes.len() {
@@ -51,14 +69,6 @@ fn of_damaged(input: &[u8], at: usize) -> bool {
     number(input, at, 0) == b'D' as usize
 }
 
-// A table of at most 16 states and 16 arcs that stands at a place of the line, by its name or by its damage.
-fn operand(input: &[u8], at: usize, place: usize, states: &mut [u8], arcs: &mut [u8]) -> Counts {
-    if of_damaged(input, at) {
-        return damaged(input, number(input, at, place), states, arcs);
-    }
-    table(input, at, place, states, arcs)
-}
-
 // How many bytes of its states are lent.
 fn state_bytes(input: &[u8], at: usize, place: usize) -> usize {
     if of_damaged(input, at) && number(input, at, place) == 1 {
@@ -67,71 +77,134 @@ fn state_bytes(input: &[u8], at: usize, place: usize) -> usize {
     160
 }
 
-// Joins the two tables of a line, on the pairs at its end.
-fn join_tables(
+// The records of the table at a place of the line, by its name or by its damage.
+fn read_operand(
     input: &[u8],
     at: usize,
-    product_states: &mut [u8],
-    product_arcs: &mut [u8],
+    place: usize,
     states: &mut [u8],
     arcs: &mut [u8],
-    work: &mut [u8],
-) -> TableAnswer {
-    let mut a_states = [0u8; 160];
-    let mut a_arcs = [0u8; 1280];
-    let mut b_states = [0u8; 160];
-    let mut b_arcs = [0u8; 1280];
-    let mut pairs = [0u8; 12];
-    let a = operand(input, at, 2, &mut a_states, &mut a_arcs);
-    let b = operand(input, at, 3, &mut b_states, &mut b_arcs);
-    let a_end = least(state_bytes(input, at, 2), a_states.len());
-    let b_end = least(state_bytes(input, at, 3), b_states.len());
-    let n = bytes(input, at, 10, &mut pairs);
-    join(
-        a,
-        &a_states[0..a_end],
-        &a_arcs,
-        b,
-        &b_states[0..b_end],
-        &b_arcs,
-        &pairs[0..n],
-        number(input, at, 4),
-        product_states,
-        product_arcs,
-        states,
-        arcs,
-        work,
-    )
+) -> Counts {
+    if of_damaged(input, at) {
+        return damaged(input, number(input, at, place), states, arcs);
+    }
+    table(input, at, place, states, arcs)
 }
 
-// The same with as much lent as the line says: states and arcs of the product and of the result, and bytes of work.
+// The table at a place of the line.
+fn operand_at(input: &[u8], at: usize, place: usize) -> Operand {
+    let mut states = [0u8; 160];
+    let mut arcs = [0u8; 1280];
+    let counts = read_operand(input, at, place, &mut states, &mut arcs);
+    Operand {
+        counts,
+        states,
+        lent: state_bytes(input, at, place),
+        arcs,
+    }
+}
+
+// Joins two tables, of which so many bytes of states are lent, on the pairs at the end of the line.
 fn join_in(
     input: &[u8],
     at: usize,
-    product_states: &mut [u8],
-    product_arcs: &mut [u8],
-    states: &mut [u8],
-    arcs: &mut [u8],
-    work: &mut [u8],
-) -> TableAnswer {
-    let ps = lent(input, at, 5, 10, product_states.len());
-    let pa = lent(input, at, 6, 80, product_arcs.len());
-    let rs = lent(input, at, 7, 10, states.len());
-    let ra = lent(input, at, 8, 80, arcs.len());
-    let w = lent(input, at, 9, 1, work.len());
-    join_tables(
-        input,
-        at,
+    a: Counts,
+    a_states: &[u8],
+    a_arcs: &[u8],
+    b: Counts,
+    b_states: &[u8],
+    b_arcs: &[u8],
+) -> Joined {
+    let mut product_states = [170u8; 600];
+    let mut product_arcs = [170u8; 16000];
+    let mut states = [170u8; 600];
+    let mut arcs = [170u8; 16000];
+    let mut work = [170u8; 31000];
+    let mut pairs = [0u8; 12];
+    let n = bytes(input, at, 10, &mut pairs);
+    let ps = lent(input, at, 5, 10, 600);
+    let pa = lent(input, at, 6, 80, 16000);
+    let rs = lent(input, at, 7, 10, 600);
+    let ra = lent(input, at, 8, 80, 16000);
+    let w = lent(input, at, 9, 1, 31000);
+    let answer = join(
+        a,
+        a_states,
+        a_arcs,
+        b,
+        b_states,
+        b_arcs,
+        &pairs[0..n],
+        number(input, at, 4),
         &mut product_states[0..ps],
         &mut product_arcs[0..pa],
         &mut states[0..rs],
         &mut arcs[0..ra],
         &mut work[0..w],
+    );
+    Joined {
+        answer,
+        product_states,
+        product_arcs,
+        states,
+        arcs,
+        work,
+    }
+}
+
+// The same of records lent whole.
+fn join_lent(
+    input: &[u8],
+    at: usize,
+    a: Counts,
+    a_states: &[u8; 160],
+    a_lent: usize,
+    a_arcs: &[u8; 1280],
+    b: Counts,
+    b_states: &[u8; 160],
+    b_lent: usize,
+    b_arcs: &[u8; 1280],
+) -> Joined {
+    let a_all = &a_states[..];
+    let b_all = &b_states[..];
+    let a_end = least(a_lent, a_all.len());
+    let b_end = least(b_lent, b_all.len());
+    join_in(
+        input,
+        at,
+        a,
+        &a_all[0..a_end],
+        a_arcs,
+        b,
+        &b_all[0..b_end],
+        b_arcs,
+    )
+}
+
+// The join of the two tables of a line.
+fn join_case(input: &[u8], at: usize) -> Joined {
+    let a = operand_at(input, at, 2);
+    let b = operand_at(input, at, 3);
+    let a_states = a.states;
+    let a_arcs = a.arcs;
+    let b_states = b.states;
+    let b_arcs = b.arcs;
+    join_lent(
+        input,
+        at,
+        a.counts,
+        &a_states,
+        a.lent,
+        &a_arcs,
+        b.counts,
+        &b_states,
+        b.lent,
+        &b_arcs,
     )
 }
 
 // The text of a joined table, where it has at most two states.
-fn print_small(answer: TableAnswer, states: &[u8], arcs: &[u8]) {
+fn print_small(answer: TableAnswer, states: &[u8; 600], arcs: &[u8; 16000]) {
     if let TableAnswer::Table(c) = answer {
         if c.states <= 2 {
             print_text(c, states, arcs);
@@ -139,33 +212,37 @@ fn print_small(answer: TableAnswer, states: &[u8], arcs: &[u8]) {
     }
 }
 
-// Whether as many bytes of a product as the line says are clear.
-fn product_clear(input: &[u8], at: usize, states: &[u8], arcs: &[u8]) -> bool {
-    let ps = lent(input, at, 5, 10, states.len());
-    let pa = lent(input, at, 6, 80, arcs.len());
-    front_clear(states, ps) && front_clear(arcs, pa)
+// The answer, and of a refusal whether the result space kept its bytes.
+fn print_kept(answer: TableAnswer, states: &[u8; 600], arcs: &[u8; 16000]) {
+    print_answer(answer);
+    print_refused_kept(answer, states, arcs);
+}
+
+// Whether as many bytes of the product and of the work space as the line says are clear.
+fn print_all_clear(
+    input: &[u8],
+    at: usize,
+    states: &[u8; 600],
+    arcs: &[u8; 16000],
+    work: &[u8; 31000],
+) {
+    let ps = lent(input, at, 5, 10, 600);
+    let pa = lent(input, at, 6, 80, 16000);
+    print_clear(front_clear(states, ps) && front_clear(arcs, pa));
+    print_clear_line(front_clear(work, number(input, at, 9)));
 }
 
 // The case whose line begins at a place: its kind and its number come first.
 pub fn case(input: &[u8], at: usize) {
-    let mut product_states = [170u8; 600];
-    let mut product_arcs = [170u8; 16000];
-    let mut states = [170u8; 600];
-    let mut arcs = [170u8; 16000];
-    let mut work = [170u8; 31000];
-    let answer = join_in(
-        input,
-        at,
-        &mut product_states,
-        &mut product_arcs,
-        &mut states,
-        &mut arcs,
-        &mut work,
-    );
+    let j = join_case(input, at);
+    let answer = j.answer;
+    let product_states = j.product_states;
+    let product_arcs = j.product_arcs;
+    let states = j.states;
+    let arcs = j.arcs;
+    let work = j.work;
     io::print_decimal(1, number(input, at, 1) as u64);
-    print_answer(answer);
-    print_refused_kept(answer, &states, &arcs);
-    print_clear(product_clear(input, at, &product_states, &product_arcs));
-    print_clear_line(front_clear(&work, number(input, at, 9)));
+    print_kept(answer, &states, &arcs);
+    print_all_clear(input, at, &product_states, &product_arcs, &work);
     print_small(answer, &states, &arcs);
 }

@@ -1,16 +1,22 @@
-// The tables of a case: joined, joined in steps, or the union of joins. A case has two lines. On the first stand its kind, its number, the names of
-// two tables, a limit, and the pairs that they are joined on. On the second stands, of a join in steps, a mask of tapes and the pairs that are kept
-// afterwards; and of a union, the name of its other part, and the place, 2 or 3, of the table on the first line that is its first part.
+// Tables by value, and the calls on them. A case has two lines. On the first stand its kind, its number, the names of two tables, a limit, and the
+// pairs that they are joined on. On the second stands, of a join in steps, a mask of tapes and the pairs that are kept afterwards; and of a union,
+// the name of its other part, and the place, 2 or 3, of the table on the first line that is its first part.
 use cases::input::bytes;
 use cases::input::line_after;
 use cases::input::number;
-use cases::input::table;
 use columns::drop::drop_tapes;
 use columns::union::union;
 use intersect::call::intersect;
 use join::call::join;
 use memory::answer::Counts;
 use memory::answer::TableAnswer;
+
+// A table of at most 60 states and 200 arcs.
+pub struct Table {
+    pub counts: Counts,
+    pub states: [u8; 600],
+    pub arcs: [u8; 16000],
+}
 
 // The counts of a table that was made; none where it was refused.
 fn counts_of(answer: TableAnswer) -> Counts {
@@ -24,48 +30,69 @@ fn counts_of(answer: TableAnswer) -> Counts {
     }
 }
 
-// The union of the table at a place of the first line and the other part.
-fn whole(input: &[u8], at: usize, place: usize, states: &mut [u8], arcs: &mut [u8]) -> Counts {
-    let mut a_states = [0u8; 160];
-    let mut a_arcs = [0u8; 1280];
-    let mut b_states = [0u8; 160];
-    let mut b_arcs = [0u8; 1280];
-    let a = table(input, at, place, &mut a_states, &mut a_arcs);
-    let b = table(input, line_after(input, at), 0, &mut b_states, &mut b_arcs);
-    counts_of(union(a, &a_states, &a_arcs, b, &b_states, &b_arcs, states, arcs))
+// The table whose name stands at a place of a line.
+fn table_at(input: &[u8], at: usize, place: usize) -> Table {
+    let mut states = [0u8; 600];
+    let mut arcs = [0u8; 16000];
+    let counts = cases::input::table(input, at, place, &mut states, &mut arcs);
+    Table {
+        counts,
+        states,
+        arcs,
+    }
 }
 
-// The table at a place of the first line: itself (`part` is 0), or, where it is the first part of a union, the other part (1) or the union (2).
-fn operand(
-    input: &[u8],
-    at: usize,
-    place: usize,
-    part: u8,
-    states: &mut [u8],
-    arcs: &mut [u8],
-) -> Counts {
-    let line = line_after(input, at);
-    if part == 0 || number(input, line, 1) != place {
-        return table(input, at, place, states, arcs);
-    }
-    if part == 1 {
-        return table(input, line, 0, states, arcs);
-    }
-    whole(input, at, place, states, arcs)
+// The call `union` on records lent whole.
+fn union_in(
+    a: Counts,
+    a_states: &[u8; 600],
+    a_arcs: &[u8; 16000],
+    b: Counts,
+    b_states: &[u8; 600],
+    b_arcs: &[u8; 16000],
+    states: &mut [u8; 600],
+    arcs: &mut [u8; 16000],
+) -> TableAnswer {
+    union(a, a_states, a_arcs, b, b_states, b_arcs, states, arcs)
 }
 
-// Joins two tables of at most 16 states and 16 arcs, with room for a product of 60 states and 200 arcs, on the pairs of a line.
-fn join_to(
+// The union of two tables.
+pub fn union_of(a: Table, b: Table) -> Table {
+    let a_states = a.states;
+    let a_arcs = a.arcs;
+    let b_states = b.states;
+    let b_arcs = b.arcs;
+    let mut states = [0u8; 600];
+    let mut arcs = [0u8; 16000];
+    let answer = union_in(
+        a.counts,
+        &a_states,
+        &a_arcs,
+        b.counts,
+        &b_states,
+        &b_arcs,
+        &mut states,
+        &mut arcs,
+    );
+    Table {
+        counts: counts_of(answer),
+        states,
+        arcs,
+    }
+}
+
+// The call `join` on records lent whole, on the pairs of a line.
+fn join_in(
     input: &[u8],
     at: usize,
     a: Counts,
-    a_states: &[u8],
-    a_arcs: &[u8],
+    a_states: &[u8; 600],
+    a_arcs: &[u8; 16000],
     b: Counts,
-    b_states: &[u8],
-    b_arcs: &[u8],
-    states: &mut [u8],
-    arcs: &mut [u8],
+    b_states: &[u8; 600],
+    b_arcs: &[u8; 16000],
+    states: &mut [u8; 600],
+    arcs: &mut [u8; 16000],
 ) -> TableAnswer {
     let mut pairs = [0u8; 12];
     let mut product_states = [170u8; 600];
@@ -89,43 +116,42 @@ fn join_to(
     )
 }
 
-// Joins the two tables of a case.
-fn join_parts(
-    input: &[u8],
-    at: usize,
-    part: u8,
-    states: &mut [u8],
-    arcs: &mut [u8],
-) -> TableAnswer {
-    let mut a_states = [0u8; 160];
-    let mut a_arcs = [0u8; 1280];
-    let mut b_states = [0u8; 160];
-    let mut b_arcs = [0u8; 1280];
-    let a = operand(input, at, 2, part, &mut a_states, &mut a_arcs);
-    let b = operand(input, at, 3, part, &mut b_states, &mut b_arcs);
-    join_to(
+// The join of two tables.
+fn join_of(input: &[u8], at: usize, a: Table, b: Table) -> Table {
+    let a_states = a.states;
+    let a_arcs = a.arcs;
+    let b_states = b.states;
+    let b_arcs = b.arcs;
+    let mut states = [0u8; 600];
+    let mut arcs = [0u8; 16000];
+    let answer = join_in(
         input,
         at,
-        a,
+        a.counts,
         &a_states,
         &a_arcs,
-        b,
+        b.counts,
         &b_states,
         &b_arcs,
+        &mut states,
+        &mut arcs,
+    );
+    Table {
+        counts: counts_of(answer),
         states,
         arcs,
-    )
+    }
 }
 
-// Keeps a table on the pairs of the second line.
-fn keep(
+// The call `intersect` on records lent whole, on the pairs of the second line.
+fn keep_in(
     input: &[u8],
     at: usize,
     c: Counts,
-    states: &[u8],
-    arcs: &[u8],
-    out_states: &mut [u8],
-    out_arcs: &mut [u8],
+    states: &[u8; 600],
+    arcs: &[u8; 16000],
+    out_states: &mut [u8; 600],
+    out_arcs: &mut [u8; 16000],
 ) -> TableAnswer {
     let mut pairs = [0u8; 12];
     let mut work = [170u8; 31000];
@@ -142,57 +168,80 @@ fn keep(
     )
 }
 
-// The mask of the second line.
-fn mask(input: &[u8], at: usize) -> u8 {
-    let m = number(input, line_after(input, at), 0);
-    if m < 256 { m as u8 } else { 0 }
-}
-
-// Joins the two tables, keeps the join on more pairs, and drops the tapes of a mask.
-fn join_steps(input: &[u8], at: usize, states: &mut [u8], arcs: &mut [u8]) -> TableAnswer {
-    let mut joined_states = [0u8; 600];
-    let mut joined_arcs = [0u8; 16000];
-    let mut kept_states = [0u8; 600];
-    let mut kept_arcs = [0u8; 16000];
-    let joined = counts_of(join_parts(input, at, 0, &mut joined_states, &mut joined_arcs));
-    let kept = counts_of(keep(
+// A table kept on more pairs.
+pub fn keep_of(input: &[u8], at: usize, t: Table) -> Table {
+    let t_states = t.states;
+    let t_arcs = t.arcs;
+    let mut states = [0u8; 600];
+    let mut arcs = [0u8; 16000];
+    let answer = keep_in(
         input,
         at,
-        joined,
-        &joined_states,
-        &joined_arcs,
-        &mut kept_states,
-        &mut kept_arcs,
-    ));
-    drop_tapes(
-        kept,
-        &kept_states,
-        &kept_arcs,
-        mask(input, at),
+        t.counts,
+        &t_states,
+        &t_arcs,
+        &mut states,
+        &mut arcs,
+    );
+    Table {
+        counts: counts_of(answer),
         states,
         arcs,
-    )
+    }
 }
 
-// The union of the joins of both parts.
-fn union_of_joins(input: &[u8], at: usize, states: &mut [u8], arcs: &mut [u8]) -> TableAnswer {
-    let mut a_states = [0u8; 600];
-    let mut a_arcs = [0u8; 16000];
-    let mut b_states = [0u8; 600];
-    let mut b_arcs = [0u8; 16000];
-    let a = counts_of(join_parts(input, at, 0, &mut a_states, &mut a_arcs));
-    let b = counts_of(join_parts(input, at, 1, &mut b_states, &mut b_arcs));
-    union(a, &a_states, &a_arcs, b, &b_states, &b_arcs, states, arcs)
+// The call `drop_tapes` on records lent whole, with the mask of the second line.
+fn drop_in(
+    input: &[u8],
+    at: usize,
+    c: Counts,
+    states: &[u8; 600],
+    arcs: &[u8; 16000],
+    out_states: &mut [u8; 600],
+    out_arcs: &mut [u8; 16000],
+) -> TableAnswer {
+    let mut mask = [0u8; 1];
+    bytes(input, line_after(input, at), 0, &mut mask);
+    drop_tapes(c, states, arcs, mask[0], out_states, out_arcs)
 }
 
-// A table of a case: the join of its tables (0), or with the other part (1) or the union of both parts (2); the join in steps (3); or the union of
-// the joins (4).
-pub fn made(input: &[u8], at: usize, how: u8, states: &mut [u8], arcs: &mut [u8]) -> TableAnswer {
-    if how == 3 {
-        return join_steps(input, at, states, arcs);
+// A table without some of its tapes.
+pub fn drop_of(input: &[u8], at: usize, t: Table) -> Table {
+    let t_states = t.states;
+    let t_arcs = t.arcs;
+    let mut states = [0u8; 600];
+    let mut arcs = [0u8; 16000];
+    let answer = drop_in(
+        input,
+        at,
+        t.counts,
+        &t_states,
+        &t_arcs,
+        &mut states,
+        &mut arcs,
+    );
+    Table {
+        counts: counts_of(answer),
+        states,
+        arcs,
     }
-    if how == 4 {
-        return union_of_joins(input, at, states, arcs);
+}
+
+// The table at a place of the first line: itself (`part` is 0), or, where it is the first part of a union, the other part (1) or the union (2).
+fn operand(input: &[u8], at: usize, place: usize, part: u8) -> Table {
+    let line = line_after(input, at);
+    if part == 0 || number(input, line, 1) != place {
+        return table_at(input, at, place);
     }
-    join_parts(input, at, how, states, arcs)
+    if part == 1 {
+        return table_at(input, line, 0);
+    }
+    union_of(table_at(input, at, place), table_at(input, line, 0))
+}
+
+// The join of the two tables of a case.
+pub fn join_parts(input: &[u8], at: usize, part: u8) -> Table {
+    let a = operand(input, at, 2, part);
+    let b = operand(input, at, 3, part);
+    join_of(input, at, a, b)
 }
