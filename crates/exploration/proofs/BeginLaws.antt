@@ -22,11 +22,11 @@ use Rattle.delays.specs.ClosingRegion.{HoldsClosing}
 use Rattle.rows.proofs.SearchLaws.{inserted-longer}
 use Rattle.edges.proofs.EdgeLaws.{holds-none}
 use Rattle.offers.specs.declared.plan.Plan.{Plan}
-use Rattle.exploration.specs.declared.head.Head.{Head}
+use Rattle.config_search.specs.declared.head.Head.{Head}
 use Rattle.offers.specs.Plans.{Explorable, tableIn, pairsIn, tablesIn, viableIn}
-use Rattle.exploration.specs.Searching.{ConfigSearch, Holds, Comes}
-use Rattle.exploration.specs.Starting.{withConfigs, startBy, startsUpTo, Startable, Enters, Beginnable, Begun}
-use Rattle.exploration.proofs.StartLaws.{state-count}
+use Rattle.config_search.specs.Searching.{ConfigSearch, Holds, Comes}
+use Rattle.config_search.specs.Starting.{withConfigs, startBy, startsUpTo, Startable, Enters, Beginnable, Begun}
+use Rattle.config_search.proofs.StartLaws.{state-count}
 
 -- the configurations in which paths start in the first q states
 abbrev firsts : Plan → List ℕ → List ℕ → ℕ → List automata.Config

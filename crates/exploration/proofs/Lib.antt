@@ -1,8 +1,4 @@
 -- Laws that belong to no one function.
 pub mod PlanLaws
-pub mod HeldLaws
-pub mod VisitLaws
-pub mod TurnLaws
-pub mod StartLaws
 pub mod BeginLaws
 pub mod RunLaws

@@ -22,10 +22,10 @@ use Rattle.memory.specs.Answers.{lent}
 use Rattle.rows.proofs.SearchLaws.{searched-begun, searched-whole}
 use Rattle.delays.specs.ClosingRegion.{WritesClosing}
 use Rattle.offers.specs.declared.plan.Plan.{Plan}
-use Rattle.exploration.specs.declared.head.Head.{Head}
+use Rattle.config_search.specs.declared.head.Head.{Head}
 use Rattle.offers.specs.Plans.{Explorable, tableIn, pairsIn, viableIn}
-use Rattle.exploration.specs.Searching.{ConfigSearch, Holds, Comes, Takable, TakesUp}
-use Rattle.exploration.specs.Starting.{Beginnable, Begun}
+use Rattle.config_search.specs.Searching.{ConfigSearch, Holds, Comes, Takable, TakesUp}
+use Rattle.config_search.specs.Starting.{Beginnable, Begun}
 use Rattle.exploration.specs.Exploring.{begunSearch, ComesToReached, Runnable, Runs, Explored}
 
 module _ (p : Plan) (states arcs : List ℕ) where

@@ -9,9 +9,9 @@ use Rattle.automata.specs.Explore.{edges}
 use Rattle.automata.specs.Search.{searchFrom}
 use Rattle.automata.specs.Intersect.{starts, out, reachedConfigs, delayed}
 use Rattle.offers.specs.declared.plan.Plan.{Plan}
-use Rattle.exploration.specs.declared.head.Head.{Head}
+use Rattle.config_search.specs.declared.head.Head.{Head}
 use Rattle.offers.specs.Plans.{Explorable, tableIn, pairsIn, viableIn}
-use Rattle.exploration.specs.Searching.{ConfigSearch, Comes}
+use Rattle.config_search.specs.Searching.{ConfigSearch, Comes}
 
 module _ (p : Plan) (states arcs : List ℕ) where
   -- the search before a configuration is taken up

@@ -1,9 +1,9 @@
 // The search over all configurations that are reached.
 ghost use lib.ListN.{length};
 ghost use Rattle.offers.specs.Plans.{Explorable};
-ghost use Rattle.exploration.specs.Starting.{Beginnable, Begun};
+ghost use Rattle.config_search.specs.Starting.{Beginnable, Begun};
 ghost use Rattle.exploration.specs.Exploring.{Runnable, Runs, Explored};
-use crate::head::Head;
+use config_search::head::Head;
 use delays::closing_tables;
 use offers::plan::Plan;
 

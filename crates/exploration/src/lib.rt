@@ -1,3 +1,2 @@
 // The search over the configurations of the auto-intersection that are reached, in work space.
 pub mod explore;
-pub mod head;

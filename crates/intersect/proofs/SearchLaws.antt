@@ -23,7 +23,7 @@ use Rattle.workspace.specs.Room.{Divides}
 use Rattle.offers.specs.declared.plan.Plan.{Plan}
 use Rattle.offers.specs.Held.{configOf, rowOf, Stored}
 use Rattle.offers.specs.Plans.{Explorable, tableIn, pairsIn, viableIn}
-use Rattle.exploration.specs.declared.head.Head.{Head}
+use Rattle.config_search.specs.declared.head.Head.{Head}
 use Rattle.exploration.specs.Exploring.{reachedIn, Explored}
 use Rattle.intersect_result.specs.declared.prepare.Prepared.{Prepared}
 use Rattle.intersect_result.specs.Prepared.{Prepares}

@@ -1,4 +1,3 @@
 -- Laws of texts that are read and written.
 pub mod ReadLaws
-pub mod PrintedLaws
 pub mod WrittenLaws

@@ -1,3 +1,2 @@
 -- What the contracts of text cite besides the definitions of the automata.
 pub mod Answers
-pub mod Printed

@@ -1,7 +1,5 @@
 // The text of a table: read into the records of a table in memory, and written from them.
-pub mod print;
 
-use crate::print::write_table;
 use lines::header::HeaderLine;
 use lines::table::judge_text;
 use memory::answer::Counts;
@@ -9,6 +7,7 @@ use memory::answer::Judged;
 use memory::answer::Refusal;
 use memory::answer::TableAnswer;
 use memory::judge::judge;
+use text_print::print::write_table;
 use text_store::store::store_arcs;
 use text_store::store::store_states;
 ghost use mathlib.Core.Path.{_≡_};

@@ -11,7 +11,7 @@ use Rattle.text.proofs.write.Tie as tie
 use Rattle.text.proofs.write.Reads as reads
 use Rattle.text.proofs.write.Lts as lts
 use Rattle.memory.proofs.judge.judge.Reads as judge-reads
-use Rattle.text.proofs.print.write_table.Reads as write-table-reads
+use Rattle.text_print.proofs.print.write_table.Reads as write-table-reads
 use Rattle.text.proofs.refused_by.Reads as refused-by-reads
 use Rattle.text.proofs.text_length.Reads as text-length-reads
 

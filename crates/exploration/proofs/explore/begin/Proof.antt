@@ -6,7 +6,7 @@ use Rattle.exploration.proofs.explore.begin.Statement.{statement}
 use Rattle.exploration.proofs.explore.begin.Tie as tie
 use Rattle.exploration.proofs.explore.begin.Reads as reads
 use Rattle.exploration.proofs.explore.begin.Lts as lts
-use Rattle.exploration.proofs.head.Head.start.Reads as start-reads
+use Rattle.config_search.proofs.head.Head.start.Reads as start-reads
 
 abbrev Inv-loop : tie.InvT-loop
 Inv-loop plan states work₀ counts head₀ q₀ work head q = Beginning plan states work₀ head work q

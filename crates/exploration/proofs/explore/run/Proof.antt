@@ -7,7 +7,7 @@ use Rattle.exploration.proofs.explore.run.Statement.{statement}
 use Rattle.exploration.proofs.explore.run.Tie as tie
 use Rattle.exploration.proofs.explore.run.Reads as reads
 use Rattle.exploration.proofs.explore.run.Lts as lts
-use Rattle.exploration.proofs.head.Head.take_up.Reads as take-up-reads
+use Rattle.config_search.proofs.head.Head.take_up.Reads as take-up-reads
 
 abbrev Inv-loop : tie.InvT-loop
 Inv-loop plan arcs work₀ head₀ work head = Running plan head₀ arcs work₀ head work

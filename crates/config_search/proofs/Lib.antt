@@ -1,0 +1,5 @@
+-- Laws of the head of the search over configurations.
+pub mod HeldLaws
+pub mod VisitLaws
+pub mod TurnLaws
+pub mod StartLaws

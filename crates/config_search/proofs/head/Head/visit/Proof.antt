@@ -1,0 +1,58 @@
+-- `config_search::head::Head::visit` meets its contract. Assumes nothing.
+use Rattle.config_search.proofs.VisitLaws.{may-arrive, visits-nothing, visits-late, visits-to}
+use borrow.Author.Needs.{needs}
+use Rattle.config_search.proofs.head.Head.visit.Statement.{statement}
+use Rattle.config_search.proofs.head.Head.visit.Tie as tie
+use Rattle.config_search.proofs.head.Head.visit.Reads as reads
+use Rattle.config_search.proofs.head.Head.visit.Lts as lts
+use Rattle.config_search.proofs.head.Head.arrive.Reads as arrive-reads
+use Rattle.offers.proofs.offer.offer.Reads as offer-reads
+
+offer-requires : tie.Need-offer-requires
+offer-requires c κs = search needs
+
+enum-told : tie.Need-enum-told
+enum-told c = search needs
+
+enum-told-2 : tie.Need-enum-told-2
+enum-told-2 c = search needs
+
+enum-told-3 : tie.Need-enum-told-3
+enum-told-3 c = search needs
+
+arrive-requires : tie.Need-arrive-requires
+arrive-requires c κs = let s = c .before .before .before .before .before .before .before .before in may-arrive _ _ _ _ _ _ (s .pre) _ (c .before .before .before .before .offer .ensures) (c .before .enum-told3 .given .1)
+
+same-length : tie.Need-same-length
+same-length c = search needs
+
+returns : tie.Need-returns
+returns c = let s = c .before .before .before .before .before .before .before in visits-nothing _ _ _ _ _ _ (s .pre) _ (c .before .before .before .offer .ensures) (c .enum-told .given .1)
+
+same-length-2 : tie.Need-same-length-2
+same-length-2 c = search needs
+
+returns-2 : tie.Need-returns-2
+returns-2 c = let s = c .before .before .before .before .before .before .before in visits-late _ _ _ _ _ _ (s .pre) _ (c .before .before .before .offer .ensures) (c .enum-told2 .given .1)
+
+same-length-3 : tie.Need-same-length-3
+same-length-3 c = search needs
+
+returns-3 : tie.Need-returns-3
+returns-3 c = let s = c .before .before .before .before .before .before .before .before .before .before .before in visits-to _ _ _ _ _ _ (s .pre) _ (c .before .before .before .before .before .before .before .offer .ensures) (c .before .before .before .before .enum-told3 .given .1) _ _ (c .before .before .arrive .ensures)
+
+pub visit-spec : {M : Type 1} → statement M
+visit-spec =
+    tie.close
+    (tie.spec
+    offer-requires
+    enum-told
+    enum-told-2
+    enum-told-3
+    arrive-requires
+    same-length
+    returns
+    same-length-2
+    returns-2
+    same-length-3
+    returns-3)

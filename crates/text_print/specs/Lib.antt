@@ -1,0 +1,2 @@
+-- What the contracts on the lines printed of a table cite.
+pub mod Printed

@@ -1,0 +1,2 @@
+// The text of a table printed from its records.
+pub mod print;
