@@ -1,4 +1,3 @@
 -- Laws that belong to no one function.
-pub mod PlanLaws
 pub mod BeginLaws
 pub mod RunLaws
