@@ -16,6 +16,7 @@ use Rattle.memory.specs.declared.answer.Refusal.{Refusal}
 use Rattle.memory.specs.declared.answer.Judged.{Judged}
 use Rattle.memory.specs.declared.answer.Judged.the-variants as judged
 use Rattle.memory.specs.Answers.{refusalNumber, judgedAs}
+use Rattle.memory.proofs.AnswerLaws.{forget-ok}
 use Rattle.text_columns.specs.Columns.{numberAs, numberOf, readStateNumber, readPresent, labelsRead}
 use Rattle.lines.specs.Lines.{arcParts, readArcLine}
 use Rattle.lines.proofs.LineLaws.{drop-take, line-end-is}
@@ -33,10 +34,6 @@ module _ {A C : Type 0} where
   forget-right (ok a) (refused n) = refl
   forget-right (refused m) (ok c) = refl
   forget-right (refused m) (refused n) = refl
-
-pub forget-ok : {A : Type 0} (a : Answer A) → forget a ≡ ok tt → (v : A) × (a ≡ ok v)
-forget-ok (ok a) e = (a, refl)
-forget-ok (refused n) e = absurd (refused≢ok e)
 
 right-same : {A C D : Type 0} (a : Answer A) (c : Answer C) (d : Answer D) → forget c ≡ forget d → forget (beside a c) ≡ forget (beside a d)
 right-same a c d e = sym (forget-right a c) ∙ ap (λ (z : Answer (Unit {0})). forget (beside a z)) e ∙ forget-right a d

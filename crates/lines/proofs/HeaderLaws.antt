@@ -19,10 +19,11 @@ use Rattle.memory.specs.declared.answer.Refusal.{Refusal}
 use Rattle.memory.specs.declared.answer.Judged.{Judged}
 use Rattle.memory.specs.declared.answer.Judged.the-variants as judged
 use Rattle.memory.specs.Answers.{refusalNumber, judgedAs}
+use Rattle.memory.proofs.AnswerLaws.{forget-ok}
 use Rattle.text_columns.specs.Columns.{numberAs, numberOf, readDecimal}
 use Rattle.lines.specs.Lines.{readHeader, countsJudged}
 use Rattle.lines.proofs.LineLaws.{drop-take, line-end-is}
-use Rattle.lines.proofs.ArcLaws.{forget-left, forget-ok}
+use Rattle.lines.proofs.ArcLaws.{forget-left}
 
 -- ---- the test of the counts
 module _ (j : Judged) (t s a : ℕ) where

@@ -18,7 +18,7 @@ use Rattle.memory.specs.Answers.{refusalNumber, judgedAs}
 use Rattle.memory.specs.declared.answer.Refusal.{Refusal}
 use Rattle.memory.specs.declared.answer.Judged.{Judged}
 use Rattle.memory.specs.declared.answer.Judged.the-variants as judged
-use Rattle.lines.proofs.ArcLaws.{forget-ok}
+use Rattle.memory.proofs.AnswerLaws.{forget-ok}
 use Rattle.text.specs.declared.WriteAnswer.{WriteAnswer}
 use Rattle.text.specs.Answers.{writtenAs, refusedBy, writtenOf}
 

@@ -9,12 +9,13 @@ use lib.ListN.{length, take, drop, getD, length-drop}
 use lib.Seq.{take-all, drop-drop}
 use borrow.Author.Tests.{eq-eqb, ne-eqb, lt-ltb, le-ltb}
 use Rattle.automata.specs.Lists.{and, if, all}
-use Rattle.automata.specs.Answer.{_>>=_, Answer, ok, refused, check, require, beside, forget}
+use Rattle.automata.specs.Answer.{_>>=_, ok, refused, check, require, beside, forget}
 use Rattle.automata.specs.Refusal.{form}
 use Rattle.automata.specs.Decimal.{decimal}
 use Rattle.automata.specs.Symbols.{isSymbol}
 use Rattle.automata.specs.TableText.{afterBlanks}
 use Rattle.memory.specs.Answers.{judgedAs}
+use Rattle.memory.proofs.AnswerLaws.{beside-next, beside-first, beside-last}
 use Rattle.memory.specs.declared.answer.Refusal.{Refusal}
 use Rattle.text_columns.specs.declared.decimal.Number.{Number}
 use Rattle.text_columns.specs.declared.decimal.Number.the-variants.{Value, Refused}
@@ -71,16 +72,6 @@ module _ (x : List ℕ) (l : length x ≡ 9) (h : getD x 0 0 ≡ 32) (b : Bool) 
   label-judged = rw (s, take-all (length x - n) (drop n x) (simp length-drop (omega arith)), m) (label-is x l h)
 
 -- ---- labels, one after the other
-beside-next : {A C D : Type 0} (a : Answer (Unit {0})) (b : Answer A) (c : Answer C) (f : A × C → D)
-    → forget (beside (forget (beside a (forget b))) c) ≡ forget (beside a (beside b c >>= λ p. ok (f p)))
-beside-next (ok a) (ok b) (ok c) f = refl
-beside-next (ok a) (ok b) (refused n) f = refl
-beside-next (ok a) (refused m) (ok c) f = refl
-beside-next (ok a) (refused m) (refused n) f = refl
-beside-next (refused k) (ok b) (ok c) f = refl
-beside-next (refused k) (ok b) (refused n) f = refl
-beside-next (refused k) (refused m) (ok c) f = refl
-beside-next (refused k) (refused m) (refused n) f = ap refused (omega arith)
 
 -- a turn of the loop over the labels
 pub labels-turn : (x : List ℕ) (at left : ℕ) (j k next : Judged) → 0 < left → judgedAs k ≡ forget (readLabel (take (at + 9 - at) (drop at x)))
@@ -95,15 +86,7 @@ labels-turn x at (suc left) j k next h e f =
 
 pub labels-end : (x : List ℕ) (at left : ℕ) (j : Judged) → left ≡ 0 → judgedAs j ≡ forget (beside (judgedAs j) (labelsRead left (drop at x)))
 unfolding labelsRead
-labels-end x at left j e = rw e (go (judgedAs j))
-  where
-    go : (a : Answer (Unit {0})) → a ≡ forget (beside a (labelsRead 0 (drop at x)))
-    go (ok t) = refl
-    go (refused n) = refl
+labels-end x at left j e = rw e (beside-last (judgedAs j) _)
 
 pub labels-start : (x : List ℕ) (n : ℕ) → forget (beside (ok (tt {0})) (labelsRead n (drop 0 x))) ≡ forget (labelsRead n x)
-labels-start x n = go (labelsRead n x)
-  where
-    go : (a : Answer (List (List ℕ))) → forget (beside (ok (tt {0})) a) ≡ forget a
-    go (ok t) = refl
-    go (refused n) = refl
+labels-start x n = beside-first (labelsRead n x)
