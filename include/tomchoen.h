@@ -16,7 +16,7 @@
  * For all functions:
  *   - Every array is a pointer and a length in bytes, and any contents and lengths are allowed: what is wrong is refused. A pointer
  *     must not be null, also where the length is 0, and must have as many bytes as the length says.
- *   - The arrays of one call must not overlap, except that arrays which are only read (const) may.
+ *   - The arrays of one call must not overlap, except that two which are only read (const) may.
  *   - A function reads and writes no memory but the arrays lent to it, allocates nothing and keeps nothing between calls.
  *   - A refusal leaves the result arrays (out_states, out_arcs, output) as they were. Otherwise the records stand at their front and the
  *     rest keeps its bytes.
@@ -87,8 +87,9 @@ uint64_t tomchoen_write(size_t tapes, size_t states, size_t arcs,
                         const uint8_t *state_bytes, size_t state_bytes_length, const uint8_t *arc_bytes, size_t arc_bytes_length,
                         uint8_t *output, size_t output_length);
 
-/* Keeps the accounts that agree on pairs of tapes, two bytes a pair (first tape, second tape, counted from 1), with one delay limit
- * (0 to 64). Refusals: 1 to 4 of the table, 5, 6, 7, 13, 8, 9, 10. Tells the counts. */
+/* Keeps the accounts that agree on pairs of tapes, two bytes a pair (first tape, second tape, counted from 1), with
+ * one delay limit (0 to 64). A last byte of pairs alone is no pair and does not count. Refusals: 1 to 4 of the
+ * table, 5, 6, 7, 13, 8, 9, 10. Tells the counts. */
 uint64_t tomchoen_build(size_t tapes, size_t states, size_t arcs,
                         const uint8_t *state_bytes, size_t state_bytes_length, const uint8_t *arc_bytes, size_t arc_bytes_length,
                         const uint8_t *pairs, size_t pairs_length, size_t limit,
@@ -105,9 +106,10 @@ uint64_t tomchoen_product(size_t first_tapes, size_t first_states, size_t first_
                           uint8_t *out_states, size_t out_states_length, uint8_t *out_arcs, size_t out_arcs_length,
                           uint8_t *work, size_t work_length);
 
-/* Joins two tables on pairs (a tape of the first, a tape of the second): their product, what agrees of it, without the second tapes.
- * The product stands in product space of its own. Refusals: 1 to 4 of the first table, then of the second, 12, 5, 6, 7, 13, then 8, 9, 11
- * of the product in its space, then 8, 9, 10 of the result in its space. Tells the counts. */
+/* Joins two tables on pairs (a tape of the first, a tape of the second): their product, what agrees of it, without
+ * the second tapes. Pairs are lent as to tomchoen_build; a last byte alone is no pair. The product stands in product
+ * space of its own. Refusals: 1 to 4 of the first table, then of the second, 12, 5, 6, 7, 13, then 8, 9, 11 of the
+ * product in its space, then 8, 9, 10 of the result in its space. Tells the counts. */
 uint64_t tomchoen_join(size_t first_tapes, size_t first_states, size_t first_arcs,
                        const uint8_t *first_state_bytes, size_t first_state_bytes_length,
                        const uint8_t *first_arc_bytes, size_t first_arc_bytes_length,

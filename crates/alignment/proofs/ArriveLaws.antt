@@ -4,6 +4,8 @@ use mathlib.Core.Path.{_≡_, refl, sym, ap, _∙_, subst}
 use mathlib.Core.Bool.{true, false}
 use mathlib.Core.List.{List, [], _∷_, _++_}
 use native.Mathlib.Omega.{arith}
+use mathlib.Core.Logic.{inl, inr}
+use borrow.Author.Tests.{ltb-true}
 use lib.ListN.{length}
 use Rattle.automata.specs.Automaton.{Automaton, Content}
 use Rattle.automata.specs.Explore.{Edge, insert, indexOf}
@@ -16,20 +18,19 @@ use Rattle.automata.proofs.SearchFacts.{insert-begins}
 use Rattle.memory.specs.declared.record.ResultState.{ResultState}
 use Rattle.rows.specs.declared.Entered.{Entered}
 use Rattle.rows.specs.declared.Entered.the-variants as E
-use Rattle.rows.specs.Find.{entry, enterOf}
-use Rattle.rows.specs.Inserted.{Inserted}
+use Rattle.chains.specs.Inserted.{Inserted}
 use Rattle.rows.specs.Kept.{keptRecord}
 use Rattle.alignment.specs.declared.vertex.Vertex.{Vertex}
 use Rattle.alignment.specs.declared.vertex.Move.{Move}
 use Rattle.alignment.specs.declared.plan.Plan.{Plan}
 use Rattle.alignment.specs.declared.head.Head.{Head}
-use Rattle.alignment.specs.Vertices.{vertexOf, vertexBytes, rowOf, VertexBelow}
+use Rattle.alignment.specs.Vertices.{vertexOf, rowOf, bucketBy, EntersVertex, VertexBelow}
 use Rattle.alignment.specs.Moves.{moveBytes}
 use Rattle.alignment.specs.Searching.{counted, VertexSearch, Holds, Ready, Arrives}
-use Rattle.alignment.proofs.RecordLaws.{length-vertex, length-move}
-use Rattle.rows.proofs.EntryLaws.{entered-length, entered-room}
+use Rattle.alignment.proofs.RecordLaws.{length-move}
 use Rattle.rows.proofs.CodeLaws.{index-bound}
 use Rattle.rows.proofs.KeptLaws.{kept-length}
+use Rattle.rows.proofs.SearchLaws.{count-more}
 use Rattle.alignment.proofs.HeldLaws.{was-at, was-new, was-full, inserted-held, move-held}
 
 -- a head with so many states
@@ -41,18 +42,14 @@ abbrev pub noted : Head → ℕ → ℕ → ResultState → Move
 noted h i j n = record { from = record { 0 = h .taken }; first = i; second = j; to = n }
 
 module _ (p : Plan) (h : Head) (d : Vertex) (i j : ℕ) (v : List ℕ) (q : Ready p h 1 (length v)) (opened : h .full ≡ false) (i-fits : i < 65536) (j-fits : j < 65536) where
-  -- a row of four bytes has room
-  row-room : 0 + p .states * length (vertexBytes d) ≤ length v
-  row-room = rw (length-vertex d) (omega (arith, q .vertices-fit, q .moves-fit))
-
   -- it was inserted as number n, whatever search was held, which then has k states
   abbrev Enters : ℕ → ResultState → List ℕ → Type 0
   Enters k n w = (A B : Automaton ℕ) (t : automata.Vertex) → length (A .states) ≤ 1024 → length (B .states) ≤ 1024 → d ≡ vertexOf t
       → VertexBelow (length (A .states)) (length (B .states)) t → (s : VertexSearch) → Holds p A B h s v
-      → Inserted rowOf sameVertex 0 (p .states) 4 (s .vertices) t v w n × (k ≡ length (insert sameVertex (s .vertices) t))
+      → Inserted rowOf sameVertex (bucketBy (p .states)) 16 4 (p .states) (s .vertices) t v w n × (k ≡ length (insert sameVertex (s .vertices) t))
 
   arrives-noted : (k : ℕ) (n : ResultState) (w : List ℕ) → h .reached ≤ k → k ≤ p .states → length w ≡ length v → Enters k n w → (g : Head) (u : List ℕ)
-      → (g ≡ counted (withReached k h)) × (u ≡ keptRecord (p .base) (p .arcs) (h .arcs) (moveBytes (noted h i j n)) w) → Arrives p h d i j v g u
+      → (g ≡ counted p (withReached k h)) × (u ≡ keptRecord (p .base) (p .arcs) (h .arcs) (moveBytes (noted h i j n)) w) → Arrives p h d i j v g u
   unfolding note noteAll
   arrives-noted k n w l b lw enters g u e = record {
     grows = record {
@@ -77,36 +74,37 @@ module _ (p : Plan) (h : Head) (d : Vertex) (i j : ℕ) (v : List ℕ) (q : Read
         (record { vertex = c; at-from = AppendFacts.begins-place (insert-begins sameVertex (s .vertices) t) (h .taken) at; from-is = refl; to-is = refl; carried = ca }) u mv in
         record {
           held = λ f. subst (λ (z : Head). Holds p A B z (record { vertices = more; edges = s .edges ++ (x ∷ []) }) u) (sym (e .0)) o2;
-          over = λ f. TestFacts.false-not-true (ap (λ (z : Head). z .full) (e .0) ∙ opened) f;
+          over = λ f.
+              let l = ltb-true (p .limit) (h .arcs + 1) (sym (ap (λ (z : Head). z .full) (e .0)) ∙ f) in
+              let a : g .arcs ≡ h .arcs + 1 = ap (λ (z : Head). z .arcs) (e .0) in
+              let b = count-more (h .arcs) (s .edges) x (o .arc-count) in
+              inr (omega (arith, l, a), omega (arith, l, b));
         };
   }
 
-  module _ (r : Entered) (w : List ℕ) (t : entry r w ≡ enterOf 0 (h .reached) (p .states) (vertexBytes d) v) where
-    kept : length w ≡ length v
-    kept = entered-length 0 (h .reached) (p .states) (vertexBytes d) v r w t row-room
-
+  module _ (r : Entered) (w : List ℕ) (t : EntersVertex (h .reached) (p .states) d v r w) where
     -- it was there already
     pub arrives-at : (n : ResultState) → r ≡ E.At n → (g : Head) (u : List ℕ)
-        → (g ≡ counted h) × (u ≡ keptRecord (p .base) (p .arcs) (h .arcs) (moveBytes (noted h i j n)) w) → Arrives p h d i j v g u
-    arrives-at n z = arrives-noted (h .reached) n w (omega arith) (q .fits) kept
-        (λ A B c la lb di bt s o. was-at p h d v (q .vertices-fit) (q .moves-fit) A B c la lb di bt s o n w (ap (λ (y : Entered). entry y w) (sym z) ∙ t))
+        → (g ≡ counted p h) × (u ≡ keptRecord (p .base) (p .arcs) (h .arcs) (moveBytes (noted h i j n)) w) → Arrives p h d i j v g u
+    arrives-at n z = arrives-noted (h .reached) n w (omega arith) (q .fits) (t .same-length)
+        (λ A B c la lb di bt s o. was-at p h d v (q .vertices-fit) (q .moves-fit) A B c la lb di bt s o n w (subst (λ (y : Entered). EntersVertex (h .reached) (p .states) d v y w) z t))
 
     -- it is new
     pub arrives-new : (n : ResultState) → r ≡ E.New n → (g : Head) (u : List ℕ)
-        → (g ≡ counted (withReached (h .reached + 1) h)) × (u ≡ keptRecord (p .base) (p .arcs) (h .arcs) (moveBytes (noted h i j n)) w) → Arrives p h d i j v g u
+        → (g ≡ counted p (withReached (h .reached + 1) h)) × (u ≡ keptRecord (p .base) (p .arcs) (h .arcs) (moveBytes (noted h i j n)) w) → Arrives p h d i j v g u
     arrives-new n z =
-        let t2 = ap (λ (y : Entered). entry y w) (sym z) ∙ t in
-        let b = entered-room 0 (h .reached) (p .states) (vertexBytes d) v n w t2 in
-        arrives-noted (h .reached + 1) n w (omega arith) (omega (arith, b)) kept
+        let t2 = subst (λ (y : Entered). EntersVertex (h .reached) (p .states) d v y w) z t in
+        let b = t2 .fits in
+        arrives-noted (h .reached + 1) n w (omega arith) (omega (arith, b)) (t .same-length)
         (λ A B c la lb di bt s o. was-new p h d v (q .vertices-fit) (q .moves-fit) A B c la lb di bt s o n w t2)
 
     -- there is no room for it
     pub arrives-full : r ≡ E.Full → Arrives p h d i j v (record { taken = h .taken; reached = h .reached; arcs = h .arcs; full = true }) w
     unfolding note noteAll
     arrives-full z = record {
-      grows = record { taken = refl; grown = omega arith; fits = q .fits; few = omega arith; same-length = kept };
+      grows = record { taken = refl; grown = omega arith; fits = q .fits; few = omega arith; same-length = t .same-length };
       meaning = λ A B c x y la lb di bt ca s m at. record {
         held = λ f. TestFacts.false-not-true f refl;
-        over = λ f. was-full p h d v (q .vertices-fit) (q .moves-fit) A B x la lb di bt s (m .held opened) w (ap (λ (y : Entered). entry y w) (sym z) ∙ t);
+        over = λ f. inl (was-full p h d v (q .vertices-fit) (q .moves-fit) A B x la lb di bt s (m .held opened) w (subst (λ (y : Entered). EntersVertex (h .reached) (p .states) d v y w) z t));
       };
     }

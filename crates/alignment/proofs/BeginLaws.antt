@@ -10,7 +10,8 @@ use Rattle.automata.specs.Automaton.{Automaton, State}
 use Rattle.automata.specs.Search.{searchFrom}
 use Rattle.automata.specs.Product.{sameVertex, initialsFrom, allPairs}
 use Rattle.automata.proofs.TestFacts
-use Rattle.memory.specs.Region.{rows}
+use Rattle.chains.specs.Chain.{fronts}
+use Rattle.alignment.specs.Vertices.{ChainedVertices}
 use Rattle.memory.specs.Records.{stateAs, stateAt}
 use Rattle.alignment.specs.declared.plan.Plan.{Plan}
 use Rattle.alignment.specs.declared.head.Head.{Head}
@@ -60,18 +61,18 @@ pub record Beginning (p : Plan) (s1 s2 : List ℕ) (v : List ℕ) (g : Head) (w 
       → Enters p A B (allPairs (initialsFrom zero (take q (A .states))) (initialsFrom zero (B .states))) (record { taken = 0; reached = 0; arcs = 0; full = false }) v g w
 
 -- nothing is held to begin with
-nothing-held : (p : Plan) (A B : Automaton ℕ) (v : List ℕ) → Comes p A B (record { taken = 0; reached = 0; arcs = 0; full = false }) (record { vertices = []; edges = [] }) v
-unfolding rows
-nothing-held p A B v = record {
-  held = λ f. record { vertices = refl; moves = moves-none A B [] (p .base) (p .arcs) v; reached = refl; fits = omega arith; arc-count = refl; below = tt };
+nothing-held : (p : Plan) (A B : Automaton ℕ) (v : List ℕ) → ChainedVertices (p .states) 0 v → Comes p A B (record { taken = 0; reached = 0; arcs = 0; full = false }) (record { vertices = []; edges = [] }) v
+unfolding fronts
+nothing-held p A B v e = record {
+  held = λ f. record { vertices = refl; chained = e; moves = moves-none A B [] (p .base) (p .arcs) v; reached = refl; fits = omega arith; arc-count = refl; below = tt };
   over = λ f. TestFacts.false-not-true refl f;
 }
 
 -- what was entered from nothing is the search that has begun
-begun-from : (p : Plan) (A B : Automaton ℕ) (g : Head) (v w : List ℕ) → Enters p A B (startsOf A B) (record { taken = 0; reached = 0; arcs = 0; full = false }) v g w
+begun-from : (p : Plan) (A B : Automaton ℕ) (g : Head) (v w : List ℕ) → ChainedVertices (p .states) 0 v → Enters p A B (startsOf A B) (record { taken = 0; reached = 0; arcs = 0; full = false }) v g w
     → Comes p A B g (searchFrom sameVertex (startsOf A B)) w
 unfolding searchFrom
-begun-from p A B g v w e = e (record { vertices = []; edges = [] }) (nothing-held p A B v)
+begun-from p A B g v w c e = e (record { vertices = []; edges = [] }) (nothing-held p A B v c)
 
 module _ (p : Plan) (s1 s2 : List ℕ) (v : List ℕ) (k : Beginnable p s1 s2 (length v)) where
   pub begin-start : Beginning p s1 s2 v (record { taken = 0; reached = 0; arcs = 0; full = false }) v 0
@@ -111,12 +112,12 @@ module _ (p : Plan) (s1 s2 : List ℕ) (v : List ℕ) (k : Beginnable p s1 s2 (l
         arcs = next-widens .arcs;
         fits = next-widens .fits;
         same-length = next-widens .same-length;
-        meaning = λ A B m n.
+        meaning = λ c A B m n.
             let qs = initialsFrom zero (B .states) in
             let is = initialsFrom zero (take (q + 1) (A .states)) in
             let more = initialsFrom (zero + length (take (q + 1) (A .states))) (drop (q + 1) (A .states)) in
             let e : allPairs is qs ++ allPairs more qs ≡ startsOf A B = sym (pairs-append qs is more) ∙ ap (λ (l : List ℕ). allPairs l qs) (initials-split (A .states) (q + 1)) in
-            begun-from p A B r v u (enters-same p A B _ _ noHead r v u e (enters-full p A B (allPairs is qs) (allPairs more qs) noHead r v u f (next-means A B m n)));
+            begun-from p A B r v u c (enters-same p A B _ _ noHead r v u e (enters-full p A B (allPairs is qs) (allPairs more qs) noHead r v u f (next-means A B m n)));
       }
 
     pub begin-end : p .first .states ≤ q → Begun p s1 s2 v g w
@@ -125,6 +126,6 @@ module _ (p : Plan) (s1 s2 : List ℕ) (v : List ℕ) (k : Beginnable p s1 s2 (l
       arcs = t .widens .arcs;
       fits = t .widens .fits;
       same-length = t .widens .same-length;
-      meaning = λ A B m n. begun-from p A B g v w (enters-same p A B _ _ noHead g v w
+      meaning = λ c A B m n. begun-from p A B g v w c (enters-same p A B _ _ noHead g v w
           (ap (λ (ss : List (State ℕ)). allPairs (initialsFrom zero ss) (initialsFrom zero (B .states))) (take-all q (A .states) (omega (arith, b, m .count)))) (t .meaning A B m n));
     }

@@ -19,7 +19,7 @@ use Rattle.alignment.specs.declared.plan.Plan.{Plan}
 use Rattle.alignment.specs.declared.head.Head.{Head}
 use Rattle.alignment.specs.Vertices.{vertexOf, VertexBelow}
 use Rattle.alignment.specs.Moves.{by-second, by-first}
-use Rattle.alignment.specs.Reading.{StatesLent, ReadsStates}
+use Rattle.alignment.specs.Reading.{StatesLent, ReadsStates, chainedOnly}
 use Rattle.alignment.specs.Searching.{Step, Ready, TellsEnd, onSecond, onFirst, PassesSecond, PassesFirst, EndsFirst, EndsSecond}
 use Rattle.alignment.proofs.NoteLaws.{grows-none, notes-none, notes-over, notes-same}
 use Rattle.alignment.proofs.ReadLaws.{final-absent, final-present}
@@ -60,12 +60,12 @@ present e (some f) n t = (f, refl)
 
 -- ---- after the first side's end
 
-module _ (p : Plan) (h : Head) (c : Vertex) (s1 a2 : List ℕ) (v : List ℕ) (q : Ready p h 8192 (length v)) where
+module _ (p : Plan) (h : Head) (c : Vertex) (s1 a2 n2 : List ℕ) (v : List ℕ) (q : Ready p h 8192 (length v)) where
   -- the states are full
-  pub first-over : h .full ≡ true → EndsFirst p h c s1 a2 v h v
+  pub first-over : h .full ≡ true → EndsFirst p h c s1 a2 n2 v h v
   first-over f = record {
     grows = grows-none p 8192 h v (q .fits);
-    meaning = λ A B b k l e t. notes-over p A B b (allAfterFirst ℕ-sum (A .tapes) (finalAt ℕ-sum (system A) (b .0)) (outAt ℕ-sum (system B) (b .1))) h v f;
+    meaning = λ A B b k l e t. notes-over p A B b (allAfterFirst ℕ-sum (A .tapes) (finalAt ℕ-sum (system A) (b .0)) (outAt ℕ-sum (system (chainedOnly n2 B)) (b .1))) h v f;
   }
 
   module _ (x : Bool) (tells : TellsEnd (p .first) s1 (c .first) x) where
@@ -74,22 +74,22 @@ module _ (p : Plan) (h : Head) (c : Vertex) (s1 a2 : List ℕ) (v : List ℕ) (q
     told A B b k e t = tells A (b .0) k (ap (λ (y : Vertex). y .first) e) (t .0)
 
     -- its path may not end
-    pub first-stays : not x ≡ true → EndsFirst p h c s1 a2 v h v
+    pub first-stays : not x ≡ true → EndsFirst p h c s1 a2 n2 v h v
     first-stays n = record {
       grows = grows-none p 8192 h v (q .fits);
       meaning = λ A B b k l e t.
-          let rs = outAt ℕ-sum (system B) (b .1) in
+          let rs = outAt ℕ-sum (system (chainedOnly n2 B)) (b .1) in
           let o : finalAt ℕ-sum (system A) (b .0) ≡ none = absent x (finalAt ℕ-sum (system A) (b .0)) n (told A B b k e t) in
           notes-same p A B b [] (allAfterFirst ℕ-sum (A .tapes) (finalAt ℕ-sum (system A) (b .0)) rs) h h v v
           (sym (ap {B = List Step} (λ z. allAfterFirst ℕ-sum (A .tapes) z rs) o)) (notes-none p A B b h v);
     }
 
     -- it may
-    pub first-ends : not x ≡ false → (r : Head) (w : List ℕ) → PassesSecond p h c 65535 65535 a2 v r w → EndsFirst p h c s1 a2 v r w
+    pub first-ends : not x ≡ false → (r : Head) (w : List ℕ) → PassesSecond p h c 65535 65535 a2 n2 v r w → EndsFirst p h c s1 a2 n2 v r w
     first-ends n r w a = record {
       grows = a .grows;
       meaning = λ A B b k l e t.
-          let rs = outAt ℕ-sum (system B) (b .1) in
+          let rs = outAt ℕ-sum (system (chainedOnly n2 B)) (b .1) in
           let y = present x (finalAt ℕ-sum (system A) (b .0)) n (told A B b k e t) in
           let F : Content ℕ → Content ℕ = afterFirstContent ℕ-sum (A .tapes) (y .0) in
           notes-same p A B b (map (onSecond F none) rs) (allAfterFirst ℕ-sum (A .tapes) (finalAt ℕ-sum (system A) (b .0)) rs) h r v w
@@ -106,12 +106,12 @@ module _ (p : Plan) (h : Head) (c : Vertex) (s1 a2 : List ℕ) (v : List ℕ) (q
 
 -- ---- after the second side's end
 
-module _ (p : Plan) (h : Head) (c : Vertex) (a1 s2 : List ℕ) (v : List ℕ) (q : Ready p h 8192 (length v)) where
+module _ (p : Plan) (h : Head) (c : Vertex) (a1 n1 s2 : List ℕ) (v : List ℕ) (q : Ready p h 8192 (length v)) where
   -- the states are full
-  pub second-over : h .full ≡ true → EndsSecond p h c a1 s2 v h v
+  pub second-over : h .full ≡ true → EndsSecond p h c a1 n1 s2 v h v
   second-over f = record {
     grows = grows-none p 8192 h v (q .fits);
-    meaning = λ A B b k l e t. notes-over p A B b (allAfterSecond ℕ-sum (B .tapes) (finalAt ℕ-sum (system B) (b .1)) (outAt ℕ-sum (system A) (b .0))) h v f;
+    meaning = λ A B b k l e t. notes-over p A B b (allAfterSecond ℕ-sum (B .tapes) (finalAt ℕ-sum (system B) (b .1)) (outAt ℕ-sum (system (chainedOnly n1 A)) (b .0))) h v f;
   }
 
   module _ (x : Bool) (tells : TellsEnd (p .second) s2 (c .second) x) where
@@ -120,22 +120,22 @@ module _ (p : Plan) (h : Head) (c : Vertex) (a1 s2 : List ℕ) (v : List ℕ) (q
     told-second A B b k e t = tells B (b .1) k (ap (λ (y : Vertex). y .second) e) (t .1)
 
     -- its path may not end
-    pub second-stays : not x ≡ true → EndsSecond p h c a1 s2 v h v
+    pub second-stays : not x ≡ true → EndsSecond p h c a1 n1 s2 v h v
     second-stays n = record {
       grows = grows-none p 8192 h v (q .fits);
       meaning = λ A B b k l e t.
-          let ss = outAt ℕ-sum (system A) (b .0) in
+          let ss = outAt ℕ-sum (system (chainedOnly n1 A)) (b .0) in
           let o : finalAt ℕ-sum (system B) (b .1) ≡ none = absent x (finalAt ℕ-sum (system B) (b .1)) n (told-second A B b l e t) in
           notes-same p A B b [] (allAfterSecond ℕ-sum (B .tapes) (finalAt ℕ-sum (system B) (b .1)) ss) h h v v
           (sym (ap {B = List Step} (λ z. allAfterSecond ℕ-sum (B .tapes) z ss) o)) (notes-none p A B b h v);
     }
 
     -- it may
-    pub second-ends : not x ≡ false → (r : Head) (w : List ℕ) → PassesFirst p h c a1 v r w → EndsSecond p h c a1 s2 v r w
+    pub second-ends : not x ≡ false → (r : Head) (w : List ℕ) → PassesFirst p h c a1 n1 v r w → EndsSecond p h c a1 n1 s2 v r w
     second-ends n r w a = record {
       grows = a .grows;
       meaning = λ A B b k l e t.
-          let ss = outAt ℕ-sum (system A) (b .0) in
+          let ss = outAt ℕ-sum (system (chainedOnly n1 A)) (b .0) in
           let y = present x (finalAt ℕ-sum (system B) (b .1)) n (told-second A B b l e t) in
           let F : Content ℕ → Content ℕ = afterSecondContent ℕ-sum (B .tapes) (y .0) in
           notes-same p A B b (map (onFirst F) ss) (allAfterSecond ℕ-sum (B .tapes) (finalAt ℕ-sum (system B) (b .1)) ss) h r v w

@@ -5,7 +5,7 @@ use mathlib.Core.Bool.{true, false}
 use mathlib.Core.Option.{Option, none, some}
 use mathlib.Core.List.{List, [], _∷_, map}
 use native.Mathlib.Omega.{arith}
-use lib.ListN.{length, take}
+use lib.ListN.{length, getD, take}
 use Rattle.automata.specs.Automaton.{Automaton, Arc, Content, content}
 use Rattle.automata.specs.Product as automata
 use Rattle.automata.proofs.ListFacts
@@ -16,10 +16,12 @@ use Rattle.alignment.specs.declared.vertex.Vertex.{Vertex}
 use Rattle.alignment.specs.declared.plan.Plan.{Plan}
 use Rattle.alignment.specs.declared.head.Head.{Head}
 use Rattle.alignment.specs.Vertices.{placeNumber}
-use Rattle.alignment.specs.Reading.{ArcsLent}
+use Rattle.adjacency.specs.Chains.{sourceIn, inChain, FirstIn, firstFor}
+use Rattle.adjacency.proofs.ChainLaws.{first-for, next-for}
+use Rattle.alignment.specs.Reading.{ArcsLent, LinkedArcs, chainedArcs, chainedOnly}
 use Rattle.alignment.specs.Searching.{Notes, Ready, Grows, Arrives, outBy, onFirst, ByFirst, TriesFirst, PassesFirst}
 use Rattle.alignment.proofs.NoteLaws.{grows-none, grows-then, grows-wider, ready-on, notes-none, notes-same}
-use Rattle.alignment.proofs.ReadLaws.{source-at, target-at, out-one, out-away, out-all, turn-start, turn-more, turn-full, turn-all}
+use Rattle.alignment.proofs.ReadLaws.{source-at, target-at, out-one, out-away, out-all, at-source, turn-start, turn-more, turn-pass, turn-full, turn-all}
 
 -- ---- one arc
 
@@ -66,49 +68,86 @@ module _ (p : Plan) (h : Head) (c : Vertex) (arcs : List ℕ) (i : ℕ) (v : Lis
 
 -- ---- all arcs
 
--- the first i were looked at
-pub record PassingFirst (p : Plan) (h : Head) (c : Vertex) (arcs : List ℕ) (v : List ℕ) (g : Head) (w : List ℕ) (i : ℕ) : Type 0 where
-  pub within : i ≤ p .first .arcs
-  pub opened : g .full ≡ false
-  pub grows : Grows p i h v g w
-  pub meaning : (A B : Automaton ℕ) (b : automata.Vertex) (F : Content ℕ → Content ℕ) → ByFirst p arcs c A B b F
-      → Notes p A B b (map (onFirst F) (outBy (take i (A .arcs)) (b .0))) h v g w
+module _ (p : Plan) (h : Head) (c : Vertex) (arcs next : List ℕ) (v : List ℕ) where
+  -- the first i were looked at
+  pub record TurnedFirst (g : Head) (w : List ℕ) (i : ℕ) : Type 0 where
+    pub within : i ≤ p .first .arcs
+    pub opened : g .full ≡ false
+    pub grows : Grows p i h v g w
+    pub meaning : (A B : Automaton ℕ) (b : automata.Vertex) (F : Content ℕ → Content ℕ) → ByFirst p arcs c A B b F
+        → Notes p A B b (map (onFirst F) (outBy (chainedArcs next 0 (take i (A .arcs))) (b .0))) h v g w
 
-module _ (p : Plan) (h : Head) (c : Vertex) (arcs : List ℕ) (v : List ℕ) (q : Ready p h 8192 (length v)) (lent : ArcsLent (p .first) arcs) where
-  pub first-start : h .full ≡ false → PassingFirst p h c arcs v h v 0
-  first-start f = record {
-    within = omega arith;
-    opened = f;
-    grows = grows-none p 0 h v (q .fits);
-    meaning = λ A B b F k. turn-start (map (onFirst F)) refl (ListFacts.map-append (onFirst F)) p A B b (A .arcs) (b .0) h v;
-  }
+  -- and the next one, where there is one, is in the chain of the first side's place
+  pub record PassingFirst (g : Head) (w : List ℕ) (i : ℕ) : Type 0 where
+    pub turned : TurnedFirst g w i
+    pub leaves : i < p .first .arcs → (inChain next i ≡ true) × (sourceIn arcs i ≡ c .first)
 
-  module _ (g : Head) (w : List ℕ) (i : ℕ) (t : PassingFirst p h c arcs v g w i) where
-    pub first-requires : i < p .first .arcs → (Ready p g 1 (length w)) × (g .full ≡ false) × (ArcsLent (p .first) arcs) × (i < p .first .arcs)
-    first-requires b = (ready-on p i 1 8192 h g v w q (t .grows) (omega (arith, b, lent .few)), t .opened, lent, b)
-
-    module _ (b : i < p .first .arcs) (r : Head) (u : List ℕ) (z : TriesFirst p g c arcs i w r u) where
-      next-grows : Grows p (i + 1) h v r u
-      next-grows = grows-then p i 1 (i + 1) h g r v w u (t .grows) (z .grows) (omega arith)
-
-      next-means : (A B : Automaton ℕ) (d : automata.Vertex) (F : Content ℕ → Content ℕ) → ByFirst p arcs c A B d F
-          → Notes p A B d (map (onFirst F) (outBy (take (i + 1) (A .arcs)) (d .0))) h v r u
-      next-means A B d F k = turn-more (map (onFirst F)) refl (ListFacts.map-append (onFirst F)) p A B d (A .arcs) (d .0) h v
-          i (arcAs (p .first .tapes) (arcAt (80 * i) arcs)) g r w u (t .grows .taken) (t .meaning A B d F k) (k .reads .loaded i b) (z .meaning A B d F k)
-
-      pub first-next : r .full ≡ false → PassingFirst p h c arcs v r u (i + 1)
-      first-next f = record { within = omega arith; opened = f; grows = next-grows; meaning = next-means }
-
-      pub first-full : r .full ≡ true → PassesFirst p h c arcs v r u
-      first-full f = record {
-        grows = grows-wider p (i + 1) 8192 h r v u next-grows (omega (arith, b, lent .few));
-        meaning = λ A B d F k. subst (λ (l : List (Content ℕ × ℕ)). Notes p A B d (map (onFirst F) l) h v r u) (out-all A (d .0))
-            (turn-full (map (onFirst F)) refl (ListFacts.map-append (onFirst F)) p A B d (A .arcs) (d .0) h v (i + 1) r u f (next-means A B d F k));
+module _ (p : Plan) (h : Head) (c : Vertex) (arcs first next : List ℕ) (v : List ℕ) (q : Ready p h 8192 (length v)) (lent : ArcsLent (p .first) arcs)
+    (linked : LinkedArcs (p .first) arcs first next) where
+  -- up to the next arc of the chain
+  to-next : (g : Head) (w : List ℕ) (k i : ℕ) → TurnedFirst p h c arcs next v g w k → FirstIn arcs next (c .first) (p .first .arcs) k i → PassingFirst p h c arcs next v g w i
+  to-next g w k i t f =
+      let b = f .behind in
+      record {
+        turned = record {
+          within = f .within;
+          opened = t .opened;
+          grows = grows-wider p k i h g v w (t .grows) b;
+          meaning = λ A B d F z.
+              turn-pass (map (onFirst F)) refl (ListFacts.map-append (onFirst F)) p A B d next (A .arcs) (d .0) h v (i - k) k i g w (omega (arith, b)) (omega (arith, f .within, z .reads .count))
+              (λ n a l m e y s. f .between n l m y (at-source (p .first) arcs A (z .reads) n a (omega (arith, m, f .within)) e ∙ s ∙ sym (z .vertex-is))) (t .meaning A B d F z);
+        };
+        leaves = f .leaves;
       }
 
-    pub first-end : p .first .arcs ≤ i → PassesFirst p h c arcs v g w
+  pub first-start : h .full ≡ false → (i : ℕ) → i ≡ firstFor (p .first .states) (p .first .arcs) first (c .first) → PassingFirst p h c arcs next v h v i
+  first-start f i e = to-next h v 0 i
+      (record {
+        within = omega arith;
+        opened = f;
+        grows = grows-none p 0 h v (q .fits);
+        meaning = λ A B b F k. turn-start (map (onFirst F)) refl (ListFacts.map-append (onFirst F)) p A B b next (A .arcs) (b .0) h v;
+      })
+      (subst (FirstIn arcs next (c .first) (p .first .arcs) 0) (sym e) (first-for (p .first .states) (p .first .arcs) arcs first next linked (c .first)))
+
+  module _ (g : Head) (w : List ℕ) (i : ℕ) (t : PassingFirst p h c arcs next v g w i) where
+    pub first-requires : i < p .first .arcs → (Ready p g 1 (length w)) × (g .full ≡ false) × (ArcsLent (p .first) arcs) × (i < p .first .arcs)
+    first-requires b = (ready-on p i 1 8192 h g v w q (t .turned .grows) (omega (arith, b, lent .few)), t .turned .opened, lent, b)
+
+    module _ (b : i < p .first .arcs) where
+      -- the next arc of the chain
+      following : FirstIn arcs next (c .first) (p .first .arcs) (i + 1) (getD next i 0)
+      following = next-for (p .first .states) (p .first .arcs) arcs first next linked (c .first) i b (t .leaves b)
+
+      -- stands behind, and has a small number
+      pub first-goes : i < getD next i 0
+      first-goes = let f = following .behind in omega (arith, f)
+
+      pub first-bound : getD next i 0 ≤ 8192
+      first-bound = let f = following .within in omega (arith, f, lent .few)
+
+      module _ (r : Head) (u : List ℕ) (z : TriesFirst p g c arcs i w r u) where
+        next-grows : Grows p (i + 1) h v r u
+        next-grows = grows-then p i 1 (i + 1) h g r v w u (t .turned .grows) (z .grows) (omega arith)
+
+        next-means : (A B : Automaton ℕ) (d : automata.Vertex) (F : Content ℕ → Content ℕ) → ByFirst p arcs c A B d F
+            → Notes p A B d (map (onFirst F) (outBy (chainedArcs next 0 (take (i + 1) (A .arcs))) (d .0))) h v r u
+        next-means A B d F k = turn-more (map (onFirst F)) refl (ListFacts.map-append (onFirst F)) p A B d next (A .arcs) (d .0) h v
+            i (arcAs (p .first .tapes) (arcAt (80 * i) arcs)) g r w u (t .turned .grows .taken) (t .turned .meaning A B d F k) (k .reads .loaded i b) (t .leaves b .0) (z .meaning A B d F k)
+
+        pub first-next : r .full ≡ false → PassingFirst p h c arcs next v r u (getD next i 0)
+        first-next f = to-next r u (i + 1) (getD next i 0) (record { within = omega arith; opened = f; grows = next-grows; meaning = next-means }) following
+
+        pub first-full : r .full ≡ true → PassesFirst p h c arcs next v r u
+        first-full f = record {
+          grows = grows-wider p (i + 1) 8192 h r v u next-grows (omega (arith, b, lent .few));
+          meaning = λ A B d F k. subst (λ (l : List (Content ℕ × ℕ)). Notes p A B d (map (onFirst F) l) h v r u) (out-all (chainedOnly next A) (d .0))
+              (turn-full (map (onFirst F)) refl (ListFacts.map-append (onFirst F)) p A B d next (A .arcs) (d .0) h v (i + 1) r u f (next-means A B d F k));
+        }
+
+    pub first-end : p .first .arcs ≤ i → PassesFirst p h c arcs next v g w
     first-end b = record {
-      grows = grows-wider p i 8192 h g v w (t .grows) (omega (arith, t .within, lent .few));
-      meaning = λ A B d F k. subst (λ (l : List (Content ℕ × ℕ)). Notes p A B d (map (onFirst F) l) h v g w) (out-all A (d .0))
-          (turn-all (map (onFirst F)) refl (ListFacts.map-append (onFirst F)) p A B d (A .arcs) (d .0) h v i g w (omega (arith, b, k .reads .count)) (t .meaning A B d F k));
+      grows = grows-wider p i 8192 h g v w (t .turned .grows) (omega (arith, t .turned .within, lent .few));
+      meaning = λ A B d F k. subst (λ (l : List (Content ℕ × ℕ)). Notes p A B d (map (onFirst F) l) h v g w) (out-all (chainedOnly next A) (d .0))
+          (turn-all (map (onFirst F)) refl (ListFacts.map-append (onFirst F)) p A B d next (A .arcs) (d .0) h v i g w (omega (arith, b, k .reads .count)) (t .turned .meaning A B d F k));
     }

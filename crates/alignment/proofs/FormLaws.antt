@@ -16,7 +16,8 @@ use Rattle.memory.specs.Endian.{le, toLe}
 use Rattle.memory.proofs.Laws.{part-part, part-front, part-end}
 use Rattle.memory.proofs.EndianLaws.{le-toLe}
 use Rattle.rows.specs.Inserted.{Tells}
-use Rattle.rows.proofs.CodeLaws.{codes-tell, row-at}
+use Rattle.rows.proofs.CodeLaws.{codes-tell}
+use Rattle.chains.proofs.Meaning.{code-at}
 use Rattle.alignment.specs.declared.vertex.Vertex.{Vertex}
 use Rattle.alignment.specs.Vertices.{placeNumber, vertexOf, vertexBytes, rowOf, HoldsVertices, PlaceBelow, VertexBelow, vertexAt}
 
@@ -70,8 +71,8 @@ module _ (n m : ℕ) (few-first : n ≤ 1024) (few-second : m ≤ 1024) where
 
 -- what is read from its row is the state by value
 pub loaded : (n m : ℕ) (cs : List automata.Vertex) (w : List ℕ) (k : ℕ) (c : automata.Vertex) → n ≤ 1024 → m ≤ 1024 → All (VertexBelow n m) cs → HoldsVertices cs w
-    → getElem? cs k ≡ some c → vertexAt (4 * k) w ≡ vertexOf c
+    → getElem? cs k ≡ some c → vertexAt (16 * k) w ≡ vertexOf c
 loaded n m cs w k c a b h o e =
-    let f : part (0 + k * 4) 4 w ≡ rowOf c = row-at rowOf 0 4 cs w k c o e in
-    let q : 0 + k * 4 ≡ 4 * k = omega arith in
-    vertex-row (4 * k) w ∙ ap (λ (i : ℕ). vertexAt 0 (part i 4 w)) (sym q) ∙ ap (vertexAt 0) f ∙ row-back n m a b c (all-place (VertexBelow n m) cs h k c e)
+    let f : part (k * 16) 4 w ≡ rowOf c = code-at rowOf 16 4 cs w k c o e in
+    let q : k * 16 ≡ 16 * k = omega arith in
+    vertex-row (16 * k) w ∙ ap (λ (i : ℕ). vertexAt 0 (part i 4 w)) (sym q) ∙ ap (vertexAt 0) f ∙ row-back n m a b c (all-place (VertexBelow n m) cs h k c e)

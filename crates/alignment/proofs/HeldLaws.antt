@@ -1,6 +1,6 @@
 -- What entering a state and noting a move leave of the work space, and that the search stays held.
 use Prim.Native.Nat.{ℕ, _+_, _-_, _*_, _≤_, _<_}
-use mathlib.Core.Path.{_≡_, sym, ap, _∙_, subst}
+use mathlib.Core.Path.{_≡_, refl, sym, ap, _∙_, subst}
 use mathlib.Core.List.{List, [], _∷_, _++_}
 use native.Mathlib.Omega.{arith}
 use lib.ListN.{length}
@@ -14,20 +14,24 @@ use Rattle.automata.proofs.SearchFacts.{insert-begins}
 use Rattle.automata.proofs.ProductStates.{vertices-decided}
 use Rattle.memory.specs.Region.{part, splice}
 use Rattle.memory.specs.declared.record.ResultState.{ResultState}
-use Rattle.memory.proofs.RowLaws.{rows-splice-after}
+use Rattle.memory.proofs.Laws.{part-splice-before}
 use Rattle.rows.specs.declared.Entered.{Entered}
 use Rattle.rows.specs.declared.Entered.the-variants as E
-use Rattle.rows.specs.Find.{entry, enterOf}
-use Rattle.rows.specs.Inserted.{Inserted}
 use Rattle.rows.specs.Kept.{keptRecord}
-use Rattle.rows.proofs.CodeLaws.{all-insert, Entering, inserted-at, inserted-new, not-inserted}
+use Rattle.rows.proofs.CodeLaws.{all-insert}
 use Rattle.rows.proofs.KeptLaws.{kept-cases, Keeps, stand-none, stand-kept, stand-more, stand-beyond}
 use Rattle.rows.proofs.SearchLaws.{count-more}
+use Rattle.chains.specs.Chain.{Chained}
+use Rattle.chains.specs.Inserted.{Inserted}
+use Rattle.chains.proofs.FrontLaws.{fronts-same}
+use Rattle.chains.proofs.FindLaws.{agrees-whole}
+use Rattle.chains.proofs.EntryLaws.{chained-kept}
+use Rattle.chains.proofs.Meaning.{Entering, inserted-at, inserted-new, not-inserted}
 use Rattle.alignment.specs.declared.vertex.Vertex.{Vertex}
 use Rattle.alignment.specs.declared.vertex.Move.{Move}
 use Rattle.alignment.specs.declared.plan.Plan.{Plan}
 use Rattle.alignment.specs.declared.head.Head.{Head}
-use Rattle.alignment.specs.Vertices.{vertexOf, vertexBytes, rowOf, VertexBelow}
+use Rattle.alignment.specs.Vertices.{vertexShape, vertexOf, vertexBytes, rowOf, bucketBy, ChainedVertices, EntersVertex, VertexBelow}
 use Rattle.alignment.specs.Moves.{moveBytes, moveAt, RecordOf, HoldsMoves}
 use Rattle.alignment.specs.Searching.{counted, VertexSearch, Holds}
 use Rattle.alignment.proofs.RecordLaws.{length-vertex, length-move, Fits, move-back, move-kept}
@@ -73,7 +77,7 @@ module _ (A B : Automaton ℕ) (cs : List automata.Vertex) (at room : ℕ) (es :
 
 -- ---- a state is entered
 
-module _ (p : Plan) (h : Head) (d : Vertex) (v : List ℕ) (vf : 4 * p .states ≤ p .base) (mf : p .base + 16 * p .arcs ≤ length v) (A B : Automaton ℕ) (t : automata.Vertex)
+module _ (p : Plan) (h : Head) (d : Vertex) (v : List ℕ) (vf : 16 * p .states ≤ p .base) (mf : p .base + 16 * p .arcs ≤ length v) (A B : Automaton ℕ) (t : automata.Vertex)
     (few-first : length (A .states) ≤ 1024) (few-second : length (B .states) ≤ 1024) (d-is : d ≡ vertexOf t)
     (below : VertexBelow (length (A .states)) (length (B .states)) t) (s : VertexSearch) (o : Holds p A B h s v) where
   -- the list with the state
@@ -81,35 +85,44 @@ module _ (p : Plan) (h : Head) (d : Vertex) (v : List ℕ) (vf : 4 * p .states �
   more = insert sameVertex (s .vertices) t
 
   abbrev After : Entered → List ℕ → Type 0
-  After r w = entry r w ≡ enterOf 0 (h .reached) (p .states) (vertexBytes d) v
+  After r w = EntersVertex (h .reached) (p .states) d v r w
+
+  bytes-are : vertexBytes d ≡ rowOf t
+  bytes-are = ap vertexBytes d-is
 
   -- it may be entered
-  may-enter : Entering rowOf sameVertex 0 (p .states) 4 (h .reached) (s .vertices) t (vertexBytes d) v
+  may-enter : Entering rowOf sameVertex (bucketBy (p .states)) 16 4 (p .states) vertexShape (h .reached) (bucketBy (p .states) (vertexBytes d)) (s .vertices) t (vertexBytes d) v
   may-enter = record {
-    sized = length-vertex (vertexOf t);
+    sized = length-vertex d;
     held = o .vertices;
     tells = rows-tell (length (A .states)) (length (B .states)) few-first few-second t (s .vertices) below (o .below);
     reflexive = vertices-decided .complete t;
-    within = omega (arith, vf, mf);
     few = o .fits;
     count-is = o .reached;
-    bytes-are = ap vertexBytes d-is;
+    bytes-are = bytes-are;
+    searchable = record {
+      chained = subst (λ (n : ℕ). Chained (bucketBy (p .states)) 16 n (p .states) (h .reached) v) (sym (length-vertex d))
+          (subst (λ (n : ℕ). ChainedVertices (p .states) n v) (sym (o .reached)) (o .chained));
+      hashed = refl;
+      agreeing = λ k b f. agrees-whole 16 k vertexShape (vertexBytes d) v (omega arith) (length-vertex d) (omega (arith, b, o .reached, o .fits, vf, mf)) f;
+    };
   }
 
-  pub was-at : (n : ResultState) (w : List ℕ) → After (E.At n) w → Inserted rowOf sameVertex 0 (p .states) 4 (s .vertices) t v w n × (h .reached ≡ length more)
+  pub was-at : (n : ResultState) (w : List ℕ) → After (E.At n) w → Inserted rowOf sameVertex (bucketBy (p .states)) 16 4 (p .states) (s .vertices) t v w n × (h .reached ≡ length more)
   was-at n w e = inserted-at may-enter n w e
 
-  pub was-new : (n : ResultState) (w : List ℕ) → After (E.New n) w → Inserted rowOf sameVertex 0 (p .states) 4 (s .vertices) t v w n × (h .reached + 1 ≡ length more)
+  pub was-new : (n : ResultState) (w : List ℕ) → After (E.New n) w → Inserted rowOf sameVertex (bucketBy (p .states)) 16 4 (p .states) (s .vertices) t v w n × (h .reached + 1 ≡ length more)
   was-new n w e = inserted-new may-enter n w e
 
   pub was-full : (w : List ℕ) → After E.Full w → p .states < length more
-  was-full w e = not-inserted may-enter w e .1
+  was-full w e = not-inserted may-enter w e
 
   -- the search with the state is held
-  pub inserted-held : (n : ResultState) (w : List ℕ) (k : ℕ) → Inserted rowOf sameVertex 0 (p .states) 4 (s .vertices) t v w n × (k ≡ length more)
+  pub inserted-held : (n : ResultState) (w : List ℕ) (k : ℕ) → Inserted rowOf sameVertex (bucketBy (p .states)) 16 4 (p .states) (s .vertices) t v w n × (k ≡ length more)
       → Holds p A B (record { taken = h .taken; reached = k; arcs = h .arcs; full = h .full }) (record { vertices = more; edges = s .edges }) w
   inserted-held n w k i = record {
     vertices = i .0 .held;
+    chained = i .0 .chained;
     moves = moves-kept A B (s .vertices) more (p .base) (p .arcs) (s .edges) v w (insert-begins sameVertex (s .vertices) t) (λ a m l. i .0 .kept a m (omega (arith, vf, l))) (o .moves);
     reached = i .1;
     fits = i .0 .fits;
@@ -119,16 +132,21 @@ module _ (p : Plan) (h : Head) (d : Vertex) (v : List ℕ) (vf : 4 * p .states �
 
 -- ---- a move is noted
 
-module _ (p : Plan) (A B : Automaton ℕ) (h : Head) (s : VertexSearch) (w : List ℕ) (vf : 4 * p .states ≤ p .base) (mf : p .base + 16 * p .arcs ≤ length w)
+module _ (p : Plan) (A B : Automaton ℕ) (h : Head) (s : VertexSearch) (w : List ℕ) (vf : 16 * p .states ≤ p .base) (mf : p .base + 16 * p .arcs ≤ length w)
     (o : Holds p A B h s w) (x : Edge (Content ℕ)) (m : Move) (f : Fits m) (r : RecordOf A B (s .vertices) x m) where
   abbrev longer : VertexSearch
   longer = record { vertices = s .vertices; edges = s .edges ++ (x ∷ []) }
 
+  -- the rows stand before it
+  before : h .arcs < p .arcs → (a n : ℕ) → a + n ≤ p .states * 16 → part a n (splice (p .base + 16 * h .arcs) (moveBytes m) w) ≡ part a n w
+  before l a n b = part-splice-before a n (p .base + 16 * h .arcs) (moveBytes m) w (omega (arith, vf, b)) (omega (arith, mf, l))
+
   -- the head counts it whether there is room or not
-  pub move-held : (u : List ℕ) → u ≡ keptRecord (p .base) (p .arcs) (h .arcs) (moveBytes m) w → Holds p A B (counted h) longer u
-  move-held u k = kept-cases (p .base) (p .arcs) (h .arcs) (moveBytes m) w u k (λ z. Holds p A B (counted h) longer z)
+  pub move-held : (u : List ℕ) → u ≡ keptRecord (p .base) (p .arcs) (h .arcs) (moveBytes m) w → Holds p A B (counted p h) longer u
+  move-held u k = kept-cases (p .base) (p .arcs) (h .arcs) (moveBytes m) w u k (λ z. Holds p A B (counted p h) longer z)
       (λ l. record {
-        vertices = rows-splice-after 0 4 (length (s .vertices)) (p .base + 16 * h .arcs) (moveBytes m) w (omega (arith, vf, o .fits)) (omega (arith, mf, l)) ∙ o .vertices;
+        vertices = fronts-same 0 16 4 (length (s .vertices)) w _ (λ k b. before l (0 + k * 16) 4 (omega (arith, o .fits, b))) ∙ o .vertices;
+        chained = chained-kept (bucketBy (p .states)) 16 4 (p .states) (length (s .vertices)) w _ (omega arith) (o .fits) (before l) (o .chained);
         moves = subst (λ (z : ℕ). HoldsMoves A B (s .vertices) (p .base) (p .arcs) (s .edges ++ (x ∷ [])) (splice (p .base + 16 * z) (moveBytes m) w)) (sym (o .arc-count))
             (moves-more A B (s .vertices) (p .base) (p .arcs) (s .edges) x m w f (omega (arith, o .arc-count, l)) mf r (o .moves));
         reached = o .reached;
@@ -138,6 +156,7 @@ module _ (p : Plan) (A B : Automaton ℕ) (h : Head) (s : VertexSearch) (w : Lis
       })
       (λ l. record {
         vertices = o .vertices;
+        chained = o .chained;
         moves = moves-beyond A B (s .vertices) (p .base) (p .arcs) (s .edges) x m w (omega (arith, o .arc-count, l)) (o .moves);
         reached = o .reached;
         fits = o .fits;

@@ -13,3 +13,5 @@ pub mod TakeLaws
 pub mod StartLaws
 pub mod BeginLaws
 pub mod RunLaws
+pub mod CountLaws
+pub mod ExploreLaws

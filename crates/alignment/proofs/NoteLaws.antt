@@ -1,22 +1,23 @@
 -- Steps noted one after the other, and the bounds that are kept.
 use Prim.Native.Nat.{ℕ, _+_, _-_, _≤_}
 use mathlib.Core.Path.{_≡_, refl, sym, ap, _∙_, subst}
+use mathlib.Core.Logic.{inl, inr}
 use mathlib.Core.Bool.{true}
 use mathlib.Core.Option.{some}
 use mathlib.Core.List.{List, [], _++_}
 use native.Mathlib.Omega.{arith}
-use lib.ListN.{length, getElem?}
+use lib.ListN.{length, length-append, getElem?}
 use Rattle.automata.specs.Automaton.{Automaton}
 use Rattle.automata.specs.Search.{noteAll}
 use Rattle.automata.specs.Product as automata
 use Rattle.automata.specs.Product.{sameVertex}
 use Rattle.automata.proofs.TestFacts
-use Rattle.automata.proofs.SearchFacts.{noteAll-append, noteAll-place}
+use Rattle.automata.proofs.SearchFacts.{noteAll-append, noteAll-place, noteAll-edges-length}
 use Rattle.automata.proofs.ProductStates.{vertices-decided}
 use Rattle.rows.proofs.SearchLaws.{noted-longer}
 use Rattle.alignment.specs.declared.plan.Plan.{Plan}
 use Rattle.alignment.specs.declared.head.Head.{Head}
-use Rattle.alignment.specs.Searching.{VertexSearch, Step, Comes, Notes, Ready, Grows}
+use Rattle.alignment.specs.Searching.{VertexSearch, Step, Exceeds, Comes, Notes, Ready, Grows}
 
 -- ---- the bounds
 
@@ -61,6 +62,11 @@ ready-less p m k h size a l = record {
 
 -- ---- the steps
 
+-- a search with no fewer states and moves has more than there is room for as well
+pub exceeds-on : (p : Plan) (r : Head) (s t : VertexSearch) → length (s .vertices) ≤ length (t .vertices) → length (s .edges) ≤ length (t .edges) → Exceeds p r s → Exceeds p r t
+exceeds-on p r s t a b (inl x) = inl (omega (arith, a, x))
+exceeds-on p r s t a b (inr x) = let y = x .1 in inr (x .0, omega (arith, b, y))
+
 module _ (p : Plan) (A B : Automaton ℕ) (c : automata.Vertex) where
   -- no step
   pub notes-none : (h : Head) (v : List ℕ) → Notes p A B c [] h v h v
@@ -82,7 +88,12 @@ module _ (p : Plan) (A B : Automaton ℕ) (c : automata.Vertex) where
   pub notes-full : (xs ys : List Step) (h r : Head) (v w : List ℕ) → r .full ≡ true → Notes p A B c xs h v r w → Notes p A B c (xs ++ ys) h v r w
   notes-full xs ys h r v w f a s m e = record {
     held = λ n. TestFacts.false-not-true n f;
-    over = λ n. omega (arith, a s m e .over f, noted-longer sameVertex vertices-decided (h .taken) s xs ys (xs ++ ys) refl);
+    over = λ n.
+        let l = noteAll-edges-length sameVertex vertices-decided (h .taken) s xs in
+        let k = noteAll-edges-length sameVertex vertices-decided (h .taken) s (xs ++ ys) in
+        let g = length-append xs ys in
+        exceeds-on p r (noteAll sameVertex (h .taken) s xs) (noteAll sameVertex (h .taken) s (xs ++ ys)) (noted-longer sameVertex vertices-decided (h .taken) s xs ys (xs ++ ys) refl)
+        (omega (arith, l, k, g)) (a s m e .over f);
   }
 
   -- nothing is looked at where they are full already

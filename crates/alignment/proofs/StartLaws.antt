@@ -5,6 +5,7 @@ use mathlib.Core.Bool.{true, false}
 use mathlib.Core.Option.{Option, none, some}
 use mathlib.Core.List.{List, [], _∷_, _++_, map, append-assoc, append-nil}
 use native.Mathlib.Omega.{arith}
+use mathlib.Core.Logic.{inl}
 use lib.ListN.{length, getD, getElem?, take, drop, take-append-drop}
 use lib.Seq.{take-all, length-take-le}
 use Rattle.automata.specs.Automaton.{Automaton, State}
@@ -18,19 +19,17 @@ use Rattle.memory.specs.Records.{stateAs, stateAt}
 use Rattle.memory.specs.declared.record.ResultState.{ResultState}
 use Rattle.rows.specs.declared.Entered.{Entered}
 use Rattle.rows.specs.declared.Entered.the-variants as E
-use Rattle.rows.specs.Find.{entry, enterOf}
 use Rattle.alignment.specs.declared.vertex.Vertex.{Vertex}
 use Rattle.alignment.specs.declared.plan.Plan.{Plan}
 use Rattle.alignment.specs.declared.head.Head.{Head}
-use Rattle.alignment.specs.Vertices.{vertexBytes}
+use Rattle.alignment.specs.Vertices.{EntersVertex}
 use Rattle.alignment.specs.Reading.{StatesLent, ReadsStates}
 use Rattle.alignment.specs.Searching.{Comes}
 use Rattle.alignment.specs.Starting.{withVertices, Enters, Open, Widens, Admits, StartsOne, StartsAll}
-use Rattle.alignment.proofs.RecordLaws.{length-vertex}
-use Rattle.rows.proofs.EntryLaws.{entered-length, entered-room}
 use Rattle.rows.proofs.SearchLaws.{inserted-longer}
 use Rattle.alignment.proofs.HeldLaws.{was-at, was-new, was-full, inserted-held}
 use Rattle.alignment.proofs.ArriveLaws.{withReached}
+use Rattle.alignment.proofs.NoteLaws.{exceeds-on}
 use Rattle.alignment.proofs.ReadLaws.{initial-absent, initial-present}
 
 -- ---- states entered one after the other, and the bounds
@@ -55,7 +54,7 @@ module _ (p : Plan) (A B : Automaton ℕ) where
   pub enters-full : (cs ds : List automata.Vertex) (h r : Head) (v w : List ℕ) → r .full ≡ true → Enters p A B cs h v r w → Enters p A B (cs ++ ds) h v r w
   enters-full cs ds h r v w f a s m = record {
     held = λ n. TestFacts.false-not-true n f;
-    over = λ n. omega (arith, a s m .over f, inserted-longer sameVertex (s .vertices) cs ds (cs ++ ds) refl);
+    over = λ n. exceeds-on p r (withVertices s cs) (withVertices s (cs ++ ds)) (inserted-longer sameVertex (s .vertices) cs ds (cs ++ ds) refl) (omega arith) (a s m .over f);
   }
 
   pub enters-same : (cs ds : List automata.Vertex) (h r : Head) (v w : List ℕ) → cs ≡ ds → Enters p A B cs h v r w → Enters p A B ds h v r w
@@ -64,27 +63,24 @@ module _ (p : Plan) (A B : Automaton ℕ) where
 -- ---- a state is entered
 
 module _ (p : Plan) (h : Head) (d : Vertex) (v : List ℕ) (q : Open p h (length v)) (opened : h .full ≡ false) (r : Entered) (w : List ℕ)
-    (t : entry r w ≡ enterOf 0 (h .reached) (p .states) (vertexBytes d) v) where
-  kept : length w ≡ length v
-  kept = entered-length 0 (h .reached) (p .states) (vertexBytes d) v r w t (rw (length-vertex d) (omega (arith, q .vertices-fit, q .moves-fit)))
-
+    (t : EntersVertex (h .reached) (p .states) d v r w) where
   pub admits-at : (n : ResultState) → r ≡ E.At n → Admits p h d v h w
   admits-at n z = record {
-    widens = record { taken = refl; arcs = refl; fits = q .fits; same-length = kept };
+    widens = record { taken = refl; arcs = refl; fits = q .fits; same-length = t .same-length };
     meaning = λ A B c la lb di bt s m. record {
       held = λ f. let o = m .held opened in
           inserted-held p h d v (q .vertices-fit) (q .moves-fit) A B c la lb di bt s o n w (h .reached)
-          (was-at p h d v (q .vertices-fit) (q .moves-fit) A B c la lb di bt s o n w (ap (λ (y : Entered). entry y w) (sym z) ∙ t));
+          (was-at p h d v (q .vertices-fit) (q .moves-fit) A B c la lb di bt s o n w (subst (λ (y : Entered). EntersVertex (h .reached) (p .states) d v y w) z t));
       over = λ f. TestFacts.false-not-true opened f;
     };
   }
 
   pub admits-new : (n : ResultState) → r ≡ E.New n → Admits p h d v (withReached (h .reached + 1) h) w
   admits-new n z =
-      let t2 = ap (λ (y : Entered). entry y w) (sym z) ∙ t in
-      let b = entered-room 0 (h .reached) (p .states) (vertexBytes d) v n w t2 in
+      let t2 = subst (λ (y : Entered). EntersVertex (h .reached) (p .states) d v y w) z t in
+      let b = t2 .fits in
       record {
-        widens = record { taken = refl; arcs = refl; fits = omega (arith, b); same-length = kept };
+        widens = record { taken = refl; arcs = refl; fits = omega (arith, b); same-length = t .same-length };
         meaning = λ A B c la lb di bt s m. record {
           held = λ f. let o = m .held opened in
               inserted-held p h d v (q .vertices-fit) (q .moves-fit) A B c la lb di bt s o n w (h .reached + 1) (was-new p h d v (q .vertices-fit) (q .moves-fit) A B c la lb di bt s o n w t2);
@@ -94,10 +90,10 @@ module _ (p : Plan) (h : Head) (d : Vertex) (v : List ℕ) (q : Open p h (length
 
   pub admits-full : r ≡ E.Full → Admits p h d v (record { taken = h .taken; reached = h .reached; arcs = h .arcs; full = true }) w
   admits-full z = record {
-    widens = record { taken = refl; arcs = refl; fits = q .fits; same-length = kept };
+    widens = record { taken = refl; arcs = refl; fits = q .fits; same-length = t .same-length };
     meaning = λ A B c la lb di bt s m. record {
       held = λ f. TestFacts.false-not-true f refl;
-      over = λ f. was-full p h d v (q .vertices-fit) (q .moves-fit) A B c la lb di bt s (m .held opened) w (ap (λ (y : Entered). entry y w) (sym z) ∙ t);
+      over = λ f. inl (was-full p h d v (q .vertices-fit) (q .moves-fit) A B c la lb di bt s (m .held opened) w (subst (λ (y : Entered). EntersVertex (h .reached) (p .states) d v y w) z t));
     };
   }
 

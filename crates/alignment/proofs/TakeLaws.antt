@@ -11,48 +11,49 @@ use Rattle.automata.specs.Automaton.{Automaton}
 use Rattle.automata.specs.System.{system, outAt, finalAt}
 use Rattle.automata.specs.Search.{noteAll}
 use Rattle.automata.specs.Product as automata
-use Rattle.automata.specs.Product.{sameVertex, allBoth, allAfterFirst, allAfterSecond, productSystem}
+use Rattle.automata.specs.Product.{sameVertex, allBoth, allAfterFirst, allAfterSecond}
 use Rattle.automata.proofs.TestFacts
 use Rattle.automata.proofs.WellFormedFacts.{all-place}
 use Rattle.alignment.specs.declared.vertex.Vertex.{Vertex}
 use Rattle.alignment.specs.declared.plan.Plan.{Plan}
 use Rattle.alignment.specs.declared.head.Head.{Head}
 use Rattle.alignment.specs.Vertices.{vertexAt, vertexOf, VertexBelow}
-use Rattle.alignment.specs.Reading.{StatesLent, ArcsLent}
-use Rattle.alignment.specs.Searching.{VertexSearch, Step, Comes, Ready, Grows, PassesBoth, EndsFirst, EndsSecond, Tables, Reads, TakesUp}
+use Rattle.alignment.specs.Reading.{StatesLent, ArcsLent, LinkedArcs, chainedOnly}
+use Rattle.alignment.specs.Searching.{VertexSearch, Step, Comes, Ready, Grows, PassesBoth, EndsFirst, EndsSecond, Tables, Indexed, Reads, chainedOut, TakesUp}
 use Rattle.alignment.proofs.NoteLaws.{grows-then, ready-less, ready-on, notes-then}
 use Rattle.alignment.proofs.FormLaws.{loaded}
 
-module _ (p : Plan) (h : Head) (s1 a1 s2 a2 : List ℕ) (v : List ℕ) (q : Ready p h 67125248 (length v)) (opened : h .full ≡ false) (tables : Tables p s1 a1 s2 a2) where
+module _ (p : Plan) (h : Head) (s1 a1 f1 n1 s2 a2 f2 n2 : List ℕ) (v : List ℕ) (q : Ready p h 67125248 (length v)) (opened : h .full ≡ false) (tables : Tables p s1 a1 s2 a2)
+    (indexed : Indexed p a1 f1 n1 a2 f2 n2) where
   -- the row of the state is within the work space
-  pub take-fits : 4 * h .taken + 4 ≤ length v
+  pub take-fits : 16 * h .taken + 4 ≤ length v
   take-fits = omega (arith, q .taken-fits, q .fits, q .vertices-fit, q .moves-fit)
 
-  pub take-both : (Ready p h 67108864 (length v)) × (h .full ≡ false) × (ArcsLent (p .first) a1) × (ArcsLent (p .second) a2)
-  take-both = (ready-less p 67108864 67125248 h (length v) q (omega arith), opened, tables .first-arcs, tables .second-arcs)
+  pub take-both : (Ready p h 67108864 (length v)) × (h .full ≡ false) × (ArcsLent (p .first) a1) × (ArcsLent (p .second) a2) × (Indexed p a1 f1 n1 a2 f2 n2)
+  take-both = (ready-less p 67108864 67125248 h (length v) q (omega arith), opened, tables .first-arcs, tables .second-arcs, indexed)
 
-  module _ (c : Vertex) (c-is : c ≡ vertexAt (4 * h .taken) v) (h1 : Head) (w1 : List ℕ) (z1 : PassesBoth p h c a1 a2 v h1 w1) where
-    pub take-first : (Ready p h1 8192 (length w1)) × (StatesLent (p .first) s1) × (ArcsLent (p .second) a2)
-    take-first = (ready-on p 67108864 8192 67125248 h h1 v w1 q (z1 .grows) (omega arith), tables .first-states, tables .second-arcs)
+  module _ (c : Vertex) (c-is : c ≡ vertexAt (16 * h .taken) v) (h1 : Head) (w1 : List ℕ) (z1 : PassesBoth p h c a1 n1 a2 n2 v h1 w1) where
+    pub take-first : (Ready p h1 8192 (length w1)) × (StatesLent (p .first) s1) × (ArcsLent (p .second) a2) × (LinkedArcs (p .second) a2 f2 n2)
+    take-first = (ready-on p 67108864 8192 67125248 h h1 v w1 q (z1 .grows) (omega arith), tables .first-states, tables .second-arcs, indexed .second)
 
-    module _ (h2 : Head) (w2 : List ℕ) (z2 : EndsFirst p h1 c s1 a2 w1 h2 w2) where
+    module _ (h2 : Head) (w2 : List ℕ) (z2 : EndsFirst p h1 c s1 a2 n2 w1 h2 w2) where
       both-grow : Grows p 67117056 h v h2 w2
       both-grow = grows-then p 67108864 8192 67117056 h h1 h2 v w1 w2 (z1 .grows) (z2 .grows) (omega arith)
 
-      pub take-second : (Ready p h2 8192 (length w2)) × (ArcsLent (p .first) a1) × (StatesLent (p .second) s2)
-      take-second = (ready-on p 67117056 8192 67125248 h h2 v w2 q both-grow (omega arith), tables .first-arcs, tables .second-states)
+      pub take-second : (Ready p h2 8192 (length w2)) × (ArcsLent (p .first) a1) × (StatesLent (p .second) s2) × (LinkedArcs (p .first) a1 f1 n1)
+      take-second = (ready-on p 67117056 8192 67125248 h h2 v w2 q both-grow (omega arith), tables .first-arcs, tables .second-states, indexed .first)
 
-      module _ (h3 : Head) (w3 : List ℕ) (z3 : EndsSecond p h2 c a1 s2 w2 h3 w3) where
+      module _ (h3 : Head) (w3 : List ℕ) (z3 : EndsSecond p h2 c a1 n1 s2 w2 h3 w3) where
         all-grow : Grows p 67125248 h v h3 w3
         all-grow = grows-then p 67117056 8192 67125248 h h2 h3 v w2 w3 both-grow (z3 .grows) (omega arith)
 
         -- all moves were noted
         all-noted : (A B : Automaton ℕ) (s : VertexSearch) (b : automata.Vertex) → Reads p s1 a1 s2 a2 A B → Comes p A B h s v → getElem? (s .vertices) (h .taken) ≡ some b
-            → Comes p A B h3 (noteAll sameVertex (h .taken) s (productSystem ℕ-sum A B .out b)) w3
+            → Comes p A B h3 (noteAll sameVertex (h .taken) s (chainedOut n1 n2 A B b)) w3
         all-noted A B s b k m e =
             let o = m .held opened in
-            let xs = outAt ℕ-sum (system A) (b .0) in
-            let ys = outAt ℕ-sum (system B) (b .1) in
+            let xs = outAt ℕ-sum (system (chainedOnly n1 A)) (b .0) in
+            let ys = outAt ℕ-sum (system (chainedOnly n2 B)) (b .1) in
             let ps : List Step = allBoth ℕ-sum xs ys in
             let fs : List Step = allAfterFirst ℕ-sum (A .tapes) (finalAt ℕ-sum (system A) (b .0)) ys in
             let ss : List Step = allAfterSecond ℕ-sum (B .tapes) (finalAt ℕ-sum (system B) (b .1)) xs in
@@ -68,7 +69,7 @@ module _ (p : Plan) (h : Head) (s1 a1 s2 a2 : List ℕ) (v : List ℕ) (q : Read
         take-small = omega (arith, all-grow .taken, q .taken-fits, q .fits, q .few-states)
 
         -- the states are full
-        pub take-full : h3 .full ≡ true → TakesUp p h s1 a1 s2 a2 v h3 w3
+        pub take-full : h3 .full ≡ true → TakesUp p h s1 a1 n1 s2 a2 n2 v h3 w3
         take-full f = record {
           taken = λ n. TestFacts.false-not-true n f;
           fits = all-grow .fits;
@@ -78,7 +79,7 @@ module _ (p : Plan) (h : Head) (s1 a1 s2 a2 : List ℕ) (v : List ℕ) (q : Read
         }
 
         -- the state is done with
-        pub take-end : h3 .full ≡ false → TakesUp p h s1 a1 s2 a2 v (record { taken = h3 .taken + 1; reached = h3 .reached; arcs = h3 .arcs; full = h3 .full }) w3
+        pub take-end : h3 .full ≡ false → TakesUp p h s1 a1 n1 s2 a2 n2 v (record { taken = h3 .taken + 1; reached = h3 .reached; arcs = h3 .arcs; full = h3 .full }) w3
         take-end f = record {
           taken = λ n. omega (arith, all-grow .taken);
           fits = all-grow .fits;
@@ -89,7 +90,7 @@ module _ (p : Plan) (h : Head) (s1 a1 s2 a2 : List ℕ) (v : List ℕ) (q : Read
               record {
                 held = λ n.
                     let y = o .held f in
-                    record { vertices = y .vertices; moves = y .moves; reached = y .reached; fits = y .fits; arc-count = y .arc-count; below = y .below };
+                    record { vertices = y .vertices; chained = y .chained; moves = y .moves; reached = y .reached; fits = y .fits; arc-count = y .arc-count; below = y .below };
                 over = λ n. TestFacts.false-not-true f n;
               };
         }

@@ -11,12 +11,14 @@ use Rattle.automata.specs.Explore.{Edge, edges}
 use Rattle.automata.specs.Search.{searchFrom}
 use Rattle.automata.specs.Product as automata
 use Rattle.automata.specs.Product.{sameVertex, productSystem, productStates}
+use Rattle.adjacency.specs.Chains.{Chained}
 use Rattle.alignment.specs.declared.plan.Plan.{Plan}
 use Rattle.alignment.specs.declared.head.Head.{Head}
 use Rattle.alignment.specs.Vertices.{HoldsVertices, VertexBelow}
 use Rattle.alignment.specs.Moves.{HoldsMoves}
+use Rattle.alignment.specs.Reading.{chainedOnly}
 use Rattle.alignment.specs.Plans.{firstIn, secondIn}
-use Rattle.alignment.specs.Searching.{Comes, Tables, Reads}
+use Rattle.alignment.specs.Searching.{Comes, Tables, Indexed, Reads, chainedOut}
 use Rattle.alignment.specs.Starting.{Open, startsOf}
 
 module _ (p : Plan) (s1 a1 s2 a2 : List ℕ) where
@@ -40,13 +42,13 @@ pub record Held (p : Plan) (s1 a1 s2 a2 : List ℕ) (r : Head) (w : List ℕ) : 
 -- ---- taking up all that is reached
 
 module _ (p : Plan) (A B : Automaton ℕ) where
-  -- the reached states of the product of A and B, or more than there is room for
-  abbrev pub reachedOf : List automata.Vertex
-  reachedOf = productStates ℕ-sum (p .states) A B
+  -- the states that are reached by the arcs in chains, or more than there is room for
+  abbrev pub chainedStates : List ℕ → List ℕ → List automata.Vertex
+  chainedStates n1 n2 = productStates ℕ-sum (p .states) (chainedOnly n1 A) (chainedOnly n2 B)
 
   -- the head r and the work space w hold them and the moves between them, or the head is full and there are more than there is room for
-  abbrev pub ComesToReached : Head → List ℕ → Type 0
-  ComesToReached r w = Comes p A B r (record { vertices = reachedOf; edges = edges sameVertex (productSystem ℕ-sum A B .out) reachedOf }) w
+  abbrev pub ComesToReached : List ℕ → List ℕ → Head → List ℕ → Type 0
+  ComesToReached n1 n2 r w = Comes p A B r (record { vertices = chainedStates n1 n2; edges = edges sameVertex (chainedOut n1 n2 A B) (chainedStates n1 n2) }) w
 
 -- they may be taken up: nothing was yet
 pub record Runnable (p : Plan) (h : Head) (s1 a1 s2 a2 : List ℕ) (size : ℕ) : Type 0 where
@@ -56,12 +58,33 @@ pub record Runnable (p : Plan) (h : Head) (s1 a1 s2 a2 : List ℕ) (size : ℕ) 
   pub arcs-none : h .arcs ≡ 0
 
 -- they were taken up
-pub record Runs (p : Plan) (h : Head) (s1 a1 s2 a2 : List ℕ) (v : List ℕ) (r : Head) (w : List ℕ) : Type 0 where
+pub record Runs (p : Plan) (h : Head) (s1 a1 n1 s2 a2 n2 : List ℕ) (v : List ℕ) (r : Head) (w : List ℕ) : Type 0 where
   pub same-length : length w ≡ length v
-  pub meaning : (A B : Automaton ℕ) → Reads p s1 a1 s2 a2 A B → Comes p A B h (searchFrom sameVertex (startsOf A B)) v → ComesToReached p A B r w
+  pub few : r .arcs ≤ 1000000000000
+  pub meaning : (A B : Automaton ℕ) → Reads p s1 a1 s2 a2 A B → Comes p A B h (searchFrom sameVertex (startsOf A B)) v → ComesToReached p A B n1 n2 r w
 
--- what the whole search leaves: either all that is reached, or there is more than there is room for
+-- a search from no state on was made by the arcs in chains
+pub record Searches (p : Plan) (s1 a1 n1 s2 a2 n2 : List ℕ) (v : List ℕ) (r : Head) (w : List ℕ) : Type 0 where
+  pub same-length : length w ≡ length v
+  pub few : r .arcs ≤ 1000000000000
+  pub comes : ComesToReached p (firstIn p s1 a1) (secondIn p s2 a2) n1 n2 r w
+
+-- all arcs of both tables stand in the chains of their sources
+pub record AllChained (p : Plan) (a1 f1 n1 a2 f2 n2 : List ℕ) : Type 0 where
+  pub first : Chained (p .first .states) (p .first .arcs) a1 f1 n1
+  pub second : Chained (p .second .states) (p .second .arcs) a2 f2 n2
+
+-- where there are more arcs than there is room for, it was told whether there are more states as well
+pub record Recounts (p : Plan) (s1 a1 s2 a2 : List ℕ) (arcs : ℕ) (v : List ℕ) (r : Head) (w : List ℕ) : Type 0 where
+  pub same-length : length w ≡ length v
+  pub arcs-is : r .arcs ≡ arcs
+  pub over : r .full ≡ true → p .states < length (reachedIn p s1 a1 s2 a2)
+  pub fits : r .full ≡ false → length (reachedIn p s1 a1 s2 a2) ≤ p .states
+
+-- What the whole search leaves: there are more states than there is room for; or all that is reached, unless there are
+-- more arcs than there is room for.
 pub record Explored (p : Plan) (s1 a1 s2 a2 : List ℕ) (v : List ℕ) (r : Head) (w : List ℕ) : Type 0 where
   pub same-length : length w ≡ length v
   pub over : r .full ≡ true → p .states < length (reachedIn p s1 a1 s2 a2)
-  pub held : r .full ≡ false → Held p s1 a1 s2 a2 r w
+  pub more : r .full ≡ false → p .arcs < r .arcs → (length (reachedIn p s1 a1 s2 a2) ≤ p .states) × (p .arcs < length (edgesIn p s1 a1 s2 a2))
+  pub held : r .full ≡ false → r .arcs ≤ p .arcs → Held p s1 a1 s2 a2 r w

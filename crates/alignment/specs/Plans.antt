@@ -19,7 +19,11 @@ secondIn p states arcs = tableOf (lent (p .second) states arcs)
 pub record Explorable (p : Plan) (s1 a1 s2 a2 : List ℕ) (size : ℕ) : Type 0 where
   pub first-sound : Sound (lent (p .first) s1 a1)
   pub second-sound : Sound (lent (p .second) s2 a2)
-  pub vertices-fit : 4 * p .states ≤ p .base
+  pub vertices-fit : 16 * p .states ≤ p .base
   pub moves-fit : p .base + 16 * p .arcs ≤ size
   pub few-states : p .states ≤ 1024
   pub few-arcs : p .arcs ≤ 8192
+
+-- the plan of a search for states alone: no move is noted, and as many are looked for as there can be
+abbrev pub statesOnly : Plan → Plan
+statesOnly p = record { first = p .first; second = p .second; states = p .states; arcs = 0; base = p .base; limit = 1000000000000 }

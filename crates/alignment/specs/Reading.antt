@@ -1,12 +1,14 @@
 -- The states and arcs of a table that a search reads, as records lent to it.
 use mathlib.Core.Path.{_≡_}
 use mathlib.Core.Option.{some}
-use mathlib.Core.List.{List}
-use Prim.Native.Nat.{ℕ, _*_, _≤_, _<_}
+use mathlib.Core.List.{List, [], _∷_}
+use Prim.Native.Nat.{ℕ, zero, suc, _*_, _≤_, _<_}
 use lib.ListN.{length, getElem?}
-use Rattle.automata.specs.Automaton.{Automaton}
+use Rattle.automata.specs.Lists.{if}
+use Rattle.automata.specs.Automaton.{Automaton, Arc}
 use Rattle.memory.specs.declared.answer.Counts.{Counts}
 use Rattle.memory.specs.Records.{stateAs, stateAt, arcAs, arcAt}
+use Rattle.adjacency.specs.Chains.{inChain, Linked}
 
 -- the records of all states are lent
 pub record StatesLent (counts : Counts) (bytes : List ℕ) : Type 0 where
@@ -31,3 +33,18 @@ pub record ReadsArcs (counts : Counts) (bytes : List ℕ) (A : Automaton ℕ) : 
   pub loaded : (j : ℕ) → j < counts .arcs → getElem? (A .arcs) j ≡ some (arcAs (counts .tapes) (arcAt (80 * j) bytes))
   pub source-fits : (j : ℕ) → j < counts .arcs → arcAt (80 * j) bytes .source .0 < length (A .states)
   pub target-fits : (j : ℕ) → j < counts .arcs → arcAt (80 * j) bytes .target .0 < length (A .states)
+
+-- ---- the arcs that stand in chains
+
+-- `first` and `next` hold chains of arcs of a table
+abbrev pub LinkedArcs : Counts → List ℕ → List ℕ → List ℕ → Type 0
+LinkedArcs counts bytes first next = Linked (counts .states) (counts .arcs) bytes first next
+
+-- the arcs of a list that stand in chains, where the first of the list has the number k
+abbrev pub chainedArcs : List ℕ → ℕ → List (Arc ℕ) → List (Arc ℕ)
+chainedArcs next k [] = []
+chainedArcs next k (a ∷ xs) = let r = chainedArcs next (suc k) xs in if (inChain next k) (a ∷ r) r
+
+-- the automaton with these arcs alone
+abbrev pub chainedOnly : List ℕ → Automaton ℕ → Automaton ℕ
+chainedOnly next A = record { tapes = A .tapes; states = A .states; arcs = chainedArcs next zero (A .arcs) }

@@ -1,10 +1,11 @@
 -- The search in work space: when a head and the bytes hold a search of the definitions, and what each step comes to.
 use mathlib.Core.Path.{_≡_}
+use mathlib.Core.Logic.{_⊎_}
 use mathlib.Core.Bool.{Bool, true, false}
 use mathlib.Core.Option.{Option, none, some}
 use mathlib.Core.List.{List, [], _∷_, map}
 use Prim.Native.Nat.{ℕ, _+_, _*_, _≤_, _<_}
-use lib.Dec.{eqb}
+use lib.Dec.{eqb, ltb}
 use lib.ListN.{length, getElem?}
 use Rattle.automata.specs.Lists.{All, filter, isSome}
 use Rattle.automata.specs.OrderedSum.{ℕ-sum}
@@ -18,13 +19,13 @@ use Rattle.memory.specs.Records.{arcAs, arcAt}
 use Rattle.alignment.specs.declared.vertex.Vertex.{Vertex}
 use Rattle.alignment.specs.declared.plan.Plan.{Plan}
 use Rattle.alignment.specs.declared.head.Head.{Head}
-use Rattle.alignment.specs.Vertices.{placeNumber, vertexOf, HoldsVertices, PlaceBelow, VertexBelow}
+use Rattle.alignment.specs.Vertices.{placeNumber, vertexOf, HoldsVertices, ChainedVertices, PlaceBelow, VertexBelow}
 use Rattle.alignment.specs.Moves.{Carries, HoldsMoves}
-use Rattle.alignment.specs.Reading.{StatesLent, ArcsLent, ReadsStates, ReadsArcs}
+use Rattle.alignment.specs.Reading.{StatesLent, ArcsLent, ReadsStates, ReadsArcs, LinkedArcs, chainedOnly}
 
--- a head with one arc more
-abbrev pub counted : Head → Head
-counted h = record { taken = h .taken; reached = h .reached; arcs = h .arcs + 1; full = h .full }
+-- a head with one arc more: the search is given up where these are more than are looked for
+abbrev pub counted : Plan → Head → Head
+counted p h = record { taken = h .taken; reached = h .reached; arcs = h .arcs + 1; full = ltb (p .limit) (h .arcs + 1) }
 
 -- a search of the definitions: the states of the product found, and the moves noted with what they carry
 abbrev pub VertexSearch : Type 0
@@ -34,19 +35,26 @@ VertexSearch = Search automata.Vertex (Content ℕ)
 abbrev pub Step : Type 0
 Step = Content ℕ × automata.Vertex
 
--- the head and the work space w hold the search s over the product of A and B
+-- the head and the work space w hold the search s over the product of A and B, and every state stands in the chain of
+-- its bucket
 pub record Holds (p : Plan) (A B : Automaton ℕ) (h : Head) (s : VertexSearch) (w : List ℕ) : Type 0 where
   pub vertices : HoldsVertices (s .vertices) w
+  pub chained : ChainedVertices (p .states) (length (s .vertices)) w
   pub moves : HoldsMoves A B (s .vertices) (p .base) (p .arcs) (s .edges) w
   pub reached : h .reached ≡ length (s .vertices)
   pub fits : length (s .vertices) ≤ p .states
   pub arc-count : h .arcs ≡ length (s .edges)
   pub below : All (VertexBelow (length (A .states)) (length (B .states))) (s .vertices)
 
--- the head r and the work space w hold the search s, or the states are full and s has more of them than there is room for
+-- the search s has more states than there is room for, or it and the head r have more moves than are looked for
+abbrev pub Exceeds : Plan → Head → VertexSearch → Type 0
+Exceeds p r s = (p .states < length (s .vertices)) ⊎ ((p .limit < r .arcs) × (p .limit < length (s .edges)))
+
+-- the head r and the work space w hold the search s, or it was given up, and s has more than there is room for or than
+-- is looked for
 pub record Comes (p : Plan) (A B : Automaton ℕ) (r : Head) (s : VertexSearch) (w : List ℕ) : Type 0 where
   pub held : r .full ≡ false → Holds p A B r s w
-  pub over : r .full ≡ true → p .states < length (s .vertices)
+  pub over : r .full ≡ true → Exceeds p r s
 
 -- From the head h and the work space v to r and w the steps xs out of the state c that is taken up were noted, whatever search was held.
 abbrev pub Notes : Plan → Automaton ℕ → Automaton ℕ → automata.Vertex → List Step → Head → List ℕ → Head → List ℕ → Type 0
@@ -55,7 +63,7 @@ Notes p A B c xs h v r w = (s : VertexSearch) → Comes p A B h s v → getElem?
 
 -- the search may go on in a work space of so many bytes, with at most n moves more
 pub record Ready (p : Plan) (h : Head) (n size : ℕ) : Type 0 where
-  pub vertices-fit : 4 * p .states ≤ p .base
+  pub vertices-fit : 16 * p .states ≤ p .base
   pub moves-fit : p .base + 16 * p .arcs ≤ size
   pub few-states : p .states ≤ 1024
   pub fits : h .reached ≤ p .states
@@ -116,11 +124,11 @@ pub record TriesSecond (p : Plan) (h : Head) (c : Vertex) (i to : ℕ) (arcs : L
   pub meaning : (A B : Automaton ℕ) (b : automata.Vertex) (F : Content ℕ → Content ℕ) (x : Option ℕ) → BySecond p arcs c i to A B b F x
       → Notes p A B b (map (onSecond F x) (outBy (arcAs (p .second .tapes) (arcAt (80 * j) arcs) ∷ []) (b .1))) h v r w
 
--- all of them were
-pub record PassesSecond (p : Plan) (h : Head) (c : Vertex) (i to : ℕ) (arcs : List ℕ) (v : List ℕ) (r : Head) (w : List ℕ) : Type 0 where
+-- all that stand in the chains were
+pub record PassesSecond (p : Plan) (h : Head) (c : Vertex) (i to : ℕ) (arcs next : List ℕ) (v : List ℕ) (r : Head) (w : List ℕ) : Type 0 where
   pub grows : Grows p 8192 h v r w
   pub meaning : (A B : Automaton ℕ) (b : automata.Vertex) (F : Content ℕ → Content ℕ) (x : Option ℕ) → BySecond p arcs c i to A B b F x
-      → Notes p A B b (map (onSecond F x) (outAt ℕ-sum (system B) (b .1))) h v r w
+      → Notes p A B b (map (onSecond F x) (outAt ℕ-sum (system (chainedOnly next B)) (b .1))) h v r w
 
 -- the arc with number i of the first side was looked at, where the second side's path has ended
 pub record TriesFirst (p : Plan) (h : Head) (c : Vertex) (arcs : List ℕ) (i : ℕ) (v : List ℕ) (r : Head) (w : List ℕ) : Type 0 where
@@ -128,25 +136,25 @@ pub record TriesFirst (p : Plan) (h : Head) (c : Vertex) (arcs : List ℕ) (i : 
   pub meaning : (A B : Automaton ℕ) (b : automata.Vertex) (F : Content ℕ → Content ℕ) → ByFirst p arcs c A B b F
       → Notes p A B b (map (onFirst F) (outBy (arcAs (p .first .tapes) (arcAt (80 * i) arcs) ∷ []) (b .0))) h v r w
 
--- all of them were
-pub record PassesFirst (p : Plan) (h : Head) (c : Vertex) (arcs : List ℕ) (v : List ℕ) (r : Head) (w : List ℕ) : Type 0 where
+-- all that stand in the chains were
+pub record PassesFirst (p : Plan) (h : Head) (c : Vertex) (arcs next : List ℕ) (v : List ℕ) (r : Head) (w : List ℕ) : Type 0 where
   pub grows : Grows p 8192 h v r w
   pub meaning : (A B : Automaton ℕ) (b : automata.Vertex) (F : Content ℕ → Content ℕ) → ByFirst p arcs c A B b F
-      → Notes p A B b (map (onFirst F) (outAt ℕ-sum (system A) (b .0))) h v r w
+      → Notes p A B b (map (onFirst F) (outAt ℕ-sum (system (chainedOnly next A)) (b .0))) h v r w
 
 -- ---- the arcs of both sides
 
--- the arc with number i of the first side was looked at with all of the second side
-pub record TriesBoth (p : Plan) (h : Head) (c : Vertex) (a1 a2 : List ℕ) (i : ℕ) (v : List ℕ) (r : Head) (w : List ℕ) : Type 0 where
+-- the arc with number i of the first side was looked at with all of the second side's chains
+pub record TriesBoth (p : Plan) (h : Head) (c : Vertex) (a1 a2 n2 : List ℕ) (i : ℕ) (v : List ℕ) (r : Head) (w : List ℕ) : Type 0 where
   pub grows : Grows p 8192 h v r w
   pub meaning : (A B : Automaton ℕ) (b : automata.Vertex) → ReadsArcs (p .first) a1 A → ReadsArcs (p .second) a2 B → c ≡ vertexOf b
-      → Notes p A B b (allBoth ℕ-sum (outBy (arcAs (p .first .tapes) (arcAt (80 * i) a1) ∷ []) (b .0)) (outAt ℕ-sum (system B) (b .1))) h v r w
+      → Notes p A B b (allBoth ℕ-sum (outBy (arcAs (p .first .tapes) (arcAt (80 * i) a1) ∷ []) (b .0)) (outAt ℕ-sum (system (chainedOnly n2 B)) (b .1))) h v r w
 
--- all of them were
-pub record PassesBoth (p : Plan) (h : Head) (c : Vertex) (a1 a2 : List ℕ) (v : List ℕ) (r : Head) (w : List ℕ) : Type 0 where
+-- all of both sides' chains were
+pub record PassesBoth (p : Plan) (h : Head) (c : Vertex) (a1 n1 a2 n2 : List ℕ) (v : List ℕ) (r : Head) (w : List ℕ) : Type 0 where
   pub grows : Grows p 67108864 h v r w
   pub meaning : (A B : Automaton ℕ) (b : automata.Vertex) → ReadsArcs (p .first) a1 A → ReadsArcs (p .second) a2 B → c ≡ vertexOf b
-      → Notes p A B b (allBoth ℕ-sum (outAt ℕ-sum (system A) (b .0)) (outAt ℕ-sum (system B) (b .1))) h v r w
+      → Notes p A B b (allBoth ℕ-sum (outAt ℕ-sum (system (chainedOnly n1 A)) (b .0)) (outAt ℕ-sum (system (chainedOnly n2 B)) (b .1))) h v r w
 
 -- ---- one side after the other side's end
 
@@ -156,18 +164,18 @@ TellsEnd counts bytes x e = (A : Automaton ℕ) (y : Option ℕ) → ReadsStates
     → e ≡ isSome (finalAt ℕ-sum (system A) y)
 
 -- the second side's arcs were looked at, where the first side's path may end
-pub record EndsFirst (p : Plan) (h : Head) (c : Vertex) (s1 a2 : List ℕ) (v : List ℕ) (r : Head) (w : List ℕ) : Type 0 where
+pub record EndsFirst (p : Plan) (h : Head) (c : Vertex) (s1 a2 n2 : List ℕ) (v : List ℕ) (r : Head) (w : List ℕ) : Type 0 where
   pub grows : Grows p 8192 h v r w
   pub meaning : (A B : Automaton ℕ) (b : automata.Vertex) → ReadsStates (p .first) s1 A → ReadsArcs (p .second) a2 B → c ≡ vertexOf b
       → VertexBelow (length (A .states)) (length (B .states)) b
-      → Notes p A B b (allAfterFirst ℕ-sum (A .tapes) (finalAt ℕ-sum (system A) (b .0)) (outAt ℕ-sum (system B) (b .1))) h v r w
+      → Notes p A B b (allAfterFirst ℕ-sum (A .tapes) (finalAt ℕ-sum (system A) (b .0)) (outAt ℕ-sum (system (chainedOnly n2 B)) (b .1))) h v r w
 
 -- the first side's arcs were looked at, where the second side's path may end
-pub record EndsSecond (p : Plan) (h : Head) (c : Vertex) (a1 s2 : List ℕ) (v : List ℕ) (r : Head) (w : List ℕ) : Type 0 where
+pub record EndsSecond (p : Plan) (h : Head) (c : Vertex) (a1 n1 s2 : List ℕ) (v : List ℕ) (r : Head) (w : List ℕ) : Type 0 where
   pub grows : Grows p 8192 h v r w
   pub meaning : (A B : Automaton ℕ) (b : automata.Vertex) → ReadsArcs (p .first) a1 A → ReadsStates (p .second) s2 B → c ≡ vertexOf b
       → VertexBelow (length (A .states)) (length (B .states)) b
-      → Notes p A B b (allAfterSecond ℕ-sum (B .tapes) (finalAt ℕ-sum (system B) (b .1)) (outAt ℕ-sum (system A) (b .0))) h v r w
+      → Notes p A B b (allAfterSecond ℕ-sum (B .tapes) (finalAt ℕ-sum (system B) (b .1)) (outAt ℕ-sum (system (chainedOnly n1 A)) (b .0))) h v r w
 
 -- ---- one state of the product
 
@@ -178,6 +186,11 @@ pub record Tables (p : Plan) (s1 a1 s2 a2 : List ℕ) : Type 0 where
   pub second-states : StatesLent (p .second) s2
   pub second-arcs : ArcsLent (p .second) a2
 
+-- the arcs of both tables stand in chains
+pub record Indexed (p : Plan) (a1 f1 n1 a2 f2 n2 : List ℕ) : Type 0 where
+  pub first : LinkedArcs (p .first) a1 f1 n1
+  pub second : LinkedArcs (p .second) a2 f2 n2
+
 -- they are those of A and of B
 pub record Reads (p : Plan) (s1 a1 s2 a2 : List ℕ) (A B : Automaton ℕ) : Type 0 where
   pub first-states : ReadsStates (p .first) s1 A
@@ -185,11 +198,15 @@ pub record Reads (p : Plan) (s1 a1 s2 a2 : List ℕ) (A B : Automaton ℕ) : Typ
   pub second-states : ReadsStates (p .second) s2 B
   pub second-arcs : ReadsArcs (p .second) a2 B
 
--- the next state was taken up: all moves out of it were noted
-pub record TakesUp (p : Plan) (h : Head) (s1 a1 s2 a2 : List ℕ) (v : List ℕ) (r : Head) (w : List ℕ) : Type 0 where
+-- the moves out of a state of the product by the arcs that stand in chains
+abbrev pub chainedOut : List ℕ → List ℕ → Automaton ℕ → Automaton ℕ → automata.Vertex → List Step
+chainedOut n1 n2 A B = productSystem ℕ-sum (chainedOnly n1 A) (chainedOnly n2 B) .out
+
+-- the next state was taken up: all these moves out of it were noted
+pub record TakesUp (p : Plan) (h : Head) (s1 a1 n1 s2 a2 n2 : List ℕ) (v : List ℕ) (r : Head) (w : List ℕ) : Type 0 where
   pub taken : r .full ≡ false → r .taken ≡ h .taken + 1
   pub fits : r .reached ≤ p .states
   pub few : r .arcs ≤ h .arcs + 67125248
   pub same-length : length w ≡ length v
   pub meaning : (A B : Automaton ℕ) (s : VertexSearch) (c : automata.Vertex) → Reads p s1 a1 s2 a2 A B → Comes p A B h s v
-      → getElem? (s .vertices) (h .taken) ≡ some c → Comes p A B r (noteAll sameVertex (h .taken) s (productSystem ℕ-sum A B .out c)) w
+      → getElem? (s .vertices) (h .taken) ≡ some c → Comes p A B r (noteAll sameVertex (h .taken) s (chainedOut n1 n2 A B c)) w

@@ -12,7 +12,7 @@ use Rattle.memory.specs.Records.{stateAs, stateAt}
 use Rattle.alignment.specs.declared.vertex.Vertex.{Vertex}
 use Rattle.alignment.specs.declared.plan.Plan.{Plan}
 use Rattle.alignment.specs.declared.head.Head.{Head}
-use Rattle.alignment.specs.Vertices.{vertexOf, VertexBelow}
+use Rattle.alignment.specs.Vertices.{vertexOf, ChainedVertices, VertexBelow}
 use Rattle.alignment.specs.Reading.{StatesLent, ReadsStates}
 use Rattle.alignment.specs.Searching.{VertexSearch, Comes}
 
@@ -26,7 +26,7 @@ Enters p A B cs h v r w = (s : VertexSearch) → Comes p A B h s v → Comes p A
 
 -- states may be entered in a work space of so many bytes
 pub record Open (p : Plan) (h : Head) (size : ℕ) : Type 0 where
-  pub vertices-fit : 4 * p .states ≤ p .base
+  pub vertices-fit : 16 * p .states ≤ p .base
   pub moves-fit : p .base + 16 * p .arcs ≤ size
   pub few-states : p .states ≤ 1024
   pub fits : h .reached ≤ p .states
@@ -68,17 +68,17 @@ startsOf A B = allPairs (initialsFrom zero (A .states)) (initialsFrom zero (B .s
 
 -- the search may begin
 pub record Beginnable (p : Plan) (s1 s2 : List ℕ) (size : ℕ) : Type 0 where
-  pub vertices-fit : 4 * p .states ≤ p .base
+  pub vertices-fit : 16 * p .states ≤ p .base
   pub moves-fit : p .base + 16 * p .arcs ≤ size
   pub few-states : p .states ≤ 1024
   pub first-lent : StatesLent (p .first) s1
   pub second-lent : StatesLent (p .second) s2
 
--- the search has begun: no state is taken up
+-- the search has begun, from chains that are all empty: no state is taken up
 pub record Begun (p : Plan) (s1 s2 : List ℕ) (v : List ℕ) (r : Head) (w : List ℕ) : Type 0 where
   pub taken : r .taken ≡ 0
   pub arcs : r .arcs ≡ 0
   pub fits : r .reached ≤ p .states
   pub same-length : length w ≡ length v
-  pub meaning : (A B : Automaton ℕ) → ReadsStates (p .first) s1 A → ReadsStates (p .second) s2 B
+  pub meaning : ChainedVertices (p .states) 0 v → (A B : Automaton ℕ) → ReadsStates (p .first) s1 A → ReadsStates (p .second) s2 B
       → Comes p A B r (searchFrom sameVertex (startsOf A B)) w

@@ -1,12 +1,17 @@
--- States of a product in work space: a number for each side, and rows of four bytes.
+-- States of a product in work space: a number for each side, and records of four bytes, each at the front of a row of
+-- sixteen.
 use mathlib.Core.Path.{_≡_}
 use mathlib.Core.Option.{Option, none, some}
 use mathlib.Core.List.{List, _++_, map}
 use Prim.Native.Nat.{ℕ, _+_, _<_}
 use lib.ListN.{length}
 use Rattle.automata.specs.Product as automata
-use Rattle.memory.specs.Region.{part, rows}
+use Rattle.memory.specs.Region.{part}
 use Rattle.memory.specs.Endian.{le, toLe}
+use Rattle.rows.specs.declared.Entered.{Entered}
+use Rattle.chains.specs.Chain.{fronts, Chained, Enters}
+use Rattle.chains.specs.Hash.{bucketOf}
+use Rattle.chains.specs.declared.Shape.{Shape}
 use Rattle.alignment.specs.declared.vertex.Vertex.{Vertex}
 
 -- the number that stands for a place: 65535 where the path has ended
@@ -22,13 +27,29 @@ vertexOf c = record { first = placeNumber (c .0); second = placeNumber (c .1) }
 unfoldable pub vertexBytes : Vertex → List ℕ
 vertexBytes v = toLe 2 (v .first) ++ toLe 2 (v .second)
 
--- the row of a state
+-- the record of a state
 abbrev pub rowOf : automata.Vertex → List ℕ
 rowOf c = vertexBytes (vertexOf c)
 
--- the rows of cs stand one behind the other at the front of w
+-- the records of cs stand in rows of 16 bytes at the front of w
 abbrev pub HoldsVertices : List automata.Vertex → List ℕ → Type 0
-HoldsVertices cs w = rows 0 4 (length cs) w ≡ map rowOf cs
+HoldsVertices cs w = fronts 0 16 4 (length cs) w ≡ map rowOf cs
+
+-- the bucket of a state by its bytes, for so much room
+abbrev pub bucketBy : ℕ → List ℕ → ℕ
+bucketBy room bytes = bucketOf room (le (part 0 4 bytes))
+
+-- how records of states are compared: whole
+abbrev pub vertexShape : Shape
+vertexShape = record { head = 4; pitch = 0; parts = 1 }
+
+-- the first n states stand in the chains of their buckets
+abbrev pub ChainedVertices : ℕ → ℕ → List ℕ → Type 0
+ChainedVertices room n w = Chained (bucketBy room) 16 4 room n w
+
+-- the state d was entered among those reached
+abbrev pub EntersVertex : ℕ → ℕ → Vertex → List ℕ → Entered → List ℕ → Type 0
+EntersVertex reached room d v r w = Enters 16 reached room (bucketBy room (vertexBytes d)) vertexShape (vertexBytes d) v r w
 
 -- a place has ended or is one of n
 abbrev pub PlaceBelow : ℕ → Option ℕ → Type 0

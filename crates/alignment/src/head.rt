@@ -5,21 +5,22 @@ ghost use Prim.Native.Nat.{_+_, _*_, _≤_, _<_};
 ghost use lib.ListN.{length};
 ghost use Rattle.rows.specs.Kept.{keptRecord};
 ghost use Rattle.alignment.specs.Moves.{moveBytes};
-ghost use Rattle.alignment.specs.Reading.{StatesLent, ArcsLent};
-ghost use Rattle.alignment.specs.Searching.{counted, Ready, Arrives, TriesSecond, PassesSecond, TriesFirst, PassesFirst, TriesBoth, PassesBoth, TellsEnd, EndsFirst, EndsSecond, Tables, TakesUp};
+ghost use Rattle.alignment.specs.Reading.{StatesLent, ArcsLent, LinkedArcs};
+ghost use Rattle.alignment.specs.Searching.{counted, Ready, Arrives, TriesSecond, PassesSecond, TriesFirst, PassesFirst, TriesBoth, PassesBoth, TellsEnd, EndsFirst, EndsSecond, Tables, Indexed, TakesUp};
 use crate::plan::Plan;
 use crate::vertex::Move;
 use crate::vertex::Vertex;
 use crate::vertex::enter_vertex;
 use crate::vertex::keep_move;
 use crate::vertex::load_vertex;
+use adjacency::first_arc;
 use memory::answer::Counts;
 use memory::bytes::get16;
 use memory::record::ResultState;
 use rows::Entered;
 
-// How many states were taken up and how many reached, how many arcs there are between them, and whether there were more states than there is
-// room for.
+// How many states were taken up and how many reached, how many arcs there are between them, and whether the search was
+// given up: there were more states than there is room for, or more arcs than are looked for.
 pub struct Head {
     pub taken: usize,
     pub reached: usize,
@@ -46,7 +47,7 @@ impl Head {
     // A move from the state that is taken up.
     fn note(mut self, plan: Plan, work: &mut [u8], i: u16, j: u16, to: ResultState) -> Head
         requires { ⌜ (plan .base + 16 * plan .arcs ≤ length (now work)) × (self .taken < 1024) × (self .arcs < 1000000000000) ⌝ }
-        ensures { λ r. ⌜ (r ≡ counted self) × (now (work .exit) ≡ keptRecord (plan .base) (plan .arcs) (self .arcs) (moveBytes (record { from = record { 0 = self .taken }; first = i; second = j; to = to })) (now (work .entry))) ⌝ }
+        ensures { λ r. ⌜ (r ≡ counted plan self) × (now (work .exit) ≡ keptRecord (plan .base) (plan .arcs) (self .arcs) (moveBytes (record { from = record { 0 = self .taken }; first = i; second = j; to = to })) (now (work .entry))) ⌝ }
     {
         let m = Move {
             from: ResultState(self.taken as u16),
@@ -56,6 +57,7 @@ impl Head {
         };
         keep_move(work, plan.base, plan.arcs, self.arcs, m);
         self.arcs += 1;
+        self.full = plan.limit < self.arcs;
         self
     }
 
@@ -100,7 +102,7 @@ impl Head {
         self.arrive(plan, next, i, j as u16, work)
     }
 
-    // All arcs of the second side, with that move of the first side.
+    // The second side's arcs in the chain of its place, with that move of the first side.
     fn pass_second(
         mut self,
         plan: Plan,
@@ -108,19 +110,21 @@ impl Head {
         i: u16,
         to: u16,
         arcs: &[u8],
+        heads: &[u16],
+        links: &[u16],
         work: &mut [u8],
     ) -> Head
-        requires { ⌜ (Ready plan self 8192 (length (now work))) × (self .full ≡ false) × (ArcsLent (plan .second) (now arcs)) ⌝ }
-        ensures { λ r. ⌜ PassesSecond plan self c i to (now (arcs .entry)) (now (work .entry)) r (now (work .exit)) ⌝ }
+        requires { ⌜ (Ready plan self 8192 (length (now work))) × (self .full ≡ false) × (ArcsLent (plan .second) (now arcs)) × (LinkedArcs (plan .second) (now arcs) (now heads) (now links)) ⌝ }
+        ensures { λ r. ⌜ PassesSecond plan self c i to (now (arcs .entry)) (now (links .entry)) (now (work .entry)) r (now (work .exit)) ⌝ }
     {
         let counts = plan.second;
-        let mut j: usize = 0;
+        let mut j = first_arc(counts, heads, c.second);
         while j < counts.arcs {
             self = self.try_second(plan, c, i, to, arcs, j, work);
             if self.full {
                 return self;
             }
-            j += 1;
+            j = links[j] as usize;
         }
         self
     }
@@ -142,24 +146,32 @@ impl Head {
         self.arrive(plan, next, i as u16, 65535, work)
     }
 
-    // All arcs of the first side, where the second side's path has ended.
-    fn pass_first(mut self, plan: Plan, c: Vertex, arcs: &[u8], work: &mut [u8]) -> Head
-        requires { ⌜ (Ready plan self 8192 (length (now work))) × (self .full ≡ false) × (ArcsLent (plan .first) (now arcs)) ⌝ }
-        ensures { λ r. ⌜ PassesFirst plan self c (now (arcs .entry)) (now (work .entry)) r (now (work .exit)) ⌝ }
+    // The first side's arcs in the chain of its place, where the second side's path has ended.
+    fn pass_first(
+        mut self,
+        plan: Plan,
+        c: Vertex,
+        arcs: &[u8],
+        heads: &[u16],
+        links: &[u16],
+        work: &mut [u8],
+    ) -> Head
+        requires { ⌜ (Ready plan self 8192 (length (now work))) × (self .full ≡ false) × (ArcsLent (plan .first) (now arcs)) × (LinkedArcs (plan .first) (now arcs) (now heads) (now links)) ⌝ }
+        ensures { λ r. ⌜ PassesFirst plan self c (now (arcs .entry)) (now (links .entry)) (now (work .entry)) r (now (work .exit)) ⌝ }
     {
         let counts = plan.first;
-        let mut i: usize = 0;
+        let mut i = first_arc(counts, heads, c.first);
         while i < counts.arcs {
             self = self.try_first(plan, c, arcs, i, work);
             if self.full {
                 return self;
             }
-            i += 1;
+            i = links[i] as usize;
         }
         self
     }
 
-    // The arc with number `i` of the first side, with all of the second side.
+    // The arc with number `i` of the first side, with the chain of the second side's place.
     fn try_both(
         self,
         plan: Plan,
@@ -167,39 +179,63 @@ impl Head {
         first_arcs: &[u8],
         i: usize,
         second_arcs: &[u8],
+        second_heads: &[u16],
+        second_links: &[u16],
         work: &mut [u8],
     ) -> Head
-        requires { ⌜ (Ready plan self 8192 (length (now work))) × (self .full ≡ false) × (ArcsLent (plan .first) (now «first_arcs»)) × (i < plan .first .arcs) × (ArcsLent (plan .second) (now «second_arcs»)) ⌝ }
-        ensures { λ r. ⌜ TriesBoth plan self c (now («first_arcs» .entry)) (now («second_arcs» .entry)) i (now (work .entry)) r (now (work .exit)) ⌝ }
+        requires { ⌜ (Ready plan self 8192 (length (now work))) × (self .full ≡ false) × (ArcsLent (plan .first) (now «first_arcs»)) × (i < plan .first .arcs) × (ArcsLent (plan .second) (now «second_arcs»)) × (LinkedArcs (plan .second) (now «second_arcs») (now «second_heads») (now «second_links»)) ⌝ }
+        ensures { λ r. ⌜ TriesBoth plan self c (now («first_arcs» .entry)) (now («second_arcs» .entry)) (now («second_links» .entry)) i (now (work .entry)) r (now (work .exit)) ⌝ }
     {
         let at = 80 * i;
         if get16(first_arcs, at) != c.first {
             return self;
         }
         let to = get16(first_arcs, at + 2);
-        self.pass_second(plan, c, i as u16, to, second_arcs, work)
+        self.pass_second(
+            plan,
+            c,
+            i as u16,
+            to,
+            second_arcs,
+            second_heads,
+            second_links,
+            work,
+        )
     }
 
-    // All pairs of arcs, the first side's leading.
+    // All pairs of arcs in the chains of both places, the first side's leading.
     fn pass_both(
         mut self,
         plan: Plan,
         c: Vertex,
         first_arcs: &[u8],
+        first_heads: &[u16],
+        first_links: &[u16],
         second_arcs: &[u8],
+        second_heads: &[u16],
+        second_links: &[u16],
         work: &mut [u8],
     ) -> Head
-        requires { ⌜ (Ready plan self 67108864 (length (now work))) × (self .full ≡ false) × (ArcsLent (plan .first) (now «first_arcs»)) × (ArcsLent (plan .second) (now «second_arcs»)) ⌝ }
-        ensures { λ r. ⌜ PassesBoth plan self c (now («first_arcs» .entry)) (now («second_arcs» .entry)) (now (work .entry)) r (now (work .exit)) ⌝ }
+        requires { ⌜ (Ready plan self 67108864 (length (now work))) × (self .full ≡ false) × (ArcsLent (plan .first) (now «first_arcs»)) × (ArcsLent (plan .second) (now «second_arcs»)) × (Indexed plan (now «first_arcs») (now «first_heads») (now «first_links») (now «second_arcs») (now «second_heads») (now «second_links»)) ⌝ }
+        ensures { λ r. ⌜ PassesBoth plan self c (now («first_arcs» .entry)) (now («first_links» .entry)) (now («second_arcs» .entry)) (now («second_links» .entry)) (now (work .entry)) r (now (work .exit)) ⌝ }
     {
         let counts = plan.first;
-        let mut i: usize = 0;
+        let mut i = first_arc(counts, first_heads, c.first);
         while i < counts.arcs {
-            self = self.try_both(plan, c, first_arcs, i, second_arcs, work);
+            self = self.try_both(
+                plan,
+                c,
+                first_arcs,
+                i,
+                second_arcs,
+                second_heads,
+                second_links,
+                work,
+            );
             if self.full {
                 return self;
             }
-            i += 1;
+            i = first_links[i] as usize;
         }
         self
     }
@@ -211,10 +247,12 @@ impl Head {
         c: Vertex,
         first_states: &[u8],
         second_arcs: &[u8],
+        second_heads: &[u16],
+        second_links: &[u16],
         work: &mut [u8],
     ) -> Head
-        requires { ⌜ (Ready plan self 8192 (length (now work))) × (StatesLent (plan .first) (now «first_states»)) × (ArcsLent (plan .second) (now «second_arcs»)) ⌝ }
-        ensures { λ r. ⌜ EndsFirst plan self c (now («first_states» .entry)) (now («second_arcs» .entry)) (now (work .entry)) r (now (work .exit)) ⌝ }
+        requires { ⌜ (Ready plan self 8192 (length (now work))) × (StatesLent (plan .first) (now «first_states»)) × (ArcsLent (plan .second) (now «second_arcs»)) × (LinkedArcs (plan .second) (now «second_arcs») (now «second_heads») (now «second_links»)) ⌝ }
+        ensures { λ r. ⌜ EndsFirst plan self c (now («first_states» .entry)) (now («second_arcs» .entry)) (now («second_links» .entry)) (now (work .entry)) r (now (work .exit)) ⌝ }
     {
         if self.full {
             return self;
@@ -222,7 +260,16 @@ impl Head {
         if !may_end(plan.first, first_states, c.first) {
             return self;
         }
-        self.pass_second(plan, c, 65535, 65535, second_arcs, work)
+        self.pass_second(
+            plan,
+            c,
+            65535,
+            65535,
+            second_arcs,
+            second_heads,
+            second_links,
+            work,
+        )
     }
 
     // The first side's arcs, where the second side's path may end.
@@ -231,11 +278,13 @@ impl Head {
         plan: Plan,
         c: Vertex,
         first_arcs: &[u8],
+        first_heads: &[u16],
+        first_links: &[u16],
         second_states: &[u8],
         work: &mut [u8],
     ) -> Head
-        requires { ⌜ (Ready plan self 8192 (length (now work))) × (ArcsLent (plan .first) (now «first_arcs»)) × (StatesLent (plan .second) (now «second_states»)) ⌝ }
-        ensures { λ r. ⌜ EndsSecond plan self c (now («first_arcs» .entry)) (now («second_states» .entry)) (now (work .entry)) r (now (work .exit)) ⌝ }
+        requires { ⌜ (Ready plan self 8192 (length (now work))) × (ArcsLent (plan .first) (now «first_arcs»)) × (StatesLent (plan .second) (now «second_states»)) × (LinkedArcs (plan .first) (now «first_arcs») (now «first_heads») (now «first_links»)) ⌝ }
+        ensures { λ r. ⌜ EndsSecond plan self c (now («first_arcs» .entry)) (now («first_links» .entry)) (now («second_states» .entry)) (now (work .entry)) r (now (work .exit)) ⌝ }
     {
         if self.full {
             return self;
@@ -243,26 +292,56 @@ impl Head {
         if !may_end(plan.second, second_states, c.second) {
             return self;
         }
-        self.pass_first(plan, c, first_arcs, work)
+        self.pass_first(plan, c, first_arcs, first_heads, first_links, work)
     }
 
-    // The next state: all moves out of it, unless the states are full.
+    // The next state: all moves out of it by the arcs in chains, unless the states are full.
     pub fn take_up(
         mut self,
         plan: Plan,
         first_states: &[u8],
         first_arcs: &[u8],
+        first_heads: &[u16],
+        first_links: &[u16],
         second_states: &[u8],
         second_arcs: &[u8],
+        second_heads: &[u16],
+        second_links: &[u16],
         work: &mut [u8],
     ) -> Head
-        requires { ⌜ (Ready plan self 67125248 (length (now work))) × (self .full ≡ false) × (Tables plan (now «first_states») (now «first_arcs») (now «second_states») (now «second_arcs»)) ⌝ }
-        ensures { λ r. ⌜ TakesUp plan self (now («first_states» .entry)) (now («first_arcs» .entry)) (now («second_states» .entry)) (now («second_arcs» .entry)) (now (work .entry)) r (now (work .exit)) ⌝ }
+        requires { ⌜ (Ready plan self 67125248 (length (now work))) × (self .full ≡ false) × (Tables plan (now «first_states») (now «first_arcs») (now «second_states») (now «second_arcs»)) × (Indexed plan (now «first_arcs») (now «first_heads») (now «first_links») (now «second_arcs») (now «second_heads») (now «second_links»)) ⌝ }
+        ensures { λ r. ⌜ TakesUp plan self (now («first_states» .entry)) (now («first_arcs» .entry)) (now («first_links» .entry)) (now («second_states» .entry)) (now («second_arcs» .entry)) (now («second_links» .entry)) (now (work .entry)) r (now (work .exit)) ⌝ }
     {
-        let c = load_vertex(work, 4 * self.taken);
-        self = self.pass_both(plan, c, first_arcs, second_arcs, work);
-        self = self.after_first(plan, c, first_states, second_arcs, work);
-        self = self.after_second(plan, c, first_arcs, second_states, work);
+        let c = load_vertex(work, 16 * self.taken);
+        self = self.pass_both(
+            plan,
+            c,
+            first_arcs,
+            first_heads,
+            first_links,
+            second_arcs,
+            second_heads,
+            second_links,
+            work,
+        );
+        self = self.after_first(
+            plan,
+            c,
+            first_states,
+            second_arcs,
+            second_heads,
+            second_links,
+            work,
+        );
+        self = self.after_second(
+            plan,
+            c,
+            first_arcs,
+            first_heads,
+            first_links,
+            second_states,
+            work,
+        );
         if self.full {
             return self;
         }

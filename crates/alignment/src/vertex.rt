@@ -1,17 +1,19 @@
 // States of an aligned product and the moves between them, by value and as records in work space.
+use chains::Shape;
+use chains::bucket_of;
+use chains::enter;
 use memory::bytes::get16;
+use memory::bytes::get32;
 use memory::bytes::put16;
 use memory::record::ResultState;
 use rows::Entered;
-use rows::enter;
 use rows::keep;
 ghost use mathlib.Core.Path.{_≡_};
-ghost use Prim.Native.Nat.{_+_, _*_, _≤_};
+ghost use Prim.Native.Nat.{_+_, _*_, _≤_, _<_};
 ghost use lib.ListN.{length};
 ghost use Rattle.memory.specs.Region.{splice};
-ghost use Rattle.rows.specs.Find.{entry, enterOf};
 ghost use Rattle.rows.specs.Kept.{keptRecord};
-ghost use Rattle.alignment.specs.Vertices.{vertexBytes, vertexAt};
+ghost use Rattle.alignment.specs.Vertices.{vertexAt, EntersVertex};
 ghost use Rattle.alignment.specs.Moves.{moveBytes, moveAt};
 
 // A state of the product: the number of an input state on each side, 65535 where that side's path has ended.
@@ -38,15 +40,31 @@ pub fn load_vertex(work: &[u8], at: usize) -> Vertex
     Vertex { first, second }
 }
 
+// A number of 32 bits as a wider one.
+fn wide(n: u32) -> u64
+    ensures { λ r. ⌜ (r ≡ n) × (r < 4294967296) ⌝ }
+{
+    n as u64
+}
+
 // The number of a state of the product among those reached, entered behind them if it is not there.
 pub fn enter_vertex(work: &mut [u8], reached: usize, room: usize, v: Vertex) -> Entered
-    requires { ⌜ (4 * room ≤ length (now work)) × (reached ≤ room) × (room ≤ 1024) ⌝ }
-    ensures { λ r. ⌜ entry r (now (work .exit)) ≡ enterOf 0 reached room (vertexBytes v) (now (work .entry)) ⌝ }
+    requires { ⌜ (16 * room ≤ length (now work)) × (reached ≤ room) × (room ≤ 1024) ⌝ }
+    ensures { λ r. ⌜ EntersVertex reached room v (now (work .entry)) r (now (work .exit)) ⌝ }
 {
+    if room == 0 {
+        return Entered::Full;
+    }
     let mut row = [0u8; 4];
     put16(&mut row, 0, v.first);
     put16(&mut row, 2, v.second);
-    enter(work, 0, reached as u16, room as u16, &row)
+    let bucket = bucket_of(wide(get32(&row, 0)), room);
+    let shape = Shape {
+        head: 4,
+        pitch: 0,
+        parts: 1,
+    };
+    enter(work, 16, reached as u16, room as u16, bucket, shape, &row)
 }
 
 // The record of a move, written at a place.

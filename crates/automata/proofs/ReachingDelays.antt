@@ -1,15 +1,21 @@
--- A state is coaccessible exactly where relaxation on one tape taken twice gives it a delay: `relaxed-held`.
-use mathlib.Core.Path.{_≡_, refl, ap, ap₂, _∙_}
+-- A state is coaccessible exactly where it has a closing delay on one tape taken twice, which is none: `least-held`.
+use mathlib.Core.Path.{_≡_, refl, sym, subst, _∙_}
+use mathlib.Core.Logic.{_≢_}
 use mathlib.Core.Bool.{Bool, true, false}
 use mathlib.Core.List.{List, [], _∷_, map}
-use Prim.Native.Nat.{ℕ, zero, suc, _+_, _-_, min}
+use Prim.Native.Nat.{ℕ, zero, suc, _<_}
+use native.Mathlib.Decide.{ℕ-discrete}
 use native.Mathlib.Omega.{arith}
-use lib.ListN.{length, getD, set}
-use Rattle.automata.specs.Lists.{if, or, isSome}
-use Rattle.automata.specs.Rounds.{visit, sweep, round}
-use Rattle.automata.specs.Marks.{mark, marked}
-use Rattle.automata.specs.Automaton.{Automaton, Arc, State, graph, labelOn}
-use Rattle.automata.specs.Closing.{origin, missing, finals, through, relax, relaxed}
+use lib.ListN.{length, getD, length-map}
+use lib.Seq.{ext-getD}
+use Rattle.automata.specs.Lists.{if, isSome}
+use Rattle.automata.specs.Graph.{Within}
+use Rattle.automata.specs.Marks.{coaccessible}
+use Rattle.automata.specs.Automaton.{Automaton, Arc, graph, size, Formed, Closes}
+use Rattle.automata.specs.Closing.{origin, endless, missing, finals, leastDelays}
+use Rattle.automata.proofs.MarkFacts.{length-coaccessible, coaccessible-iff}
+use Rattle.automata.proofs.RelaxedDelays.{finals-iff}
+use Rattle.automata.proofs.ClosingDelays.{LeastDelay, leastDelays-least, length-diverged}
 
 -- a mark as a delay: none, or missing
 abbrev pub held : Bool → ℕ
@@ -20,34 +26,35 @@ held-at [] k = refl
 held-at (x ∷ xs) zero = refl
 held-at (x ∷ xs) (suc k) = held-at xs k
 
-held-set : (xs : List Bool) (k : ℕ) (x : Bool) → set (map held xs) k (held x) ≡ map held (set xs k x)
-held-set [] k x = refl
-held-set (y ∷ xs) zero x = refl
-held-set (y ∷ xs) (suc k) x = ap (λ (r : List ℕ). held y ∷ r) (held-set xs k x)
+module _ {W : Type 0} (A : Automaton W) (ok : Formed A) (i : ℕ) where
+  length-finals : length (finals A) ≡ size A
+  length-finals = length-map (A .states) (λ s. isSome (s .final))
 
-relax-held : (i : ℕ) (a : Arc ℕ) (x y : Bool) → min (held x) (through i i a (held y)) ≡ held (or x y)
-relax-held i a true true = let e : 16384 + length (labelOn i a) - length (labelOn i a) ≡ 16384 = omega arith in rw e
-relax-held i a true false = refl
-relax-held i a false true = let e : 16384 + length (labelOn i a) - length (labelOn i a) ≡ 16384 = omega arith in rw e
-relax-held i a false false = refl
+  within : Within (graph A) (length (finals A))
+  within = subst (Within (graph A)) (sym length-finals) (ok .within)
 
-module _ (t : Automaton ℕ) (i : ℕ) where
-  visit-held : (old new : List Bool) (a : Arc ℕ) → visit (graph t) missing (relax i i) (map held old) (map held new) a ≡ map held (visit (graph t) false (mark (graph t)) old new a)
-  visit-held old new a =
-      ap₂ (λ (x y : ℕ). set (map held new) (a .source) (min x (through i i a y))) (held-at new (a .source)) (held-at old (a .target))
-      ∙ ap (set (map held new) (a .source)) (relax-held i a (getD new (a .source) false) (getD old (a .target) false))
-      ∙ held-set new (a .source) (or (getD new (a .source) false) (getD old (a .target) false))
+  -- a delay on one tape taken twice, by whether its state is coaccessible
+  delay-held : (q v : ℕ) (b : Bool) → q < length (finals A) → LeastDelay A i i q v → getD (coaccessible (graph A) (finals A)) q false ≡ b → v ≡ held b
+  delay-held q v true lt d m = go (ℕ-discrete v missing) (ℕ-discrete v endless)
+    where
+      closes : (es : List (Arc W)) × Closes A q es
+      closes = let (es, p, w, f) = coaccessible-iff (graph A) (finals A) within q lt .0 m in (es, (p, w, finals-iff A p .0 f))
 
-  sweep-held : (old new : List Bool) (rs : List (Arc ℕ)) → sweep (graph t) missing (relax i i) (map held old) (map held new) rs ≡ map held (sweep (graph t) false (mark (graph t)) old new rs)
-  sweep-held old new [] = refl
-  sweep-held old new (a ∷ rs) =
-      ap (λ (x : List ℕ). sweep (graph t) missing (relax i i) (map held old) x rs) (visit-held old new a) ∙ sweep-held old (visit (graph t) false (mark (graph t)) old new a) rs
+      go : Dec (v ≡ missing) → Dec (v ≡ endless) → v ≡ origin
+      go (yes e) z = absurd (d .missing-iff .0 e (closes .0) (closes .1))
+      go (no e) (yes z) = let (es, c, h) = d .endless-iff .0 z 1 in absurd (omega arith)
+      go (no e) (no z) = let (es, c, h) = d .attained e z in omega arith
+  delay-held q v false lt d m = d .missing-iff .1 (λ es (p, w, f). absurd (none (sym m ∙ coaccessible-iff (graph A) (finals A) within q lt .1 (es, p, w, finals-iff A p .1 f))))
+    where
+      none : _≢_ {A = Bool} false true
+      none e = let z : _≡_ {A = ℕ} 0 1 = cc in absurd (omega arith)
 
-  start-held : (ss : List (State ℕ)) → map {A = State ℕ} (λ s. if (isSome (s .final)) origin missing) ss ≡ map held (map (λ s. isSome (s .final)) ss)
-  start-held [] = refl
-  start-held (s ∷ ss) = ap (λ (r : List ℕ). held (isSome (s .final)) ∷ r) (start-held ss)
-
-  pub relaxed-held : (k : ℕ) → relaxed t i i k ≡ map held (marked (graph t) (finals t) k)
-  relaxed-held zero = start-held (t .states)
-  relaxed-held (suc k) =
-      ap (round (graph t) missing (relax i i)) (relaxed-held k) ∙ sweep-held (marked (graph t) (finals t) k) (marked (graph t) (finals t) k) (t .arcs)
+  -- The least closing delays on one tape taken twice tell the coaccessible states.
+  pub least-held : leastDelays A i i ≡ map held (coaccessible (graph A) (finals A))
+  least-held =
+      let marks = coaccessible (graph A) (finals A) in
+      let l = (length-diverged A ok i i) (size A) in
+      let n : length (map held marks) ≡ size A = length-map marks held ∙ length-coaccessible (graph A) (finals A) ∙ length-finals in
+      ext-getD missing (leastDelays A i i) (map held marks) (l ∙ sym n)
+      (λ q k. let lt : q < size A = omega (arith, l, k) in
+      delay-held q (getD (leastDelays A i i) q missing) (getD marks q false) (omega (arith, length-finals)) ((leastDelays-least A ok i i) q lt) refl ∙ sym (held-at marks q))

@@ -44,7 +44,7 @@ cells-put w u k v h small e =
 -- ---- a weight that is found
 
 -- the sum after a store
-sum-set : (xs : List ℕ) (k v : ℕ) → k < length xs → sum (set xs k v) + getD xs k 0 ≡ sum xs + v
+pub sum-set : (xs : List ℕ) (k v : ℕ) → k < length xs → sum (set xs k v) + getD xs k 0 ≡ sum xs + v
 sum-set [] k v h = absurd (omega arith)
 sum-set (x ∷ xs) zero v h = omega arith
 sum-set (x ∷ xs) (suc k) v h = let i = sum-set xs k v (omega arith) in omega (arith, i)

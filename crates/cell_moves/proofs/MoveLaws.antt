@@ -1,23 +1,23 @@
 -- Comparing bytes, turn by turn, and the labels of an arc, tape by tape.
-use mathlib.Core.Path.{_≡_, sym}
+use mathlib.Core.Path.{_≡_, refl, sym}
 use mathlib.Core.Logic.{_≢_}
 use mathlib.Core.Bool.{Bool, true, false, not}
-use mathlib.Core.Option.{none, some, Option·none-ne-some, Option·some-injective}
+use mathlib.Core.Option.{Option, none, some, Option·none-ne-some, Option·some-injective}
 use mathlib.Core.List.{List}
-use Prim.Native.Nat.{ℕ, suc, _+_, _*_, _≤_, _<_}
+use Prim.Native.Nat.{ℕ, zero, suc, _+_, _-_, _*_, _≤_, _<_}
 use native.Mathlib.Nat.{mul-le-mul}
 use native.Mathlib.Omega.{arith}
 use borrow.Author.Tests.{lt-ltb, le-ltb, not-true, not-false}
 use lib.Dec.{eqb, ltb, eqb-refl}
 use lib.ListN.{length, getD}
-use Rattle.automata.specs.Lists.{if, and, sameList}
+use Rattle.automata.specs.Lists.{if, and, bind, sameList}
 use Rattle.automata.proofs.TestFacts.{eqb-false, T-true}
 use Rattle.memory.specs.Region.{part}
 use Rattle.memory.proofs.PartLaws.{part-zero, part-suc}
 use Rattle.cell_moves.specs.declared.spot.Spot.{Spot}
 use Rattle.cell_moves.specs.declared.moves.Step.{Step}
 use Rattle.cell_moves.specs.declared.moves.Step.the-variants.{Moved, Stuck}
-use Rattle.cell_moves.specs.Moves.{stepAs, tapeMove, movesFrom, noSymbol}
+use Rattle.cell_moves.specs.Moves.{stepAs, tapeMove, movesFrom, Laid, spotWith}
 
 pub same-turn : (a b left rest : ℕ) (x y : List ℕ) → left ≡ suc rest → a < length x → b < length y → getD x a 0 ≡ getD y b 0
     → sameList (part (a + 1) rest x) (part (b + 1) rest y) ≡ sameList (part a left x) (part b left y)
@@ -37,7 +37,7 @@ module _ (arcs : List ℕ) (at : ℕ) (text : List ℕ) (start size span : ℕ) 
   unfolding tapeMove
   move-long h = rw (lt-ltb size (getD arcs at 0) h)
 
-  module _ (h : getD arcs at 0 ≤ size) (b : Bool) (e : b ≡ sameList (part (at + 1) (getD arcs at 0) arcs) (part start (getD arcs at 0) text)) where
+  module _ (h : getD arcs at 0 ≤ size) (b : Bool) (e : b ≡ sameList (part (at + 1) (getD arcs at 0) arcs) (part (start - getD arcs at 0) (getD arcs at 0) text)) where
     pub move-differs : not b ≡ true → none ≡ tapeMove arcs at text start size span
     unfolding tapeMove
     move-differs n = rw (le-ltb size (getD arcs at 0) h, ← e, not-true b n)
@@ -49,7 +49,7 @@ module _ (arcs : List ℕ) (at : ℕ) (text : List ℕ) (start size span : ℕ) 
   -- a move on one tape is not too long
   pub move-bound : (m : ℕ) → getD arcs at 0 ≤ 8 → span ≤ 318644812890625 → tapeMove arcs at text start size span ≡ some m → m ≤ 2549158503125000
   unfolding tapeMove
-  move-bound m short small e = go (ltb size (getD arcs at 0)) (sameList (part (at + 1) (getD arcs at 0) arcs) (part start (getD arcs at 0) text)) e
+  move-bound m short small e = go (ltb size (getD arcs at 0)) (sameList (part (at + 1) (getD arcs at 0) arcs) (part (start - getD arcs at 0) (getD arcs at 0) text)) e
     where
       go : (b c : Bool) → if b none (if c (some (getD arcs at 0 * span)) none) ≡ some m → m ≤ 2549158503125000
       go true c e = absurd (Option·none-ne-some m e)
@@ -59,7 +59,7 @@ module _ (arcs : List ℕ) (at : ℕ) (text : List ℕ) (start size span : ℕ) 
 -- ---- all tapes
 
 module _ (left rest h from total : ℕ) (arcs text : List ℕ) (s : Spot) (r : Step) (d : left ≡ suc rest)
-    (e : stepAs r ≡ tapeMove arcs from text (getD (s .starts) h 0) (getD (s .lengths) h 0) (getD (s .spans) h 0)) where
+    (e : stepAs r ≡ tapeMove arcs from text (getD (s .starts) h 0) (getD (s .positions) h 0) (getD (s .spans) h 0)) where
   pub moves-stuck : r ≡ Stuck → stepAs r ≡ movesFrom left h from total arcs text s
   unfolding movesFrom
   moves-stuck k = let f = rw k at e in rw (d, k, ← f)
@@ -70,22 +70,36 @@ module _ (left rest h from total : ℕ) (arcs text : List ℕ) (s : Spot) (r : S
 
   -- it is not too long
   pub turn-bound : (by : ℕ) → r ≡ Moved by → getD arcs from 0 ≤ 8 → getD (s .spans) h 0 ≤ 318644812890625 → by ≤ 2549158503125000
-  turn-bound by k short small = let f = rw k at e in move-bound arcs from text (getD (s .starts) h 0) (getD (s .lengths) h 0) (getD (s .spans) h 0) by short small (sym f)
+  turn-bound by k short small = let f = rw k at e in move-bound arcs from text (getD (s .starts) h 0) (getD (s .positions) h 0) (getD (s .spans) h 0) by short small (sym f)
 
 pub moves-end : (left h from total : ℕ) (arcs text : List ℕ) (s : Spot) → left ≡ 0 → some total ≡ movesFrom left h from total arcs text s
 unfolding movesFrom
 moves-end left h from total arcs text s d = rw d
 
--- ---- labels that are all empty
+-- ---- the number of a combination plays no role
 
-pub empty-turn : (from left rest : ℕ) (arcs : List ℕ) → left ≡ suc rest → getD arcs from 0 ≡ 0 → noSymbol rest (from + 9) arcs ≡ noSymbol left from arcs
-unfolding noSymbol
-empty-turn from left rest arcs d e = rw (d, e)
+module _ (starts positions spans : List ℕ) (i j k l : ℕ) where
+  pub laid-any : (n size : ℕ) → Laid n size (spotWith starts positions spans i j) → Laid n size (spotWith starts positions spans k l)
+  laid-any n size p = record {
+    few = p .few;
+    eight-starts = p .eight-starts;
+    eight-positions = p .eight-positions;
+    eight-spans = p .eight-spans;
+    before = p .before;
+    within = p .within;
+    small = p .small;
+  }
 
-pub empty-not : (from left rest : ℕ) (arcs : List ℕ) → left ≡ suc rest → getD arcs from 0 ≢ 0 → false ≡ noSymbol left from arcs
-unfolding noSymbol
-empty-not from left rest arcs d e = rw (d, eqb-false (getD arcs from 0) 0 e)
-
-pub empty-end : (from left : ℕ) (arcs : List ℕ) → left ≡ 0 → true ≡ noSymbol left from arcs
-unfolding noSymbol
-empty-end from left arcs d = rw d
+  pub moves-any : (n h at total : ℕ) (arcs text : List ℕ)
+      → movesFrom n h at total arcs text (spotWith starts positions spans i j) ≡ movesFrom n h at total arcs text (spotWith starts positions spans k l)
+  unfolding movesFrom
+  moves-any zero h at total arcs text = refl
+  moves-any (suc n) h at total arcs text =
+      go (tapeMove arcs at text (getD starts h 0) (getD positions h 0) (getD spans h 0)) (λ m. moves-any n (h + 1) (at + 9) (total + m) arcs text)
+    where
+      go : (o : Option ℕ) → ((m : ℕ) → movesFrom n (h + 1) (at + 9) (total + m) arcs text (spotWith starts positions spans i j)
+          ≡ movesFrom n (h + 1) (at + 9) (total + m) arcs text (spotWith starts positions spans k l))
+          → bind o (λ m. movesFrom n (h + 1) (at + 9) (total + m) arcs text (spotWith starts positions spans i j))
+          ≡ bind o (λ m. movesFrom n (h + 1) (at + 9) (total + m) arcs text (spotWith starts positions spans k l))
+      go none r = refl
+      go (some m) r = r m

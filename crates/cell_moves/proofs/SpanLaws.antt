@@ -1,7 +1,7 @@
 -- The combinations in strings of these lengths, from what each call gave.
 use mathlib.Core.Path.{_≡_, refl, sym, ap, _∙_}
 use mathlib.Core.List.{List, [], _∷_}
-use Prim.Native.Nat.{ℕ, zero, suc, _+_, _-_, _*_, _/_, _%_, _≤_, _<_}
+use Prim.Native.Nat.{ℕ, zero, suc, _+_, _*_, _/_, _%_, _≤_, _<_}
 use native.Mathlib.Nat.{mod-lt}
 use native.Mathlib.Omega.{arith}
 use lib.ListN.{length, getD, drop, drop-of-length-le}
@@ -70,8 +70,8 @@ pub eight-are : (f : ℕ → ℕ) (a b c d e g h i : ℕ) → a ≡ f 0 → b �
 eight-are f a b c d e g h i p q r s t u v w = rw (p, q, r, s, t, u, v, w)
 
 -- the combination, part by part
-pub spot-is : (s : Strings) (spans : Spans) (number : ℕ) (starts lengths : List ℕ) → starts ≡ eightOf (λ h. getD (s .starts) h 0 + digit s spans number h)
-    → lengths ≡ eightOf (λ h. getD (s .lengths) h 0 - digit s spans number h)
-    → _≡_ {A = Spot} (record { starts = starts; lengths = lengths; spans = spans .spans; number = number; all = spans .all }) (spotOf s spans number)
+pub spot-is : (s : Strings) (spans : Spans) (number : ℕ) (starts positions : List ℕ) → starts ≡ eightOf (λ h. getD (s .starts) h 0 + digit s spans number h)
+    → positions ≡ eightOf (λ h. digit s spans number h)
+    → _≡_ {A = Spot} (record { starts = starts; positions = positions; spans = spans .spans; number = number; all = spans .all }) (spotOf s spans number)
 unfolding spotOf
-spot-is s spans number starts lengths e f = λ i. record { starts = e i; lengths = f i; spans = spans .spans; number = number; all = spans .all }
+spot-is s spans number starts positions e f = λ i. record { starts = e i; positions = f i; spans = spans .spans; number = number; all = spans .all }

@@ -2,7 +2,7 @@
 use mathlib.Core.Path.{_≡_}
 use mathlib.Core.Logic.{_⊎_}
 use mathlib.Core.List.{List, [], _∷_}
-use Prim.Native.Nat.{ℕ, suc, _+_, _-_, _*_, _/_, _%_, _≤_, _<_}
+use Prim.Native.Nat.{ℕ, suc, _+_, _*_, _/_, _%_, _≤_, _<_}
 use lib.ListN.{length, getD, drop}
 use Rattle.tuple.specs.declared.Strings.{Strings}
 use Rattle.cell_moves.specs.declared.spot.Spot.{Spot}
@@ -31,7 +31,7 @@ eightOf f = f 0 ∷ f 1 ∷ f 2 ∷ f 3 ∷ f 4 ∷ f 5 ∷ f 6 ∷ f 7 ∷ []
 unfoldable pub spotOf : Strings → Spans → ℕ → Spot
 spotOf s spans number = record {
   starts = eightOf (λ h. getD (s .starts) h 0 + digit s spans number h);
-  lengths = eightOf (λ h. getD (s .lengths) h 0 - digit s spans number h);
+  positions = eightOf (λ h. digit s spans number h);
   spans = spans .spans;
   number = number;
   all = spans .all;

@@ -1,13 +1,12 @@
-// Whether the labels of an arc continue the strings from a combination of positions on, and to which one they lead.
-use crate::spot::Spot;
+// Whether the labels of an arc end at a combination of positions of the strings, and from which one they lead there.
 ghost use mathlib.Core.Path.{_≡_};
-ghost use Prim.Native.Nat.{_+_, _*_, _≤_, _<_};
+ghost use Prim.Native.Nat.{_+_, _≤_};
 ghost use lib.ListN.{length, getD};
 ghost use Rattle.automata.specs.Lists.{sameList};
 ghost use Rattle.memory.specs.Region.{part};
-ghost use Rattle.cell_moves.specs.Moves.{stepAs, tapeMove, movesFrom, noSymbol, Laid, Labelled};
+ghost use Rattle.cell_moves.specs.Moves.{stepAs, tapeMove, movesFrom, Laid, Labelled, spotWith};
 
-// How far the number of a combination moves, or that the labels do not continue the strings.
+// How far the number of a combination moves, or that the labels do not end there.
 pub enum Step {
     Moved(usize),
     Stuck,
@@ -32,39 +31,41 @@ fn same_bytes(x: &[u8], i: usize, y: &[u8], j: usize, n: usize) -> bool
     true
 }
 
-// The label at a place of the arcs against what is left of one string, with so many combinations behind it.
+// The label at a place of the arcs against the symbols of one string before a position, with so many combinations
+// behind it.
 fn move_tape(arcs: &[u8], at: usize, text: &[u8], start: usize, size: usize, span: usize) -> Step
-    requires { ⌜ (at + 9 ≤ length (now arcs)) × (getD (now arcs) at 0 ≤ 8) × (start + size ≤ length (now text)) × (span ≤ 318644812890625) ⌝ }
+    requires { ⌜ (at + 9 ≤ length (now arcs)) × (getD (now arcs) at 0 ≤ 8) × (size ≤ start) × (start ≤ length (now text)) × (span ≤ 318644812890625) ⌝ }
     ensures { λ r. ⌜ stepAs r ≡ tapeMove (now (arcs .entry)) at (now (text .entry)) start size span ⌝ }
 {
     let n = arcs[at] as usize;
     if size < n {
         return Step::Stuck;
     }
-    if !same_bytes(arcs, at + 1, text, start, n) {
+    if !same_bytes(arcs, at + 1, text, start - n, n) {
         return Step::Stuck;
     }
     Step::Moved(n * span)
 }
 
-// The labels from a place of the arcs on so many tapes against what is left of the strings.
-pub fn moved_on(arcs: &[u8], at: usize, tapes: usize, text: &[u8], spot: Spot) -> Step
-    requires { ⌜ Labelled (now arcs) at × Laid tapes (length (now text)) spot ⌝ }
-    ensures { λ r. ⌜ stepAs r ≡ movesFrom tapes 0 at 0 (now (arcs .entry)) (now (text .entry)) spot ⌝ }
+// The labels from a place of the arcs on so many tapes against the strings before the positions.
+pub fn moved_back(
+    arcs: &[u8],
+    at: usize,
+    tapes: usize,
+    text: &[u8],
+    starts: &[usize],
+    positions: &[usize],
+    spans: &[usize],
+) -> Step
+    requires { ⌜ Labelled (now arcs) at × Laid tapes (length (now text)) (spotWith (now starts) (now positions) (now spans) 0 0) ⌝ }
+    ensures { λ r. ⌜ stepAs r ≡ movesFrom tapes 0 at 0 (now (arcs .entry)) (now (text .entry)) (spotWith (now (starts .entry)) (now (positions .entry)) (now (spans .entry)) 0 0) ⌝ }
 {
     let mut total: usize = 0;
     let mut from = at;
     let mut h: usize = 0;
     let mut left = tapes;
     while 0 < left {
-        let step = move_tape(
-            arcs,
-            from,
-            text,
-            spot.starts[h],
-            spot.lengths[h],
-            spot.spans[h],
-        );
+        let step = move_tape(arcs, from, text, starts[h], positions[h], spans[h]);
         let Step::Moved(by) = step else {
             return step;
         };
@@ -74,21 +75,4 @@ pub fn moved_on(arcs: &[u8], at: usize, tapes: usize, text: &[u8], spot: Spot) -
         left -= 1;
     }
     Step::Moved(total)
-}
-
-// Whether the labels from a place of the arcs on so many tapes are all empty.
-pub fn no_symbol(arcs: &[u8], at: usize, tapes: usize) -> bool
-    requires { ⌜ at + 9 * tapes ≤ length (now arcs) ⌝ }
-    ensures { λ r. ⌜ r ≡ noSymbol tapes at (now (arcs .entry)) ⌝ }
-{
-    let mut place = at;
-    let mut left = tapes;
-    while 0 < left {
-        if arcs[place] != 0 {
-            return false;
-        }
-        place += 9;
-        left -= 1;
-    }
-    true
 }

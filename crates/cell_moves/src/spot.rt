@@ -1,15 +1,15 @@
 // A combination of positions, one in each string of a tuple.
 use tuple::Strings;
 ghost use mathlib.Core.Path.{_≡_};
-ghost use Prim.Native.Nat.{_+_, _-_, _*_, _≤_, _<_};
+ghost use Prim.Native.Nat.{_+_, _*_, _≤_, _<_};
 ghost use lib.ListN.{getD};
 ghost use Rattle.cell_moves.specs.Spots.{Spanned, digit, spotOf, eightOf, Placed, Positive};
 
-// What is left of each string, by its place in the text and its length; the number of combinations in the strings behind each; the number
-// of this combination, and of all.
+// The position in each string, and its place in the text; the number of combinations in the strings behind each; the
+// number of this combination, and of all.
 pub struct Spot {
     pub starts: [usize; 8],
-    pub lengths: [usize; 8],
+    pub positions: [usize; 8],
     pub spans: [usize; 8],
     pub number: usize,
     pub all: usize,
@@ -75,12 +75,12 @@ fn start_at(strings: Strings, spans: Spans, number: usize, h: usize) -> usize
     start + position(strings, spans, number, h)
 }
 
-// How much of string h is left from its position.
-fn left_at(strings: Strings, spans: Spans, number: usize, h: usize) -> usize
+// The position in string h.
+fn position_at(strings: Strings, spans: Spans, number: usize, h: usize) -> usize
     requires { ⌜ Placed strings × Positive spans × (h < 8) ⌝ }
-    ensures { λ r. ⌜ r ≡ getD (strings .lengths) h 0 - digit strings spans number h ⌝ }
+    ensures { λ r. ⌜ r ≡ digit strings spans number h ⌝ }
 {
-    strings.lengths[h] - position(strings, spans, number, h)
+    position(strings, spans, number, h)
 }
 
 // Where each string goes on.
@@ -99,19 +99,19 @@ fn starts_at(strings: Strings, spans: Spans, number: usize) -> [usize; 8]
     [a, b, c, d, e, f, g, h]
 }
 
-// How much of each string is left.
-fn lengths_at(strings: Strings, spans: Spans, number: usize) -> [usize; 8]
+// The position in each string.
+fn positions_at(strings: Strings, spans: Spans, number: usize) -> [usize; 8]
     requires { ⌜ Placed strings × Positive spans ⌝ }
-    ensures { λ r. ⌜ r ≡ eightOf (λ h. getD (strings .lengths) h 0 - digit strings spans number h) ⌝ }
+    ensures { λ r. ⌜ r ≡ eightOf (λ h. digit strings spans number h) ⌝ }
 {
-    let a = left_at(strings, spans, number, 0);
-    let b = left_at(strings, spans, number, 1);
-    let c = left_at(strings, spans, number, 2);
-    let d = left_at(strings, spans, number, 3);
-    let e = left_at(strings, spans, number, 4);
-    let f = left_at(strings, spans, number, 5);
-    let g = left_at(strings, spans, number, 6);
-    let h = left_at(strings, spans, number, 7);
+    let a = position_at(strings, spans, number, 0);
+    let b = position_at(strings, spans, number, 1);
+    let c = position_at(strings, spans, number, 2);
+    let d = position_at(strings, spans, number, 3);
+    let e = position_at(strings, spans, number, 4);
+    let f = position_at(strings, spans, number, 5);
+    let g = position_at(strings, spans, number, 6);
+    let h = position_at(strings, spans, number, 7);
     [a, b, c, d, e, f, g, h]
 }
 
@@ -121,12 +121,12 @@ pub fn spot_at(strings: Strings, spans: Spans, number: usize) -> Spot
     ensures { λ r. ⌜ r ≡ spotOf strings spans number ⌝ }
 {
     let starts = starts_at(strings, spans, number);
-    let lengths = lengths_at(strings, spans, number);
+    let positions = positions_at(strings, spans, number);
     let behind = spans.spans;
     let all = spans.all;
     Spot {
         starts,
-        lengths,
+        positions,
         spans: behind,
         number,
         all,

@@ -14,8 +14,9 @@ use Rattle.automata.specs.Calls.Work.{combinations, lookupWork}
 use Rattle.automata.specs.Memory.{Memory, tableOf}
 use Rattle.automata.proofs.SoundFacts.{sound-holds}
 use Rattle.memory.specs.Answers.{lent}
+use Rattle.memory.specs.Records.{arcAt, contentAt}
 use Rattle.memory.specs.declared.answer.Counts.{Counts}
-use Rattle.memory.proofs.SoundLaws.{states-lent}
+use Rattle.memory.proofs.SoundLaws.{states-lent, arcs-lent, few-states, few-arcs, arc-target}
 use Rattle.automata.proofs.Cells.{place}
 use Rattle.tuple.specs.declared.Strings.{Strings}
 use Rattle.tuple.specs.Strings.{Stands}
@@ -25,10 +26,10 @@ use Rattle.cell_moves.specs.Distances.{far, weightOf, cellsOf}
 use Rattle.distances.specs.Ends.{startedFrom, StartsAll, Stated, leastUpTo}
 use Rattle.cells.specs.Fillable.{Fillable}
 use Rattle.cell_moves.specs.Spots.{Spanned, spotOf, Placed, Positive}
-use Rattle.distances.specs.Sweeps.{Ready, Spaced, Settles}
+use Rattle.distances.specs.Pushes.{targetOf, Ready, Spaced, Settles}
 use Rattle.cell_moves.proofs.CellLaws.{length-cells}
 use Rattle.distances.proofs.DistanceLaws.{Distances}
-use Rattle.distances.proofs.RoundMeaning.{AtSpot, ready, settled-done}
+use Rattle.distances.proofs.PushMeaning.{AtSpot, ready, settled-done}
 use Rattle.distances.proofs.SpotMeaning.{digits, place-digits, all-at, spans-positive, at-spot}
 use Rattle.distances.proofs.MoveMeaning.{combinations-positive}
 use Rattle.distances.proofs.StartMeaning.{sixteens, begun-distances}
@@ -48,6 +49,15 @@ fillable-kept m text s n k e f = subst (λ (z : ℕ). Fillable m text s z) (sym 
 module _ (c : Counts) (states arcs text : List ℕ) (s : Strings) (room : ℕ) (f : Fillable (lent c states arcs) text s room) where
   abbrev st : Stands text (f .tuple) s
   st = f .stands
+
+  -- what the chains of the arcs ask
+  pub chains-ask : (80 * c .arcs ≤ length arcs) × (c .arcs ≤ 8192) × ((e : ℕ) → e < c .arcs → targetOf arcs e < 1024)
+  unfolding arcAt contentAt
+  chains-ask = (
+    arcs-lent (lent c states arcs) (f .sound),
+    few-arcs (lent c states arcs) (f .sound),
+    λ e lt. omega (arith, arc-target (lent c states arcs) (f .sound) e lt, few-states (lent c states arcs) (f .sound)),
+  )
 
   -- the strings lie in the text
   pub placed : length text < 18446744073709551616 → Placed s

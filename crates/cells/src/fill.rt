@@ -1,9 +1,13 @@
-// The least weight of a tuple: combinations of positions are worked off from the last to the first, so that an arc with a symbol leads to one
-// that is done; the least over the initial states at the first is the answer.
+// The least weight of a tuple: combinations of positions are worked off from the last to the first, so that an arc with
+// a symbol that leads to one comes from one that is not done; the least over the initial states at the first is the
+// answer.
 use crate::answer::Weight64;
+use crate::chain::chain_arcs;
+use crate::chain::no_chains;
 use crate::ends::least_from;
 use crate::ends::start_states;
-use crate::relax::settle;
+use crate::push::settle;
+use crate::queue::no_states;
 use cell_moves::cell::clear_cells;
 use cell_moves::spot::spans_of;
 use cell_moves::spot::spot_at;
@@ -18,7 +22,34 @@ ghost use Rattle.automata.specs.Memory.{tableOf};
 ghost use Rattle.memory.specs.Answers.{lent};
 ghost use Rattle.tuple.specs.Strings.{Stands};
 ghost use Rattle.cells.specs.Answers.{optionAs};
+ghost use Rattle.distances.specs.Pushes.{Marking};
 ghost use Rattle.cells.specs.Fillable.{Fillable};
+
+// The least weight of the strings in the table, or none, by the chains of its arcs.
+fn fill(
+    counts: Counts,
+    states: &[u8],
+    arcs: &[u8],
+    text: &[u8],
+    strings: Strings,
+    index: &[u16],
+    queue: &mut [u16],
+    work: &mut [u8],
+) -> Weight64
+    requires { ⌜ Fillable (lent counts (now states) (now arcs)) (now text) strings (length (now work)) × Marking counts (now arcs) (now index) (now queue) ⌝ }
+    ensures { λ r. ⌜ ((t : Tuple) → Stands (now (text .entry)) t strings → length t ≡ counts .tapes → optionAs r ≡ lookup ℕ-sum (tableOf (lent counts (now (states .entry)) (now (arcs .entry)))) t) ⌝ }
+{
+    let spans = spans_of(strings);
+    clear_cells(work);
+    start_states(states, counts.states, spans.all, work);
+    let mut left = spans.all;
+    while 0 < left {
+        left -= 1;
+        let spot = spot_at(strings, spans, left);
+        settle(counts, arcs, text, spot, index, queue, work);
+    }
+    least_from(states, counts.states, spans.all, work)
+}
 
 // The least weight of the strings in the table, or none.
 pub fn least_weight(
@@ -32,14 +63,17 @@ pub fn least_weight(
     requires { ⌜ Fillable (lent counts (now states) (now arcs)) (now text) strings (length (now work)) ⌝ }
     ensures { λ r. ⌜ ((t : Tuple) → Stands (now (text .entry)) t strings → length t ≡ counts .tapes → optionAs r ≡ lookup ℕ-sum (tableOf (lent counts (now (states .entry)) (now (arcs .entry)))) t) ⌝ }
 {
-    let spans = spans_of(strings);
-    clear_cells(work);
-    start_states(states, counts.states, spans.all, work);
-    let mut left = spans.all;
-    while 0 < left {
-        left -= 1;
-        let spot = spot_at(strings, spans, left);
-        settle(counts, arcs, text, spot, work);
-    }
-    least_from(states, counts.states, spans.all, work)
+    let mut index = no_chains();
+    chain_arcs(counts, arcs, &mut index);
+    let mut queue = no_states();
+    fill(
+        counts,
+        states,
+        arcs,
+        text,
+        strings,
+        &index,
+        &mut queue,
+        work,
+    )
 }

@@ -1,30 +1,34 @@
 -- What entering a configuration and noting an edge leave of the work space, and that the search stays held.
 use Prim.Native.Nat.{ℕ, _+_, _-_, _*_, _≤_, _<_}
-use mathlib.Core.Path.{_≡_, sym, ap, _∙_}
+use mathlib.Core.Path.{_≡_, refl, sym, ap, _∙_, subst}
 use mathlib.Core.Bool.{Bool}
-use mathlib.Core.List.{List, [], _∷_, _++_}
+use mathlib.Core.List.{List, [], _∷_, _++_, append-nil}
 use native.Mathlib.Omega.{arith}
-use lib.ListN.{length, replicate, length-append}
+use lib.ListN.{length, getD}
 use Rattle.automata.specs.Automaton.{Arc}
 use Rattle.automata.specs.Config as automata
 use Rattle.automata.specs.Config.{sameConfig}
 use Rattle.automata.specs.Explore.{Edge, insert}
+use Rattle.automata.proofs.ListFacts
+use Rattle.automata.proofs.WellFormedFacts.{all-place}
 use Rattle.automata.proofs.Configurations.{configs-decided}
 use Rattle.memory.specs.Region.{part, splice}
 use Rattle.memory.specs.Answers.{lent}
 use Rattle.memory.specs.declared.record.ResultState.{ResultState}
-use Rattle.memory.proofs.Laws.{part-splice-after}
-use Rattle.memory.proofs.RowLaws.{rows-splice-after}
+use Rattle.memory.proofs.Laws.{getD-part, part-splice-before, part-splice-after}
 use Rattle.rows.specs.declared.Entered.{Entered}
 use Rattle.rows.specs.declared.Entered.the-variants as E
-use Rattle.rows.specs.Find.{entry, enterOf}
-use Rattle.rows.specs.Inserted.{Inserted}
 use Rattle.rows.specs.Kept.{keptRecord}
-use Rattle.rows.proofs.CodeLaws.{all-insert, Entering, inserted-at, inserted-new, not-inserted}
+use Rattle.rows.proofs.CodeLaws.{all-insert}
 use Rattle.rows.proofs.KeptLaws.{kept-cases, front-made}
 use Rattle.rows.proofs.SearchLaws.{count-more}
-use Rattle.configuration.specs.declared.config.Config.{Config}
-use Rattle.configuration.specs.Configs.{configAs, GoodConfig, configBytes}
+use Rattle.chains.specs.Chain.{recordAt, Chained}
+use Rattle.chains.specs.Parts.{partStart, partSize, Agrees}
+use Rattle.chains.specs.Inserted.{Inserted}
+use Rattle.chains.proofs.FrontLaws.{fronts-same}
+use Rattle.chains.proofs.EntryLaws.{chained-kept}
+use Rattle.chains.proofs.Meaning.{Entering, inserted-at, inserted-new, not-inserted, code-at}
+use Rattle.configuration.specs.Configs.{Config, configAs, GoodConfig, configBytes}
 use Rattle.configuration.proofs.RoundLaws.{length-config}
 use Rattle.delays.proofs.KeptLaws.{holds-part}
 use Rattle.delays.proofs.TestLaws.{length-closings}
@@ -32,22 +36,11 @@ use Rattle.edges.specs.Edges.{edgeBytes, recordOf}
 use Rattle.edges.proofs.EdgeLaws.{length-edge, holds-kept, holds-more, holds-beyond}
 use Rattle.offers.specs.declared.plan.Plan.{Plan}
 use Rattle.config_search.specs.declared.head.Head.{Head}
-use Rattle.offers.specs.Held.{rowOf}
+use Rattle.offers.specs.Held.{configOf, rowOf}
 use Rattle.offers.specs.Plans.{Explorable, tablesIn, StoredIn}
-use Rattle.config_search.specs.Searching.{rowBytes, counted, ConfigSearch, Holds}
-use Rattle.offers.proofs.FormLaws.{form-back, length-row, rows-tell}
-
--- ---- a row and an edge record
-
--- a row of zeros with the record of a configuration written at its front
-pub row-written : (used : ℕ) (c : Config) (row : List ℕ) → GoodConfig used c → row ≡ splice 0 (configBytes c) (replicate 320 0) → row ≡ rowBytes c
-unfolding rowBytes
-row-written used c row g e = front-made 298 22 (configBytes c) row (length-config used c g) e
-
--- it takes up 320 bytes
-pub length-row-bytes : (used : ℕ) (c : Config) → GoodConfig used c → length (rowBytes c) ≡ 320
-unfolding rowBytes
-length-row-bytes used c g = length-append (configBytes c) (replicate 22 0) ∙ omega (arith, length-config used c g)
+use Rattle.config_search.specs.Searching.{shapeOf, bucketBy, EntersConfig, counted, ConfigSearch, Holds}
+use Rattle.offers.proofs.FormLaws.{form-back, rows-tell}
+use Rattle.config_search.proofs.AgreeLaws.{row-shaped, config-row-of, same-configs}
 
 -- ---- what is held
 
@@ -75,35 +68,60 @@ module _ (p : Plan) (h : Head) (d : Config) (v : List ℕ) (good : GoodConfig (p
   more = insert sameConfig (s .vertices) c
 
   abbrev After : Entered → List ℕ → Type 0
-  After r w = entry r w ≡ enterOf 0 (h .reached) room (rowBytes d) v
+  After r w = EntersConfig (h .reached) room used d v r w
 
-  row-is : rowBytes d ≡ rowOf c
-  unfolding rowBytes rowOf
-  row-is = ap (λ (y : Config). configBytes y ++ replicate 22 0) (sym (form-back used d (x .named .used-fit) good))
+  abbrev hash : List ℕ → ℕ
+  hash = bucketBy used room
+
+  row-is : configBytes d ≡ rowOf c
+  unfolding rowOf
+  row-is = ap (λ (y : Config). configBytes y) (sym (form-back used d (x .named .used-fit) good))
+
+  size-is : length (configBytes d) ≡ 298
+  size-is = length-config used d good
+
+  -- a record that agrees with it is the same
+  agreeing : (k : ℕ) → k < h .reached → Agrees (shapeOf used) (k * 320) (configBytes d) v → recordAt 320 (length (configBytes d)) k v ≡ configBytes d
+  unfolding rowOf
+  agreeing k b f =
+      let y = ListFacts.place-exists (s .vertices) k (omega (arith, b, o .reached)) in
+      let m : StoredIn p (y .0) = all-place (StoredIn p) (s .vertices) (o .stored) k (y .0) (y .1) in
+      let r : part (k * 320) 298 v ≡ configBytes (configOf (y .0)) = code-at rowOf 320 298 (s .vertices) v k (y .0) (o .configs) (y .1) in
+      let e : configOf (y .0) ≡ d = same-configs used (configOf (y .0)) d (x .named .used-fit) (m .form) good (λ q c i l u.
+      let w : i < 298 = inside q c i u in
+      ap (λ (z : List ℕ). getD z i 0) (sym r) ∙ getD-part (k * 320) 298 v i 0 w ∙ f q c i l u) in
+      ap (λ (n : ℕ). recordAt 320 n k v) size-is ∙ r ∙ ap configBytes e
+    where
+      inside : (q : ℕ) → q < 1 + used → (i : ℕ) → i < partStart (shapeOf used) q + partSize (shapeOf used) q (configBytes d) → i < 298
+      inside q c i u = let t = row-shaped used (configBytes d) (config-row-of used d good) (x .named .used-fit) q c in omega (arith, t, u, size-is)
 
   -- it may be entered
-  may-enter : Entering rowOf sameConfig 0 room 320 (h .reached) (s .vertices) c (rowBytes d) v
+  may-enter : Entering rowOf sameConfig hash 320 298 room (shapeOf used) (h .reached) (hash (configBytes d)) (s .vertices) c (configBytes d) v
   may-enter = record {
-    sized = length-row used (p .limit) (p .counts .states) c may;
+    sized = size-is;
     held = o .configs;
     tells = rows-tell used (p .limit) (p .counts .states) c (s .vertices) may (o .stored);
     reflexive = configs-decided .complete c;
-    within = omega (arith, x .configs-fit, x .edges-fit, x .delays-fit);
     few = o .fits;
     count-is = o .reached;
     bytes-are = row-is;
+    searchable = record {
+      chained = subst (λ (n : ℕ). Chained hash 320 n room (h .reached) v) (sym size-is) (subst (λ (n : ℕ). Chained hash 320 298 room n v) (sym (o .reached)) (o .chained));
+      hashed = refl;
+      agreeing = agreeing;
+    };
   }
 
-  pub was-at : (n : ResultState) (w : List ℕ) → After (E.At n) w → Inserted rowOf sameConfig 0 room 320 (s .vertices) c v w n × (h .reached ≡ length more)
+  pub was-at : (n : ResultState) (w : List ℕ) → After (E.At n) w → Inserted rowOf sameConfig (bucketBy (p .pairs .used) (p .room .states)) 320 298 (p .room .states) (s .vertices) c v w n × (h .reached ≡ length more)
   was-at n w t = inserted-at may-enter n w t
 
-  pub was-new : (n : ResultState) (w : List ℕ) → After (E.New n) w → Inserted rowOf sameConfig 0 room 320 (s .vertices) c v w n × (h .reached + 1 ≡ length more)
+  pub was-new : (n : ResultState) (w : List ℕ) → After (E.New n) w → Inserted rowOf sameConfig (bucketBy (p .pairs .used) (p .room .states)) 320 298 (p .room .states) (s .vertices) c v w n × (h .reached + 1 ≡ length more)
   was-new n w t = inserted-new may-enter n w t
 
-  pub was-full : (w : List ℕ) → After E.Full w → (w ≡ v) × (room < length more)
+  pub was-full : (w : List ℕ) → After E.Full w → room < length more
   was-full w t = not-inserted may-enter w t
 
-  module _ (n : ResultState) (w : List ℕ) (k : ℕ) (i : Inserted rowOf sameConfig 0 room 320 (s .vertices) c v w n × (k ≡ length more)) where
+  module _ (n : ResultState) (w : List ℕ) (k : ℕ) (i : Inserted rowOf sameConfig (bucketBy (p .pairs .used) (p .room .states)) 320 298 (p .room .states) (s .vertices) c v w n × (k ≡ length more)) where
     beyond : (a m : ℕ) → p .room .edges ≤ a → part a m w ≡ part a m v
     beyond a m l = i .0 .kept a m (omega (arith, x .configs-fit, l))
 
@@ -112,6 +130,7 @@ module _ (p : Plan) (h : Head) (d : Config) (v : List ℕ) (good : GoodConfig (p
         (record { vertices = more; edges = s .edges }) late w
     inserted-held = record {
       configs = i .0 .held;
+      chained = i .0 .chained;
       edges = holds-kept (p .room .edges) (p .room .arcs) (s .edges) v w beyond (o .edges);
       closing = holds-part (tablesIn p states arcs) (p .room .delays) (p .counts .states) w v (few-closings p states arcs (length v) x)
           (beyond (p .room .delays) (64 * p .counts .states) (omega (arith, x .edges-fit))) (o .closing);
@@ -133,12 +152,16 @@ module _ (p : Plan) (states arcs : List ℕ) (size : ℕ) (x : Explorable p stat
   abbrev longer : ConfigSearch
   longer = record { vertices = s .vertices; edges = s .edges ++ (e ∷ []) }
 
+  -- the rows stand before it
+  before : h .arcs < p .room .arcs → (a n : ℕ) → a + n ≤ p .room .states * 320 → part a n (splice place (edgeBytes (recordOf e)) w) ≡ part a n w
+  before l a n b = part-splice-before a n place (edgeBytes (recordOf e)) w (omega (arith, x .configs-fit, b)) (omega (arith, x .edges-fit, x .delays-fit, lw, l))
+
   -- the head counts it whether there is room or not
   pub edge-held : (u : List ℕ) → u ≡ keptRecord (p .room .edges) (p .room .arcs) (h .arcs) (edgeBytes (recordOf e)) w → Holds p states arcs (counted h) longer late u
   edge-held u k = kept-cases (p .room .edges) (p .room .arcs) (h .arcs) (edgeBytes (recordOf e)) w u k (λ z. Holds p states arcs (counted h) longer late z)
       (λ l. record {
-        configs = rows-splice-after 0 320 (length (s .vertices)) place (edgeBytes (recordOf e)) w
-            (omega (arith, x .configs-fit, o .fits)) (omega (arith, x .edges-fit, x .delays-fit, lw, l)) ∙ o .configs;
+        configs = fronts-same 0 320 298 (length (s .vertices)) w _ (λ i b. before l (0 + i * 320) 298 (omega (arith, o .fits, b))) ∙ o .configs;
+        chained = chained-kept (bucketBy (p .pairs .used) (p .room .states)) 320 298 (p .room .states) (length (s .vertices)) w _ (omega arith) (o .fits) (before l) (o .chained);
         edges = holds-more (p .room .edges) (p .room .arcs) (s .edges) e w _
             (record { from = omega arith; arc = omega arith; to = omega (arith, to-fits, o .fits, x .few-states) })
             (omega (arith, o .arc-count, l)) (omega (arith, x .edges-fit, x .delays-fit, lw))
@@ -155,6 +178,7 @@ module _ (p : Plan) (states arcs : List ℕ) (size : ℕ) (x : Explorable p stat
       })
       (λ l. record {
         configs = o .configs;
+        chained = o .chained;
         edges = holds-beyond (p .room .edges) (p .room .arcs) (s .edges) (e ∷ []) w (omega (arith, o .arc-count, l)) (o .edges);
         closing = o .closing;
         reached = o .reached;

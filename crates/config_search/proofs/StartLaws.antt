@@ -26,16 +26,14 @@ use Rattle.memory.specs.Pairs.{pairAs, pairsAs}
 use Rattle.memory.specs.declared.record.ResultState.{ResultState}
 use Rattle.rows.specs.declared.Entered.{Entered}
 use Rattle.rows.specs.declared.Entered.the-variants as E
-use Rattle.rows.specs.Find.{entry, enterOf}
-use Rattle.configuration.specs.declared.config.Config.{Config}
-use Rattle.configuration.specs.Configs.{configAs, GoodConfig, Starts}
+use Rattle.configuration.specs.Configs.{Config, configAs, GoodConfig, Starts}
 use Rattle.delays.specs.ClosingRegion.{HoldsClosing}
 use Rattle.delays.proofs.TestLaws.{length-closings}
 use Rattle.offers.specs.declared.plan.Plan.{Plan}
 use Rattle.config_search.specs.declared.head.Head.{Head}
 use Rattle.offers.specs.Plans.{Explorable, tableIn, pairsIn, tablesIn, viableIn}
 use Rattle.offers.specs.Offers.{TellsViable}
-use Rattle.config_search.specs.Searching.{rowBytes, Comes}
+use Rattle.config_search.specs.Searching.{EntersConfig, Comes}
 use Rattle.config_search.specs.Starting.{withConfigs, Admittable, Admits, startBy, Startable, Enters}
 use Rattle.offers.proofs.FormLaws.{stored-form, not-long}
 use Rattle.config_search.proofs.HeldLaws.{was-at, was-new, was-full, inserted-held}
@@ -44,10 +42,10 @@ use Rattle.config_search.proofs.VisitLaws.{withReached}
 -- ---- a configuration is entered
 
 module _ (p : Plan) (h : Head) (d : Config) (v : List ℕ) (q : Admittable p h d v) (r : Entered) (w : List ℕ)
-    (t : entry r w ≡ enterOf 0 (h .reached) (p .room .states) (rowBytes d) v) where
+    (t : EntersConfig (h .reached) (p .room .states) (p .pairs .used) d v r w) where
   pub admits-at : (n : ResultState) → r ≡ E.At n → Admits p h d v h w
   admits-at n z =
-      let t2 = ap (λ (y : Entered). entry y w) (sym z) ∙ t in
+      let t2 = subst (λ (y : Entered). EntersConfig (h .reached) (p .room .states) (p .pairs .used) d v y w) z t in
       record {
         taken = refl;
         arcs = refl;
@@ -60,7 +58,7 @@ module _ (p : Plan) (h : Head) (d : Config) (v : List ℕ) (q : Admittable p h d
 
   pub admits-new : (n : ResultState) → r ≡ E.New n → Admits p h d v (withReached (h .reached + 1) h) w
   admits-new n z =
-      let t2 = ap (λ (y : Entered). entry y w) (sym z) ∙ t in
+      let t2 = subst (λ (y : Entered). EntersConfig (h .reached) (p .room .states) (p .pairs .used) d v y w) z t in
       record {
         taken = refl;
         arcs = refl;
@@ -73,14 +71,14 @@ module _ (p : Plan) (h : Head) (d : Config) (v : List ℕ) (q : Admittable p h d
 
   pub admits-full : r ≡ E.Full → Admits p h d v (record { taken = h .taken; reached = h .reached; arcs = h .arcs; late = h .late; full = true }) w
   admits-full z =
-      let t2 = ap (λ (y : Entered). entry y w) (sym z) ∙ t in
+      let t2 = subst (λ (y : Entered). EntersConfig (h .reached) (p .room .states) (p .pairs .used) d v y w) z t in
       record {
         taken = refl;
         arcs = refl;
-        same-length = ap length (was-full p h d v (q .good) (q .stored) (q .states) (q .arcs) (q .search) (q .late) (q .explorable) (q .holds) w t2 .0);
+        same-length = t2 .same-length;
         meaning = λ states arcs s l x o. record {
           held = λ f. TestFacts.false-not-true f refl;
-          over = λ f. was-full p h d v (q .good) (q .stored) states arcs s l x o w t2 .1;
+          over = λ f. was-full p h d v (q .good) (q .stored) states arcs s l x o w t2;
         };
       }
 

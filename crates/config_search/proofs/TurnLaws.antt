@@ -1,11 +1,10 @@
 -- The arcs of a configuration that is taken up, one after the other.
-use Prim.Native.Nat.{ℕ, suc, _+_, _-_, _*_, _≤_, _<_}
+use Prim.Native.Nat.{ℕ, zero, suc, _+_, _-_, _*_, _≤_, _<_}
 use mathlib.Core.Path.{_≡_, refl, sym, ap, _∙_, subst}
 use mathlib.Core.Bool.{Bool, true, false}
 use mathlib.Core.Option.{none, some}
 use mathlib.Core.List.{List, []}
 use native.Mathlib.Omega.{arith}
-use native.Mathlib.Nat.{add-zero}
 use lib.ListN.{length, getD, getElem?}
 use Rattle.automata.specs.Lists.{or}
 use Rattle.automata.specs.Automaton.{Arc, Automaton}
@@ -24,26 +23,24 @@ use Rattle.automata.proofs.SoundFacts.{sound-well-formed}
 use Rattle.automata.proofs.IntersectSteps.{outUpTo-zero, outUpTo-all, outUpTo-begins, noted-to, noted-none, lateUpTo-zero, lateUpTo-suc}
 use Rattle.memory.specs.Region.{part, splice}
 use Rattle.memory.specs.Answers.{lent}
-use Rattle.memory.proofs.Laws.{part-part, part-front}
-use Rattle.rows.proofs.CodeLaws.{row-at}
+use Rattle.chains.proofs.Meaning.{code-at}
 use Rattle.rows.proofs.SearchLaws.{noted-longer}
-use Rattle.configuration.specs.declared.config.Config.{Config}
+use Rattle.memory.proofs.Laws.{length-part}
+use Rattle.adjacency.specs.Chains.{sourceIn, Chained}
+use Rattle.adjacency.proofs.ChainLaws.{First, first-arc, next-arc}
 use Rattle.configuration.specs.Leftovers.{outside}
-use Rattle.configuration.specs.Configs.{configAs, GoodConfig, configBytes, configAt}
-use Rattle.configuration.proofs.RoundLaws.{length-config, config-row, row-stored, load-stored}
+use Rattle.configuration.specs.Configs.{Config, configAs, GoodConfig, configBytes, configAt}
+use Rattle.configuration.proofs.RoundLaws.{config-row, load-row}
 use Rattle.offers.specs.declared.plan.Plan.{Plan}
 use Rattle.config_search.specs.declared.head.Head.{Head}
 use Rattle.offers.specs.Held.{configOf, rowOf}
 use Rattle.offers.specs.Plans.{Explorable, tableIn, pairsIn, viableIn, StoredIn}
 use Rattle.config_search.specs.Searching.{ConfigSearch, Holds, Comes, noteOffer, Visitable, Visits, Takable, TakesUp}
-use Rattle.offers.proofs.OfferLaws.{arc-count, arc-exists}
+use Rattle.offers.specs.Offers.{Offerable}
+use Rattle.offers.proofs.OfferLaws.{arc-count, arc-exists, offers-away}
+use Rattle.config_search.proofs.VisitLaws.{visits-nothing}
 
 -- ---- the configuration that is loaded
-
--- the bytes of a record alone
-record-back : (used at : ℕ) (d : Config) (w : List ℕ) → GoodConfig used d → at + 298 ≤ length w → configAt 0 (configBytes d) ≡ d
-record-back used at d w g h =
-    ap (configAt 0) (sym (row-stored used at d w g h)) ∙ sym (config-row at (splice at (configBytes d) w)) ∙ load-stored used at d w g h
 
 module _ (p : Plan) (states arcs : List ℕ) (h : Head) (s : ConfigSearch) (late : Bool) (w : List ℕ) (x : Explorable p states arcs (length w)) (o : Holds p states arcs h s late w)
     (k : ℕ) (c : automata.Config) (e : getElem? (s .vertices) k ≡ some c) where
@@ -58,14 +55,9 @@ module _ (p : Plan) (states arcs : List ℕ) (h : Head) (s : ConfigSearch) (late
   pub loaded : configAt (320 * k) w ≡ configOf c
   unfolding rowOf
   loaded =
-      let f : part (0 + k * 320) 320 w ≡ rowOf c = row-at rowOf 0 320 (s .vertices) w k c (o .configs) e in
-      let a : 0 + k * 320 ≡ 320 * k = omega arith in
-      let n : length (configBytes (configOf c)) ≡ 298 = length-config (p .pairs .used) (configOf c) (place-stored .form) in
-      let z : 320 * k + 0 ≡ 320 * k = add-zero (320 * k) in
-      let r : part (320 * k) 298 w ≡ configBytes (configOf c) =
-      ap (λ (m : ℕ). part m 298 w) (sym z) ∙ sym (part-part 0 298 (320 * k) 320 w (omega arith)) ∙ ap (λ (m : ℕ). part 0 298 (part m 320 w)) (sym a) ∙ ap (part 0 298) f
-      ∙ part-front 298 (configBytes (configOf c)) _ n in
-      config-row (320 * k) w ∙ ap (configAt 0) r ∙ record-back (p .pairs .used) (320 * k) (configOf c) w (place-stored .form) (omega (arith, place-fits))
+      let a : 320 * k ≡ k * 320 = omega arith in
+      let r : part (320 * k) 298 w ≡ configBytes (configOf c) = ap (λ (m : ℕ). part m 298 w) a ∙ code-at rowOf 320 298 (s .vertices) w k c (o .configs) e in
+      load-row (p .pairs .used) (320 * k) (configOf c) w (place-stored .form) r
 
 -- ---- the search with one arc more
 
@@ -107,6 +99,11 @@ pub record Turning (p : Plan) (h : Head) (arcs : List ℕ) (v : List ℕ) (g : H
       → Holds p states arcs g (noteAll sameConfig (h .taken) s (outUpTo (tableIn p states arcs) (pairsIn p) (viableIn p states arcs) j c))
       (or l (lateUpTo (tableIn p states arcs) (pairsIn p) (viableIn p states arcs) j c)) w
 
+-- the first j arcs were looked at for the configuration d, and the next one, where there is one, leaves its state
+pub record Chaining (p : Plan) (h : Head) (arcs : List ℕ) (v : List ℕ) (d : Config) (g : Head) (w : List ℕ) (j : ℕ) : Type 0 where
+  pub turning : Turning p h arcs v g w j
+  pub leaves : j < p .counts .arcs → sourceIn arcs j ≡ d .state .0
+
 module _ (p : Plan) (h : Head) (arcs : List ℕ) (v : List ℕ) (q : Takable p h arcs v) where
   -- the configuration that is taken up
   there-is : (c : automata.Config) × (getElem? (q .search .vertices) (h .taken) ≡ some c)
@@ -114,6 +111,12 @@ module _ (p : Plan) (h : Head) (arcs : List ℕ) (v : List ℕ) (q : Takable p h
 
   pub load-fits : 320 * h .taken + 298 ≤ length v
   load-fits = let b = place-fits p (q .states) arcs h (q .search) (q .late) v (q .explorable) (q .holds) (h .taken) (there-is .0) (there-is .1) in omega (arith, b)
+
+  -- how many arcs there are at most
+  pub few-arcs : p .counts .arcs ≤ 8192
+  few-arcs =
+      let many = sound-well-formed (lent (p .counts) (q .states) arcs) (q .explorable .sound) .counts .arcsFit in
+      omega (arith, many, arc-count p (q .states) arcs (length v) (q .explorable) 0)
 
   pub turn-start : Turning p h arcs v h v 0
   turn-start = record {
@@ -129,6 +132,13 @@ module _ (p : Plan) (h : Head) (arcs : List ℕ) (v : List ℕ) (q : Takable p h
         (subst (λ (z : Bool). Holds p states arcs h (noteAll sameConfig (h .taken) s (outUpTo A (pairsIn p) test 0 c)) z v) (sym (or-none l))
         (subst (λ (z : ConfigSearch). Holds p states arcs h z l v) (none-noted (h .taken) s _ (outUpTo-zero A (pairsIn p) test c)) o));
   }
+
+  -- the record that is loaded is that configuration's
+  pub own-loaded : (own : List ℕ) → own ≡ part (320 * h .taken) 298 v → configAt 0 own ≡ configAt (320 * h .taken) v
+  own-loaded own e = ap (configAt 0) e ∙ sym (config-row (320 * h .taken) v)
+
+  pub own-whole : (own : List ℕ) → own ≡ part (320 * h .taken) 298 v → length own ≡ 298
+  own-whole own e = ap length e ∙ length-part (320 * h .taken) 298 v load-fits
 
   module _ (d : Config) (ld : d ≡ configAt (320 * h .taken) v) where
     -- the loaded configuration stands for the one taken up
@@ -208,14 +218,19 @@ module _ (p : Plan) (h : Head) (arcs : List ℕ) (v : List ℕ) (q : Takable p h
           };
         }
 
+      -- an arc that leaves another state is passed over
+      turn-skip : j < p .counts .arcs → (sourceIn arcs j ≡ d .state .0 → ⊥) → Turning p h arcs v g w (j + 1)
+      turn-skip b n =
+          let y = turn-requires b in
+          let m : Offerable p d arcs j w = record { states = y .states; explorable = y .explorable; good = y .good; short = y .short; arc-fits = b } in
+          turn-next b g w (visits-nothing p g d arcs j w y _ (offers-away p d arcs j w m (sourceIn arcs j) d (y .good) refl n) refl) (y .holds .not-full)
+
       -- all arcs were looked at
       pub turn-end : p .counts .arcs ≤ j → TakesUp p h arcs v (record { taken = g .taken + 1; reached = g .reached; arcs = g .arcs; late = g .late; full = g .full }) w
       turn-end b =
-          let many = sound-well-formed (lent (p .counts) (q .states) arcs) (q .explorable .sound) .counts .arcsFit in
-          let count = arc-count p (q .states) arcs (length v) (q .explorable) 0 in
           record {
             taken = λ n. omega (arith, t .taken);
-            few = λ n. omega (arith, t .taken, t .few, t .within, many, count);
+            few = λ n. omega (arith, t .taken, t .few, t .within, few-arcs);
             same-length = t .same-length;
             meaning = λ states s l c x o e.
                 let A = tableIn p states arcs in
@@ -229,6 +244,7 @@ module _ (p : Plan) (h : Head) (arcs : List ℕ) (v : List ℕ) (q : Takable p h
                 record {
                   held = λ f. record {
                     configs = m2 .configs;
+                    chained = m2 .chained;
                     edges = m2 .edges;
                     closing = m2 .closing;
                     reached = m2 .reached;
@@ -241,3 +257,47 @@ module _ (p : Plan) (h : Head) (arcs : List ℕ) (v : List ℕ) (q : Takable p h
                   over = λ f. TestFacts.false-not-true (m2 .not-full) f;
                 };
           }
+
+    -- ---- the arcs that leave the state
+
+    -- the state of the configuration is one of the table
+    pub state-fits : d .state .0 < p .counts .states
+    state-fits =
+        let c = there-is .0 in
+        let e = there-is .1 in
+        let f : d ≡ configOf c = ld ∙ loaded p (q .states) arcs h (q .search) (q .late) v (q .explorable) (q .holds) (h .taken) c e in
+        let m = place-stored p (q .states) arcs h (q .search) (q .late) v (q .explorable) (q .holds) (h .taken) c e in
+        subst (λ (z : Config). z .state .0 < p .counts .states) (sym f) (m .state-fits)
+
+    -- arcs that leave other states are passed over
+    turn-pass : (g : Head) (w : List ℕ) (n j k : ℕ) → j + n ≡ k → k ≤ p .counts .arcs → ((i : ℕ) → j ≤ i → i < k → sourceIn arcs i ≡ d .state .0 → ⊥)
+        → Turning p h arcs v g w j → Turning p h arcs v g w k
+    turn-pass g w zero j k e b f t = let z : j ≡ k = omega arith in subst (Turning p h arcs v g w) z t
+    turn-pass g w (suc n) j k e b f t =
+        turn-pass g w n (j + 1) k (omega arith) b (λ i l. f i (omega arith)) (turn-skip g w j t (omega arith) (f j (omega arith) (omega arith)))
+
+    -- up to the first arc that leaves the state
+    to-first : (g : Head) (w : List ℕ) (k j : ℕ) → Turning p h arcs v g w k → First arcs (d .state .0) (p .counts .arcs) k j → Chaining p h arcs v d g w j
+    to-first g w k j t f =
+        let b = f .behind in
+        record { turning = turn-pass g w (j - k) k j (omega (arith, b)) (f .within) (f .between) t; leaves = f .leaves }
+
+    module _ (first next : List ℕ) (x : Chained (p .counts .states) (p .counts .arcs) arcs first next) where
+      -- the first arc of the chain
+      chain-start : Chaining p h arcs v d h v (getD first (d .state .0) 0)
+      chain-start = to-first h v 0 (getD first (d .state .0) 0) turn-start (first-arc (p .counts .states) (p .counts .arcs) arcs first next x (d .state .0) state-fits)
+
+      -- found by the state's number
+      pub chain-begin : (q : ℕ) → q ≡ d .state .0 → Chaining p h arcs v d h v (getD first q 0)
+      chain-begin k e = rw e chain-start
+
+      -- the next arc stands behind
+      pub chain-goes : (j : ℕ) → j < p .counts .arcs → sourceIn arcs j ≡ d .state .0 → j < getD next j 0
+      chain-goes j b e = let f = next-arc (p .counts .states) (p .counts .arcs) arcs first next x (d .state .0) j b e .behind in omega (arith, f)
+
+      -- and, after a visit, the next
+      pub chain-next : (g : Head) (w : List ℕ) (j : ℕ) → Chaining p h arcs v d g w j → (b : j < p .counts .arcs) (r : Head) (u : List ℕ) → Visits p g d arcs j w r u → r .full ≡ false
+          → Chaining p h arcs v d r u (getD next j 0)
+      chain-next g w j t b r u z f =
+          to-first r u (j + 1) (getD next j 0) (turn-next g w j (t .turning) b r u z f)
+          (next-arc (p .counts .states) (p .counts .arcs) arcs first next x (d .state .0) j b (t .leaves b))

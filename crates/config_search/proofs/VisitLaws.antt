@@ -20,13 +20,11 @@ use Rattle.memory.specs.Answers.{lent}
 use Rattle.memory.specs.declared.record.ResultState.{ResultState}
 use Rattle.rows.specs.declared.Entered.{Entered}
 use Rattle.rows.specs.declared.Entered.the-variants as E
-use Rattle.rows.specs.Find.{entry, enterOf}
-use Rattle.rows.specs.Inserted.{Inserted}
 use Rattle.rows.specs.Kept.{keptRecord}
 use Rattle.rows.proofs.CodeLaws.{index-bound}
 use Rattle.rows.proofs.KeptLaws.{kept-length}
-use Rattle.configuration.specs.declared.config.Config.{Config}
-use Rattle.configuration.specs.Configs.{configAs}
+use Rattle.chains.specs.Inserted.{Inserted}
+use Rattle.configuration.specs.Configs.{Config, configAs}
 use Rattle.edges.specs.declared.edge.EdgeRecord.{EdgeRecord}
 use Rattle.edges.specs.Edges.{edgeBytes}
 use Rattle.edges.proofs.EdgeLaws.{length-edge}
@@ -34,11 +32,10 @@ use Rattle.offers.specs.declared.plan.Plan.{Plan}
 use Rattle.config_search.specs.declared.head.Head.{Head}
 use Rattle.offers.specs.declared.offer.Kind.{Kind}
 use Rattle.offers.specs.declared.offer.Kind.the-variants.{Nothing, Late, To}
-use Rattle.offers.specs.declared.offer.Offered.{Offered}
 use Rattle.offers.specs.Held.{rowOf}
 use Rattle.offers.specs.Plans.{Explorable, tableIn, pairsIn, viableIn}
-use Rattle.offers.specs.Offers.{offerBy, Offers}
-use Rattle.config_search.specs.Searching.{rowBytes, counted, ConfigSearch, Holds, Comes, Arrivable, Arrives, noteOffer, Visitable, Visits}
+use Rattle.offers.specs.Offers.{Offered, offerBy, Offers}
+use Rattle.config_search.specs.Searching.{bucketBy, EntersConfig, counted, ConfigSearch, Holds, Comes, Arrivable, Arrives, noteOffer, Visitable, Visits}
 use Rattle.offers.proofs.OfferLaws.{arc-count}
 use Rattle.config_search.proofs.HeldLaws.{was-at, was-new, was-full, inserted-held, edge-held}
 
@@ -59,7 +56,7 @@ module _ (p : Plan) (h : Head) (d : Config) (j : ℕ) (v : List ℕ) (q : Arriva
   -- it was inserted as number n, whatever search was held, which then has k configurations
   abbrev Enters : ℕ → ResultState → List ℕ → Type 0
   Enters k n w = (states arcs : List ℕ) (s : ConfigSearch) (late : Bool) → Explorable p states arcs (length v) → Holds p states arcs h s late v
-      → Inserted rowOf sameConfig 0 (p .room .states) 320 (s .vertices) c v w n × (k ≡ length (insert sameConfig (s .vertices) c))
+      → Inserted rowOf sameConfig (bucketBy (p .pairs .used) (p .room .states)) 320 298 (p .room .states) (s .vertices) c v w n × (k ≡ length (insert sameConfig (s .vertices) c))
 
   arrives-noted : (k : ℕ) (n : ResultState) (w : List ℕ) → h .reached ≤ k → Enters k n w → (g : Head) (u : List ℕ)
       → (g ≡ counted (withReached k h)) × (u ≡ keptRecord (p .room .edges) (p .room .arcs) (h .arcs) (edgeBytes (noted h j n)) w) → Arrives p h d j v g u
@@ -89,13 +86,13 @@ module _ (p : Plan) (h : Head) (d : Config) (j : ℕ) (v : List ℕ) (q : Arriva
         };
   }
 
-  module _ (r : Entered) (w : List ℕ) (t : entry r w ≡ enterOf 0 (h .reached) (p .room .states) (rowBytes d) v) where
+  module _ (r : Entered) (w : List ℕ) (t : EntersConfig (h .reached) (p .room .states) (p .pairs .used) d v r w) where
     -- it was there already
     pub arrives-at : (n : ResultState) → r ≡ E.At n → (g : Head) (u : List ℕ)
         → (g ≡ counted h) × (u ≡ keptRecord (p .room .edges) (p .room .arcs) (h .arcs) (edgeBytes (noted h j n)) w) → Arrives p h d j v g u
     arrives-at n z = arrives-noted (h .reached) n w (omega arith)
         (λ states arcs s late x o.
-        let t2 = ap (λ (y : Entered). entry y w) (sym z) ∙ t in
+        let t2 = subst (λ (y : Entered). EntersConfig (h .reached) (p .room .states) (p .pairs .used) d v y w) z t in
         was-at p h d v (q .good) (q .stored) states arcs s late x o n w t2)
 
     -- it is new
@@ -103,22 +100,22 @@ module _ (p : Plan) (h : Head) (d : Config) (j : ℕ) (v : List ℕ) (q : Arriva
         → (g ≡ counted (withReached (h .reached + 1) h)) × (u ≡ keptRecord (p .room .edges) (p .room .arcs) (h .arcs) (edgeBytes (noted h j n)) w) → Arrives p h d j v g u
     arrives-new n z = arrives-noted (h .reached + 1) n w (omega arith)
         (λ states arcs s late x o.
-        let t2 = ap (λ (y : Entered). entry y w) (sym z) ∙ t in
+        let t2 = subst (λ (y : Entered). EntersConfig (h .reached) (p .room .states) (p .pairs .used) d v y w) z t in
         was-new p h d v (q .good) (q .stored) states arcs s late x o n w t2)
 
     -- there is no room for it
     pub arrives-full : r ≡ E.Full → Arrives p h d j v (record { taken = h .taken; reached = h .reached; arcs = h .arcs; late = h .late; full = true }) w
     unfolding note
     arrives-full z =
-        let t2 = ap (λ (y : Entered). entry y w) (sym z) ∙ t in
+        let t2 = subst (λ (y : Entered). EntersConfig (h .reached) (p .room .states) (p .pairs .used) d v y w) z t in
         record {
           taken = refl;
           grown = omega arith;
           few = omega arith;
-          same-length = ap length (was-full p h d v (q .good) (q .stored) (q .states) (q .arcs) (q .search) (q .late) (q .explorable) (q .holds) w t2 .0);
+          same-length = t2 .same-length;
           meaning = λ states arcs s late a x o. record {
             held = λ f. TestFacts.false-not-true f refl;
-            over = λ f. was-full p h d v (q .good) (q .stored) states arcs s late x o w t2 .1;
+            over = λ f. was-full p h d v (q .good) (q .stored) states arcs s late x o w t2;
           };
         }
 
@@ -186,6 +183,7 @@ module _ (p : Plan) (h : Head) (c : Config) (arcs : List ℕ) (j : ℕ) (v : Lis
         (record {
           held = λ n. record {
             configs = o .configs;
+            chained = o .chained;
             edges = o .edges;
             closing = o .closing;
             reached = o .reached;

@@ -2,18 +2,21 @@
 use mathlib.Core.Path.{_≡_}
 use mathlib.Core.Bool.{Bool, true, false}
 use mathlib.Core.Option.{some}
-use mathlib.Core.List.{List, _++_}
-use Prim.Native.Nat.{ℕ, _+_, _*_, _≤_, _<_}
-use lib.ListN.{length, getD, getElem?, replicate}
+use mathlib.Core.List.{List}
+use Prim.Native.Nat.{ℕ, zero, suc, _+_, _*_, _/_, _≤_, _<_}
+use lib.ListN.{length, getD, getElem?}
 use Rattle.automata.specs.Lists.{All, or}
 use Rattle.automata.specs.Automaton.{Arc}
 use Rattle.automata.specs.Config as automata
 use Rattle.automata.specs.Offer.{Offer, nothing, late, to, isLate, offer, lateUpTo}
 use Rattle.automata.specs.Search.{Search, note, noteAll}
 use Rattle.automata.specs.Intersect.{out}
-use Rattle.configuration.specs.declared.config.Config.{Config}
+use Rattle.rows.specs.declared.Entered.{Entered}
+use Rattle.chains.specs.Chain.{Chained, Enters}
+use Rattle.chains.specs.Hash.{hashFrom, bucketOf}
+use Rattle.chains.specs.declared.Shape.{Shape}
 use Rattle.configuration.specs.Leftovers.{outside}
-use Rattle.configuration.specs.Configs.{configAs, GoodConfig, configBytes}
+use Rattle.configuration.specs.Configs.{Config, configAs, GoodConfig, configBytes, configAt, Row}
 use Rattle.delays.specs.ClosingRegion.{HoldsClosing}
 use Rattle.edges.specs.Edges.{HoldsEdges}
 use Rattle.offers.specs.declared.plan.Plan.{Plan}
@@ -21,9 +24,32 @@ use Rattle.config_search.specs.declared.head.Head.{Head}
 use Rattle.offers.specs.Held.{HoldsConfigs}
 use Rattle.offers.specs.Plans.{Explorable, tableIn, pairsIn, tablesIn, viableIn, StoredIn}
 
--- the bytes of a configuration's row, by value
-unfoldable pub rowBytes : Config → List ℕ
-rowBytes c = configBytes c ++ replicate 22 0
+-- how the records of configurations of so many pairs are compared: the state, and of each leftover its side, its length
+-- and its symbols
+abbrev pub shapeOf : ℕ → Shape
+shapeOf used = record { head = 2; pitch = 74; parts = 1 + used }
+
+-- the hash of the leftovers from a place on, begun with h: in words of eight bytes that hold side, length and symbols
+unfoldable pub hashSlots : ℕ → ℕ → ℕ → List ℕ → ℕ
+hashSlots zero at h row = h
+hashSlots (suc n) at h row = hashSlots n (at + 74) (hashFrom ((getD row (at + 1) 0 + 9) / 8) at h row) row
+
+-- the hash of a record of so many pairs, and its bucket
+abbrev pub rowHash : ℕ → List ℕ → ℕ
+rowHash used row = hashSlots used 2 (hashFrom 1 0 0 row) row
+
+abbrev pub bucketBy : ℕ → ℕ → List ℕ → ℕ
+bucketBy used room bytes = bucketOf room (rowHash used bytes)
+
+-- the row is the record of a configuration of so many pairs, none of whose leftovers is longer than 64
+pub record Enterable (used : ℕ) (row : List ℕ) : Type 0 where
+  pub row-is : Row used row
+  pub four : used ≤ 4
+  pub short : (i : ℕ) → i < used → getD (configAt 0 row .leftovers) i outside .len ≤ 64
+
+-- the configuration c of so many pairs was entered among those reached
+abbrev pub EntersConfig : ℕ → ℕ → ℕ → Config → List ℕ → Entered → List ℕ → Type 0
+EntersConfig reached room used c v r w = Enters 320 reached room (bucketBy used room (configBytes c)) (shapeOf used) (configBytes c) v r w
 
 -- a head with one arc more
 abbrev pub counted : Head → Head
@@ -33,10 +59,12 @@ counted h = record { taken = h .taken; reached = h .reached; arcs = h .arcs + 1;
 abbrev pub ConfigSearch : Type 0
 ConfigSearch = Search automata.Config (ℕ × Arc ℕ)
 
--- The head and the work space w hold the search s and whether a step was too long, for the table in these bytes; the delays are those of the
--- table, and every configuration may be stored.
+-- The head and the work space w hold the search s and whether a step was too long, for the table in these bytes; every
+-- configuration stands in the chain of its bucket, the delays are those of the table, and every configuration may be
+-- stored.
 pub record Holds (p : Plan) (states arcs : List ℕ) (h : Head) (s : ConfigSearch) (late : Bool) (w : List ℕ) : Type 0 where
   pub configs : HoldsConfigs (s .vertices) w
+  pub chained : Chained (bucketBy (p .pairs .used) (p .room .states)) 320 298 (p .room .states) (length (s .vertices)) w
   pub edges : HoldsEdges (p .room .edges) (p .room .arcs) (s .edges) w
   pub closing : HoldsClosing (tablesIn p states arcs) (p .room .delays) (p .counts .states) w
   pub reached : h .reached ≡ length (s .vertices)

@@ -12,13 +12,13 @@ use Rattle.automata.specs.Config as automata
 use Rattle.automata.specs.Explore.{insert, insertAll}
 use Rattle.automata.specs.Search.{searchFrom}
 use Rattle.automata.specs.Intersect.{starts}
-use Rattle.configuration.specs.declared.config.Config.{Config}
-use Rattle.configuration.specs.Configs.{configAs, GoodConfig}
+use Rattle.chains.specs.Chain.{Chained}
+use Rattle.configuration.specs.Configs.{Config, configAs, GoodConfig}
 use Rattle.delays.specs.ClosingRegion.{HoldsClosing}
 use Rattle.offers.specs.declared.plan.Plan.{Plan}
 use Rattle.config_search.specs.declared.head.Head.{Head}
 use Rattle.offers.specs.Plans.{Explorable, tableIn, pairsIn, tablesIn, viableIn, StoredIn}
-use Rattle.config_search.specs.Searching.{ConfigSearch, Holds, Comes}
+use Rattle.config_search.specs.Searching.{bucketBy, ConfigSearch, Holds, Comes}
 
 -- the search with further configurations, and no edge more
 abbrev pub withConfigs : ConfigSearch → List automata.Config → ConfigSearch
@@ -69,11 +69,12 @@ pub record Enters (p : Plan) (h : Head) (states : List ℕ) (q : ℕ) (v : List 
       → getElem? (tableIn p states arcs .states) q ≡ some a
       → Comes p states arcs r (withConfigs s (consMaybe (startBy (pairsIn p) (viableIn p states arcs) (q, a)) [])) late w
 
--- the search may begin: the work space holds the closing tables
+-- the search may begin: the work space holds the closing tables, and every chain is empty
 pub record Beginnable (p : Plan) (states : List ℕ) (w : List ℕ) : Type 0 where
   pub arcs : List ℕ
   pub explorable : Explorable p states arcs (length w)
   pub closing : HoldsClosing (tablesIn p states arcs) (p .room .delays) (p .counts .states) w
+  pub chained : Chained (bucketBy (p .pairs .used) (p .room .states)) 320 298 (p .room .states) 0 w
 
 -- it has begun: no configuration is taken up
 pub record Begun (p : Plan) (states : List ℕ) (v : List ℕ) (r : Head) (w : List ℕ) : Type 0 where
@@ -81,4 +82,5 @@ pub record Begun (p : Plan) (states : List ℕ) (v : List ℕ) (r : Head) (w : L
   pub arcs : r .arcs ≡ 0
   pub same-length : length w ≡ length v
   pub meaning : (arcs : List ℕ) → Explorable p states arcs (length v) → HoldsClosing (tablesIn p states arcs) (p .room .delays) (p .counts .states) v
+      → Chained (bucketBy (p .pairs .used) (p .room .states)) 320 298 (p .room .states) 0 v
       → Comes p states arcs r (searchFrom automata.sameConfig (starts (tableIn p states arcs) (pairsIn p) (viableIn p states arcs))) false w

@@ -2,18 +2,18 @@
 ghost use mathlib.Core.Path.{_≡_};
 ghost use Prim.Native.Nat.{_+_, _*_, _≤_, _<_};
 ghost use lib.ListN.{length};
-ghost use Rattle.configuration.specs.Configs.{GoodConfig};
+ghost use Rattle.adjacency.specs.Chains.{Chained};
+ghost use Rattle.configuration.specs.Configs.{configBytes, configAt, Row};
 ghost use Rattle.edges.specs.Edges.{edgeBytes};
-ghost use Rattle.rows.specs.Find.{entry, enterOf};
 ghost use Rattle.rows.specs.Kept.{keptRecord};
-ghost use Rattle.config_search.specs.Searching.{rowBytes, counted, Arrivable, Arrives, Visitable, Visits, Takable, TakesUp};
+ghost use Rattle.config_search.specs.Searching.{counted, Arrivable, Arrives, Visitable, Visits, Takable, TakesUp};
 ghost use Rattle.config_search.specs.Starting.{Admittable, Admits, Startable, Enters};
-use configuration::config::Config;
-use configuration::config::load_config;
-use configuration::config::start_config;
-use configuration::config::store_config;
+use crate::entry::enter_config;
+use configuration::config::load_row;
+use configuration::config::start_row;
 use edges::edge::EdgeRecord;
 use edges::edge::store_edge;
+use memory::bytes::get16;
 use memory::record::InputState;
 use memory::record::ResultState;
 use offers::offer::Kind;
@@ -21,7 +21,6 @@ use offers::offer::offer;
 use offers::offer::viable_config;
 use offers::plan::Plan;
 use rows::Entered;
-use rows::enter;
 use rows::keep;
 use workspace::room::Room;
 
@@ -33,16 +32,6 @@ pub struct Head {
     pub arcs: usize,
     pub late: bool,
     pub full: bool,
-}
-
-// The number of a configuration among those reached, entered behind them if it is not there.
-fn enter_config(work: &mut [u8], reached: usize, room: usize, used: usize, c: Config) -> Entered
-    requires { ⌜ (320 * room ≤ length (now work)) × (reached ≤ room) × (room ≤ 1024) × (GoodConfig used c) ⌝ }
-    ensures { λ r. ⌜ entry r (now (work .exit)) ≡ enterOf 0 reached room (rowBytes c) (now (work .entry)) ⌝ }
-{
-    let mut row = [0u8; 320];
-    store_config(&mut row, 0, c);
-    enter(work, 0, reached as u16, room as u16, &row)
 }
 
 // The record of the edge with this number, written where there is room for it.
@@ -72,14 +61,14 @@ impl Head {
         self
     }
 
-    // A step by the arc with number `j` to the configuration `to`.
-    fn arrive(mut self, plan: Plan, to: Config, j: usize, work: &mut [u8]) -> Head
-        requires { ⌜ Arrivable plan self to j (now work) ⌝ }
-        ensures { λ r. ⌜ Arrives plan self to j (now (work .entry)) r (now (work .exit)) ⌝ }
+    // A step by the arc with number `j` to the configuration in the row.
+    fn arrive(mut self, plan: Plan, row: &[u8], j: usize, work: &mut [u8]) -> Head
+        requires { ⌜ Arrivable plan self (configAt 0 (now row)) j (now work) × (configBytes (configAt 0 (now row)) ≡ now row) ⌝ }
+        ensures { λ r. ⌜ Arrives plan self (configAt 0 (now (row .entry))) j (now (work .entry)) r (now (work .exit)) ⌝ }
     {
         let room = plan.room;
         let pairs = plan.pairs;
-        match enter_config(work, self.reached, room.states, pairs.used, to) {
+        match enter_config(work, self.reached, room.states, pairs.used, row) {
             Entered::At(state) => self.note(plan, work, j, state),
             Entered::New(state) => {
                 self.reached += 1;
@@ -92,51 +81,66 @@ impl Head {
         }
     }
 
-    // The arc with number `j`, for the configuration `c` that is taken up.
-    fn visit(mut self, plan: Plan, c: Config, arcs: &[u8], j: usize, work: &mut [u8]) -> Head
-        requires { ⌜ Visitable plan self c (now arcs) j (now work) ⌝ }
-        ensures { λ r. ⌜ Visits plan self c (now (arcs .entry)) j (now (work .entry)) r (now (work .exit)) ⌝ }
+    // The arc with number `j`, for the configuration in `own`, which is taken up. The row is free to be written over.
+    fn visit(
+        mut self,
+        plan: Plan,
+        own: &[u8],
+        arcs: &[u8],
+        j: usize,
+        row: &mut [u8],
+        work: &mut [u8],
+    ) -> Head
+        requires { ⌜ Visitable plan self (configAt 0 (now own)) (now arcs) j (now work) × (length (now own) ≡ 298) × Row (plan .pairs .used) (now row) ⌝ }
+        ensures { λ r. ⌜ Visits plan self (configAt 0 (now (own .entry))) (now (arcs .entry)) j (now (work .entry)) r (now (work .exit)) × Row (plan .pairs .used) (now (row .exit)) ⌝ }
     {
-        let offered = offer(plan, c, arcs, j, work);
-        let kind = offered.kind;
-        let next = offered.config;
+        let kind = offer(plan, own, arcs, j, work, row);
         match kind {
             Kind::Nothing => self,
             Kind::Late => {
                 self.late = true;
                 self
             }
-            Kind::To => self.arrive(plan, next, j, work),
+            Kind::To => self.arrive(plan, row, j, work),
         }
     }
 
-    // The next configuration: all its arcs, unless the configurations are full.
-    pub fn take_up(mut self, plan: Plan, arcs: &[u8], work: &mut [u8]) -> Head
-        requires { ⌜ Takable plan self (now arcs) (now work) ⌝ }
+    // The next configuration: the arcs that leave its state, unless the configurations are full.
+    pub fn take_up(
+        mut self,
+        plan: Plan,
+        arcs: &[u8],
+        first: &[u16],
+        next: &[u16],
+        work: &mut [u8],
+    ) -> Head
+        requires { ⌜ Takable plan self (now arcs) (now work) × Chained (plan .counts .states) (plan .counts .arcs) (now arcs) (now first) (now next) ⌝ }
         ensures { λ r. ⌜ TakesUp plan self (now (arcs .entry)) (now (work .entry)) r (now (work .exit)) ⌝ }
     {
         let counts = plan.counts;
-        let c = load_config(work, 320 * self.taken);
-        let mut j: usize = 0;
+        let own = load_row(work, 320 * self.taken);
+        let mut row = start_row(InputState(0));
+        let state = get16(&own, 0) as usize;
+        let mut j = first[state] as usize;
         while j < counts.arcs {
-            self = self.visit(plan, c, arcs, j, work);
+            self = self.visit(plan, &own, arcs, j, &mut row, work);
             if self.full {
                 return self;
             }
-            j += 1;
+            j = next[j] as usize;
         }
         self.taken += 1;
         self
     }
 
-    // A configuration in which a path starts.
-    fn admit(mut self, plan: Plan, c: Config, work: &mut [u8]) -> Head
-        requires { ⌜ Admittable plan self c (now work) ⌝ }
-        ensures { λ r. ⌜ Admits plan self c (now (work .entry)) r (now (work .exit)) ⌝ }
+    // A configuration in which a path starts, in a row.
+    fn admit(mut self, plan: Plan, row: &[u8], work: &mut [u8]) -> Head
+        requires { ⌜ Admittable plan self (configAt 0 (now row)) (now work) × (configBytes (configAt 0 (now row)) ≡ now row) ⌝ }
+        ensures { λ r. ⌜ Admits plan self (configAt 0 (now (row .entry))) (now (work .entry)) r (now (work .exit)) ⌝ }
     {
         let room = plan.room;
         let pairs = plan.pairs;
-        match enter_config(work, self.reached, room.states, pairs.used, c) {
+        match enter_config(work, self.reached, room.states, pairs.used, row) {
             Entered::At(_) => self,
             Entered::New(_) => {
                 self.reached += 1;
@@ -157,10 +161,10 @@ impl Head {
         if states[10 * q] != 1 {
             return self;
         }
-        let c = start_config(InputState(q as u16));
-        if !viable_config(plan, c, work) {
+        let row = start_row(InputState(q as u16));
+        if !viable_config(plan, &row, work) {
             return self;
         }
-        self.admit(plan, c, work)
+        self.admit(plan, &row, work)
     }
 }

@@ -5,4 +5,6 @@ pub mod RecordLaws
 pub mod TestLaws
 pub mod StepLaws
 pub mod RoundLaws
+pub mod RowLaws
+pub mod FollowLaws
 pub mod SoundLaws

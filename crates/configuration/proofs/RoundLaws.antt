@@ -1,7 +1,6 @@
--- A configuration that was stored is loaded again, others stay, and its bytes and its meaning determine each other.
+-- The record of a configuration determines it, and so does what the configuration stands for.
 use Prim.Native.Nat.{ℕ, _+_, _-_, _≤_, _<_}
 use mathlib.Core.Path.{_≡_, refl, sym, ap, ap₂, _∙_}
-use mathlib.Core.Logic.{_⊎_, ⊎-elim, _↔_}
 use mathlib.Core.Bool.{Bool, true, false}
 use mathlib.Core.List.{List, [], _∷_, _++_, map, append-assoc, append-nil}
 use native.Mathlib.Omega.{arith}
@@ -9,20 +8,14 @@ use native.Mathlib.Nat.{add-zero, add-assoc}
 use lib.Dec.{eqb}
 use lib.ListN.{length, getD, take, drop, replicate, length-append, take-append-drop}
 use lib.Seq.{getD-append-add}
-use Rattle.automata.specs.Lists.{All, Decides, sameList}
-use Rattle.automata.specs.Leftover as automata
-use Rattle.automata.specs.Config as model
-use Rattle.automata.proofs.ListFacts.{numbers-decided, lists-decided}
-use Rattle.automata.proofs.TestFacts.{same-truth}
-use Rattle.automata.proofs.Configurations.{configs-decided}
-use Rattle.memory.specs.Region.{part, splice}
+use Rattle.automata.specs.Lists.{All}
+use Rattle.memory.specs.Region.{part}
 use Rattle.memory.specs.Endian.{le, toLe}
-use Rattle.memory.proofs.Laws.{part-part, getD-part, part-front, part-middle, part-append-right, part-splice-same, part-splice-before, part-splice-after}
+use Rattle.memory.proofs.Laws.{part-part, getD-part, part-front, part-middle, part-append-right}
 use Rattle.memory.proofs.EndianLaws.{le-toLe}
 use Rattle.configuration.specs.declared.leftover.Leftover.{Leftover}
-use Rattle.configuration.specs.declared.config.Config.{Config}
 use Rattle.configuration.specs.Leftovers.{flag, sided, leftoverAs, blank, outside, Good, leftoverBytes, leftoverAt, packed, leftoverOf}
-use Rattle.configuration.specs.Configs.{configAs, GoodConfig, configBytes, configAt}
+use Rattle.configuration.specs.Configs.{Config, configAs, GoodConfig, configBytes, configAt}
 use Rattle.configuration.proofs.ListLaws.{four-elements, All-take}
 use Rattle.configuration.proofs.TestLaws.{good-at, kept-length}
 
@@ -41,7 +34,7 @@ leftover-back k xs ys l e g =
     ap (λ (n : ℕ). part (n + 2) 72 (xs ++ b)) (sym e) ∙ part-append-right 2 72 xs b ∙ part-middle 2 72 (flag (l .second) ∷ l .len ∷ []) (l .symbols) ys refl (g .all-symbols) in
     λ i. record { second = p i; len = q i; symbols = r i }
 
-leftover-length : (l : Leftover) → Good l → length (leftoverBytes l) ≡ 74
+pub leftover-length : (l : Leftover) → Good l → length (leftoverBytes l) ≡ 74
 unfolding leftoverBytes
 leftover-length l g = omega (arith, g .all-symbols)
 
@@ -57,7 +50,7 @@ module _ (used : ℕ) (c : Config) (g : GoodConfig used c) where
       (omega (arith, leftover-length _ (each-good 0 (omega arith)), leftover-length _ (each-good 1 (omega arith)), leftover-length _ (each-good 2 (omega arith)), leftover-length _ (each-good 3 (omega arith))))
 
   -- the record alone
-  config-back : configAt 0 (configBytes c) ≡ c
+  pub config-back : configAt 0 (configBytes c) ≡ c
   unfolding configAt configBytes
   config-back =
       let z0 : List ℕ = toLe 2 (c .state .0) in
@@ -116,25 +109,6 @@ config-row at xs =
 pub load-row : (used at : ℕ) (c : Config) (w : List ℕ) → GoodConfig used c → part at 298 w ≡ configBytes c → configAt at w ≡ c
 load-row used at c w g e = config-row at w ∙ ap (configAt 0) e ∙ config-back used c g
 
-module _ (used at : ℕ) (c : Config) (w : List ℕ) (g : GoodConfig used c) (h : at + 298 ≤ length w) where
-  -- the bytes that a store leaves, and the configuration that is loaded from them
-  pub row-stored : part at 298 (splice at (configBytes c) w) ≡ configBytes c
-  row-stored =
-      let l : length (configBytes c) ≡ 298 = length-config used c g in
-      ap (λ (n : ℕ). part at n (splice at (configBytes c) w)) (sym l) ∙ part-splice-same at (configBytes c) w (omega arith)
-
-  pub load-stored : configAt at (splice at (configBytes c) w) ≡ c
-  load-stored = load-row used at c (splice at (configBytes c) w) g row-stored
-
-  -- every other record is what it was
-  pub row-other : (k : ℕ) → (k + 298 ≤ at) ⊎ (at + 298 ≤ k) → part k 298 (splice at (configBytes c) w) ≡ part k 298 w
-  row-other k d =
-      let l : length (configBytes c) ≡ 298 = length-config used c g in
-      ⊎-elim (λ b. part-splice-before k 298 at (configBytes c) w b (omega arith)) (λ b. part-splice-after k 298 at (configBytes c) w (omega arith) (omega arith)) d
-
-  pub load-other : (k : ℕ) → (k + 298 ≤ at) ⊎ (at + 298 ≤ k) → configAt k (splice at (configBytes c) w) ≡ configAt k w
-  load-other k d = config-row k (splice at (configBytes c) w) ∙ ap (configAt 0) (row-other k d) ∙ sym (config-row k w)
-
 -- ---- a good configuration is determined by what it stands for
 
 -- the one form of a leftover
@@ -164,32 +138,11 @@ leftovers-form : (ls : List Leftover) → All Good ls → map leftoverOf (map le
 leftovers-form [] g = refl
 leftovers-form (l ∷ ls) g = ap₂ (λ (x : Leftover) (xs : List Leftover). x ∷ xs) (leftover-form l (g .0)) (leftovers-form ls (g .1))
 
--- two tests that decide equal questions answer the same
-decided : {A B : Type 0} {s : A → A → Bool} {t : B → B → Bool} {x y : A} {u v : B} → Decides s → Decides t → (x ≡ y → u ≡ v) → (u ≡ v → x ≡ y) → s x y ≡ t u v
-decided {s = s} {t = t} {x = x} {y = y} {u = u} {v = v} ds dt f b =
-    same-truth (s x y) (t u v) (λ e. ap (t u) (sym (f (ds .sound x y e))) ∙ dt .complete u) (λ e. ap (s x) (sym (b (dt .sound u v e))) ∙ ds .complete x)
-
 module _ (used : ℕ) (c d : Config) (g : GoodConfig used c) (h : GoodConfig used d) where
   pub all-leftovers : (e : Config) → GoodConfig used e → map leftoverOf (configAs used e .leftovers) ++ replicate (4 - used) blank ≡ e .leftovers
   all-leftovers e k =
       ap₂ (λ (x y : List Leftover). x ++ y) (leftovers-form (take used (e .leftovers)) (All-take Good used (e .leftovers) (k .each))) (sym (k .blanks))
       ∙ take-append-drop used (e .leftovers)
 
-  pub same-meaning : configAs used c ≡ configAs used d → c ≡ d
-  same-meaning e =
-      let s : c .state .0 ≡ d .state .0 = ap (λ x. x .state) e in
-      let m : configAs used c .leftovers ≡ configAs used d .leftovers = ap (λ x. x .leftovers) e in
-      let ls : c .leftovers ≡ d .leftovers =
-      sym (all-leftovers c g) ∙ ap (λ (ms : List automata.Leftover). map leftoverOf ms ++ replicate (4 - used) blank) m ∙ all-leftovers d h in
-      λ i. record { state = record { 0 = s i }; leftovers = ls i }
-
   pub same-bytes : configBytes c ≡ configBytes d → c ≡ d
   same-bytes e = sym (config-back used c g) ∙ ap (configAt 0) e ∙ config-back used d h
-
-  -- the bytes and the meaning determine each other
-  pub bytes-meaning : (configBytes c ≡ configBytes d) ↔ (configAs used c ≡ configAs used d)
-  bytes-meaning = (λ e. ap (configAs used) (same-bytes e), λ e. ap configBytes (same-meaning e))
-
-  -- so the test on bytes is the test on configurations
-  pub same-tests : model.sameConfig (configAs used c) (configAs used d) ≡ sameList (configBytes c) (configBytes d)
-  same-tests = decided configs-decided (lists-decided eqb numbers-decided) (λ e. ap configBytes (same-meaning e)) (λ e. ap (configAs used) (same-bytes e))

@@ -19,9 +19,8 @@ use Rattle.memory.specs.Region.{part}
 use Rattle.memory.specs.Endian.{le}
 use Rattle.memory.specs.Pairs.{Named}
 use Rattle.memory.specs.declared.pair.PairList.{PairList}
-use Rattle.configuration.specs.declared.config.Config.{Config}
 use Rattle.configuration.specs.Leftovers.{outside}
-use Rattle.configuration.specs.Configs.{GoodConfig}
+use Rattle.configuration.specs.Configs.{Config, GoodConfig}
 use Rattle.configuration.specs.Steps.{labelPlace, Reads, Followable}
 
 -- single places one after the other

@@ -23,9 +23,8 @@ use Rattle.memory.specs.declared.pair.PairList.{PairList}
 use Rattle.memory.specs.declared.record.Label.{Label}
 use Rattle.configuration.specs.declared.leftover.Leftover.{Leftover}
 use Rattle.configuration.specs.declared.leftover.Advanced.{Advanced}
-use Rattle.configuration.specs.declared.config.Config.{Config}
 use Rattle.configuration.specs.Leftovers.{leftoverAs, labelOf, blank, outside, Good, advancedAs, Advances}
-use Rattle.configuration.specs.Configs.{GoodConfig, Starts}
+use Rattle.configuration.specs.Configs.{Config, GoodConfig, Starts}
 use Rattle.configuration.specs.Steps.{labelPlace, labelAt, pairAfter, Reads, Followable, Follows}
 use Rattle.configuration.proofs.ListLaws.{drop-replicate, All-set}
 
@@ -88,10 +87,10 @@ ended : (at : ℕ) (arcs : List ℕ) (xs : List automata.Leftover) (ps : List Pa
 unfolding allAfter
 ended at arcs xs ps ls e f = rw (e, f) (ap some (append-nil xs))
 
-not-true : (b : Bool) → not b ≡ true → b ≡ false
+pub not-true : (b : Bool) → not b ≡ true → b ≡ false
 not-true b e = sym (Bool·not-not b) ∙ ap not e
 
-not-false : (b : Bool) → not b ≡ false → b ≡ true
+pub not-false : (b : Bool) → not b ≡ false → b ≡ true
 not-false b e = sym (Bool·not-not b) ∙ ap not e
 
 -- ---- the loop over the pairs
@@ -165,12 +164,12 @@ module _ (arcs : List ℕ) (at : ℕ) (c : Config) (ps : PairList) (f : Followab
           ∙ r .rest;
     })
 
-    pub follows-none : not (b .compatible) ≡ true → (q : ℕ) (d : Config) → Starts q d → Follows c arcs at ps (record { compatible = false; config = d })
-    follows-none e q d s = record {
+    pub follows-none : not (b .compatible) ≡ true → (d : Config) → GoodConfig (ps .used) d → Follows c arcs at ps (record { compatible = false; config = d })
+    follows-none e d s = record {
       meaning = λ tapes D a n w.
           sym (ap (Option·map (λ ls. record { state = a .target; leftovers = ls }))
           (all-after at arcs tapes D a w (take (ps .used) (ps .pairs)) (take (ps .used) (c .leftovers)) (named-all tapes ps n) ∙ stopped (not-true (b .compatible) e)));
-      good = s .good (ps .used);
+      good = s;
     }
 
   pub follows-some : (next : Config) (i : ℕ) → Progress arcs at c ps next i → ps .used ≤ i → Follows c arcs at ps (record { compatible = true; config = next })

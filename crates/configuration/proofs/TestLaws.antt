@@ -7,20 +7,18 @@ use mathlib.Core.List.{List, [], _∷_, map}
 use native.Mathlib.Omega.{arith}
 use native.Mathlib.Numerals.{add-one}
 use lib.Dec.{ltb}
-use lib.ListN.{length, getD, getElem?, take, drop, replicate, drop-of-length-le, length-map, length-replicate}
+use lib.ListN.{length, getD, getElem?, take, drop, replicate, drop-of-length-le, length-map}
 use lib.Seq.{drop-cons, getD-take, length-take-le}
-use borrow.Author.Tests.{lt-ltb, le-ltb, ltb-false}
-use Rattle.automata.specs.Lists.{or, and, all, All, sameList}
+use borrow.Author.Tests.{lt-ltb, le-ltb}
+use Rattle.automata.specs.Lists.{or, and, All}
 use Rattle.automata.specs.TapePair.{Pair, TapePair, limited}
 use Rattle.automata.specs.Leftover as automata
-use Rattle.automata.specs.Config.{tooLong, noLeftovers}
+use Rattle.automata.specs.Config.{tooLong}
 use Rattle.automata.proofs.RecordFacts.{All-at}
-use Rattle.automata.proofs.TestFacts.{or-false}
 use Rattle.memory.specs.declared.record.InputState.{InputState}
 use Rattle.configuration.specs.declared.leftover.Leftover.{Leftover}
-use Rattle.configuration.specs.declared.config.Config.{Config}
 use Rattle.configuration.specs.Leftovers.{sided, leftoverAs, blank, outside, Good, onTape}
-use Rattle.configuration.specs.Configs.{configAs, GoodConfig, Starts, TellsLong, lengthsOn}
+use Rattle.configuration.specs.Configs.{Config, configAs, GoodConfig, Starts, TellsLong, lengthsOn}
 use Rattle.configuration.proofs.StripLaws.{blank-good}
 use Rattle.configuration.proofs.ListLaws.{drop-replicate, four-elements, All-take}
 
@@ -98,57 +96,6 @@ module _ (used limit : ℕ) (c : Config) (g : GoodConfig used c) (h : used ≤ 4
   pub longer-none : (i : ℕ) → used ≤ i → anyLonger limit (drop i (take used (c .leftovers))) ≡ false
   unfolding anyLonger
   longer-none i k = let m : length (take used (c .leftovers)) ≤ i = omega (arith, count) in ap (anyLonger limit) (drop-of-length-le (take used (c .leftovers)) m)
-
--- ---- what a limit says of the lengths
-
--- where no leftover is longer, each is as short
-none-longer : (limit h : ℕ) (ls : List Leftover) → h < length ls → anyLonger limit ls ≡ false → getD ls h outside .len ≤ limit
-unfolding anyLonger
-none-longer limit h [] k e = absurd (omega arith)
-none-longer limit zero (l ∷ ls) k e = ltb-false limit (l .len) (or-false (ltb limit (l .len)) (anyLonger limit ls) e .0)
-none-longer limit (suc h) (l ∷ ls) k e = none-longer limit h ls (omega arith) (or-false (ltb limit (l .len)) (anyLonger limit ls) e .1)
-
-pub short-each : (used limit : ℕ) (c : Config) (ps : List Pair) → GoodConfig used c → used ≤ 4 → length ps ≡ used → tooLong (limited limit ps) (configAs used c .leftovers) ≡ false
-    → (h : ℕ) → h < used → getD (c .leftovers) h outside .len ≤ limit
-short-each used limit c ps g k e f h l =
-    let m : h < length (take used (c .leftovers)) = omega (arith, count used limit c g k) in
-    rw (getD-take used (c .leftovers) h outside l) at (none-longer limit h (take used (c .leftovers)) m (sym (taken-is used limit c g k ps e) ∙ f))
-
--- at the start nothing is too long
-pub start-short : (D : ℕ) (ps : List Pair) → tooLong (limited D ps) (map (λ p. automata.nothing) (limited D ps)) ≡ false
-start-short D [] = refl
-start-short D (p ∷ ps) = rw (le-ltb D 0 (omega arith)) (start-short D ps)
-
--- ---- no leftovers
-same-nil : (xs : List ℕ) → sameList xs [] ≡ not (ltb 0 (length xs))
-same-nil [] = sym (ap not (le-ltb 0 0 (omega arith)))
-same-nil (x ∷ xs) = sym (ap not (lt-ltb 0 (length (x ∷ xs)) (omega arith)))
-
-and-all : (b : Bool) → and b true ≡ b
-and-all true = refl
-and-all false = refl
-
-empty-is : (l : Leftover) → Good l → automata.sameLeftover (leftoverAs l) automata.nothing ≡ not (ltb 0 (l .len))
-empty-is l g = go (l .second)
-  where
-    go : (b : Bool) → automata.sameLeftover (sided b (take (l .len) (l .symbols))) automata.nothing ≡ not (ltb 0 (l .len))
-    go false = rw (same-nil (take (l .len) (l .symbols)), kept-length l g) (and-all (not (ltb 0 (l .len))))
-    go true = rw (same-nil (take (l .len) (l .symbols)), kept-length l g)
-
-not-or : (a b : Bool) → and (not a) (not b) ≡ not (or a b)
-not-or true b = refl
-not-or false b = refl
-
-empties-are : (ls : List Leftover) → All Good ls → all (λ l. automata.sameLeftover l automata.nothing) (map leftoverAs ls) ≡ not (anyLonger 0 ls)
-unfolding anyLonger
-empties-are [] g = refl
-empties-are (l ∷ ls) g = ap₂ and (empty-is l (g .0)) (empties-are ls (g .1)) ∙ not-or (ltb 0 (l .len)) (anyLonger 0 ls)
-
-pub none-left : (used : ℕ) (c : Config) (r : Bool) → GoodConfig used c → used ≤ 4 → TellsLong used 0 c r → not r ≡ noLeftovers (configAs used c)
-none-left used c r g h t =
-    let ps : List Pair = replicate used (record { first = 0; second = 0 }) in
-    let e : length ps ≡ used = length-replicate used (record { first = 0; second = 0 }) in
-    ap not (t ps e ∙ taken-is used 0 c g h ps e) ∙ sym (empties-are (take used (c .leftovers)) (All-take Good used (c .leftovers) (g .each)))
 
 -- ---- the lengths of the leftovers
 

@@ -2,15 +2,22 @@
 use mathlib.Core.Path.{_≡_}
 use mathlib.Core.Bool.{Bool}
 use mathlib.Core.List.{List, [], _∷_, _++_, map}
-use Prim.Native.Nat.{ℕ, _+_, _-_, _≤_, _<_}
+use Prim.Native.Nat.{ℕ, _+_, _-_, _*_, _≤_, _<_}
 use lib.ListN.{length, getD, take, drop, replicate}
 use Rattle.automata.specs.Lists.{All}
 use Rattle.automata.specs.TapePair.{Pair, TapePair, limited}
 use Rattle.automata.specs.Config as automata
 use Rattle.memory.specs.Region.{part}
 use Rattle.memory.specs.Endian.{le, toLe}
-use Rattle.configuration.specs.declared.config.Config.{Config}
+use Rattle.memory.specs.declared.record.InputState.{InputState}
+use Rattle.configuration.specs.declared.leftover.Leftover.{Leftover}
 use Rattle.configuration.specs.Leftovers.{onTape, leftoverAs, blank, outside, Good, leftoverBytes, leftoverAt}
+
+-- what the bytes of a configuration say: a state of the table read, and what is left of each of four pairs of tapes;
+-- blank past the pairs used
+pub record Config : Type 0 where
+  pub state : InputState
+  pub leftovers : List Leftover
 
 -- the configuration of so many pairs
 abbrev pub configAs : ℕ → Config → automata.Config
@@ -39,6 +46,15 @@ configAt at xs = record {
   state = record { 0 = le (part at 2 xs) };
   leftovers = leftoverAt (at + 2) xs ∷ leftoverAt (at + 76) xs ∷ leftoverAt (at + 150) xs ∷ leftoverAt (at + 224) xs ∷ [];
 }
+
+-- where the leftover of a pair stands in a record
+abbrev pub slot : ℕ → ℕ
+slot i = 2 + 74 * i
+
+-- the bytes are the record of a configuration of so many pairs in its one form
+pub record Row (used : ℕ) (row : List ℕ) : Type 0 where
+  pub good : GoodConfig used (configAt 0 row)
+  pub bytes : configBytes (configAt 0 row) ≡ row
 
 -- the configuration in which a path starts at state q, for however many pairs
 pub record Starts (q : ℕ) (r : Config) : Type 0 where

@@ -1,5 +1,6 @@
 -- The step of a configuration by an arc, read from its record in a table's bytes.
 use mathlib.Core.Path.{_≡_}
+use mathlib.Core.Bool.{Bool, true, false}
 use mathlib.Core.Option.{Option, some}
 use mathlib.Core.List.{List}
 use Prim.Native.Nat.{ℕ, _+_, _-_, _*_, _≤_, _<_}
@@ -9,17 +10,15 @@ use Rattle.automata.specs.Automaton.{Arc, labelOn}
 use Rattle.automata.specs.TapePair.{limited}
 use Rattle.automata.specs.Leftover as leftover
 use Rattle.automata.specs.Config as automata
-use Rattle.memory.specs.Region.{part}
+use Rattle.memory.specs.Region.{part, splice}
 use Rattle.memory.specs.Endian.{le}
-use Rattle.memory.specs.Pairs.{Named, noPair, pairsAs}
+use Rattle.memory.specs.Pairs.{Named, Within, noPair, pairsAs}
 use Rattle.memory.specs.declared.record.Label.{Label}
 use Rattle.memory.specs.declared.pair.Pair.{Pair}
 use Rattle.memory.specs.declared.pair.PairList.{PairList}
 use Rattle.configuration.specs.declared.leftover.Leftover.{Leftover}
-use Rattle.configuration.specs.declared.config.Config.{Config}
-use Rattle.configuration.specs.declared.step.Followed.{Followed}
-use Rattle.configuration.specs.Leftovers.{outside, leftoverAs, labelOf}
-use Rattle.configuration.specs.Configs.{configAs, GoodConfig}
+use Rattle.configuration.specs.Leftovers.{outside, leftoverAs, labelOf, leftoverBytes, leftoverAt, Advances}
+use Rattle.configuration.specs.Configs.{Config, configAs, GoodConfig, configAt, configBytes, slot}
 
 -- where the label on a tape, counted from 0, stands in the record of an arc
 abbrev pub labelPlace : ℕ → ℕ → ℕ
@@ -50,6 +49,11 @@ pub record Followable (c : Config) (arcs : List ℕ) (at : ℕ) (ps : PairList) 
   pub second-fits : (h : ℕ) → h < ps .used → getD arcs (labelPlace at (getD (ps .pairs) h noPair .second - 1)) 0 ≤ 8
   pub short : (h : ℕ) → h < ps .used → getD (c .leftovers) h outside .len ≤ 64
 
+-- the configuration after an arc, if the tapes of every pair are still compatible
+pub record Followed : Type 0 where
+  pub compatible : Bool
+  pub config : Config
+
 -- what an answer stands for, of so many pairs
 abbrev pub followedAs : ℕ → Followed → Option automata.Config
 followedAs used r = guard (r .compatible) (some (configAs used (r .config)))
@@ -59,3 +63,29 @@ pub record Follows (c : Config) (arcs : List ℕ) (at : ℕ) (ps : PairList) (r 
   pub meaning : (tapes D : ℕ) (a : Arc ℕ) → Named tapes ps → Reads arcs at tapes a
       → followedAs (ps .used) r ≡ automata.follow (limited D (pairsAs ps)) (configAs (ps .used) c) a
   pub good : GoodConfig (ps .used) (r .config)
+
+-- ---- in records
+
+-- what advancing pair i asks of the bytes of a configuration, of an arc and of the row
+pub record Advanceable (own arcs : List ℕ) (at : ℕ) (p : Pair) (i : ℕ) (row : List ℕ) : Type 0 where
+  pub within : i < 4
+  pub whole : length own ≡ 298
+  pub row-whole : length row ≡ 298
+  pub arc-whole : at + 80 ≤ length arcs
+  pub named : Within 8 p
+  pub short : leftoverAt (slot i) own .len ≤ 64
+  pub first-fits : getD arcs (labelPlace at (p .first - 1)) 0 ≤ 8
+  pub second-fits : getD arcs (labelPlace at (p .second - 1)) 0 ≤ 8
+
+-- o is what is left of a pair: written at its place where the tapes are compatible, else nothing is
+pub record AdvancesAt (o : Option leftover.Leftover) (at : ℕ) (v : List ℕ) (r : Bool) (w : List ℕ) : Type 0 where
+  pub leftover : Leftover
+  pub advances : Advances o (record { compatible = r; leftover = leftover })
+  pub stays : r ≡ false → w ≡ v
+  pub stored : r ≡ true → w ≡ splice at (leftoverBytes leftover) v
+
+-- the row holds the configuration after the arc of the one in own, if the tapes of every pair are still compatible, and
+-- some configuration anyway
+pub record FollowsIn (own arcs : List ℕ) (at : ℕ) (ps : PairList) (r : Bool) (row : List ℕ) : Type 0 where
+  pub step : Follows (configAt 0 own) arcs at ps (record { compatible = r; config = configAt 0 row })
+  pub bytes : configBytes (configAt 0 row) ≡ row

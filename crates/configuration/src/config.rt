@@ -1,78 +1,44 @@
-// Configurations by value: their records in work space, and what is asked of them.
+// Configurations in their records: the state, and what is left of each of four pairs of tapes; and what is asked of
+// them.
 ghost use mathlib.Core.Path.{_≡_};
 ghost use mathlib.Core.Bool.{true, false};
 ghost use Prim.Native.Nat.{_+_, _≤_};
 ghost use lib.ListN.{length};
 ghost use Rattle.automata.specs.Lists.{All};
-ghost use Rattle.automata.specs.Config as automata;
-ghost use Rattle.memory.specs.Region.{splice};
-ghost use Rattle.configuration.specs.Leftovers.{Good};
-ghost use Rattle.configuration.specs.Configs.{GoodConfig, Starts, TellsLong, configAs, lengthsOn, configBytes, configAt};
-use crate::leftover::Leftover;
-use crate::leftover::blank_leftover;
-use crate::leftover::length_on;
-use crate::leftover::load_leftover;
-use crate::leftover::store_leftover;
-use memory::bytes::get16;
+ghost use Rattle.memory.specs.Region.{part};
+ghost use Rattle.configuration.specs.Leftovers.{Good, onTape, leftoverAs, leftoverAt};
+ghost use Rattle.configuration.specs.Configs.{GoodConfig, Starts, TellsLong, lengthsOn, configBytes, configAt};
+use memory::bytes::copy_into;
 use memory::bytes::put16;
 use memory::record::InputState;
 
-// A state of the table read, and what is left of each pair of tapes; blank past the pairs that are used.
-pub struct Config {
-    pub state: InputState,
-    pub leftovers: [Leftover; 4],
+// The record of the configuration in which a path starts.
+pub fn start_row(state: InputState) -> [u8; 298]
+    ensures { λ r. ⌜ Starts (state .0) (configAt 0 r) × (configBytes (configAt 0 r) ≡ r) ⌝ }
+{
+    let mut row = [0u8; 298];
+    put16(&mut row, 0, state.0);
+    row
 }
 
-// The configuration whose record stands at `at`.
-pub fn load_config(work: &[u8], at: usize) -> Config
+// The bytes of the record at `at`.
+pub fn load_row(work: &[u8], at: usize) -> [u8; 298]
     requires { ⌜ at + 298 ≤ length (now work) ⌝ }
-    ensures { λ r. ⌜ r ≡ configAt at (now (work .entry)) ⌝ }
+    ensures { λ r. ⌜ r ≡ part at 298 (now (work .entry)) ⌝ }
 {
-    let state = InputState(get16(work, at));
-    let a = load_leftover(work, at + 2);
-    let b = load_leftover(work, at + 76);
-    let c = load_leftover(work, at + 150);
-    let d = load_leftover(work, at + 224);
-    let leftovers = [a, b, c, d];
-    Config { state, leftovers }
-}
-
-// The record of `c` written at `at`.
-pub fn store_config(work: &mut [u8], at: usize, c: Config)
-    requires { ⌜ at + 298 ≤ length (now work) ⌝ }
-    ensures { λ _. ⌜ now (work .exit) ≡ splice at (configBytes c) (now (work .entry)) ⌝ }
-{
-    put16(work, at, c.state.0);
-    let p = c.leftovers[0];
-    store_leftover(work, at + 2, p);
-    let q = c.leftovers[1];
-    store_leftover(work, at + 76, q);
-    let r = c.leftovers[2];
-    store_leftover(work, at + 150, r);
-    let s = c.leftovers[3];
-    store_leftover(work, at + 224, s);
-}
-
-// The configuration in which a path starts.
-pub fn start_config(state: InputState) -> Config
-    ensures { λ r. ⌜ Starts (state .0) r ⌝ }
-{
-    let leftover = blank_leftover();
-    Config {
-        state,
-        leftovers: [leftover; 4],
-    }
+    let mut row = [0u8; 298];
+    copy_into(&mut row, 0, &work[at..at + 298]);
+    row
 }
 
 // Whether some leftover of the first `used` pairs is longer than the limit.
-pub fn too_long(c: Config, used: usize, limit: u8) -> bool
-    requires { ⌜ (GoodConfig used c) × (used ≤ 4) ⌝ }
-    ensures { λ r. ⌜ TellsLong used limit c r ⌝ }
+pub fn too_long(row: &[u8], used: usize, limit: u8) -> bool
+    requires { ⌜ (GoodConfig used (configAt 0 (now row))) × (used ≤ 4) × (length (now row) ≡ 298) ⌝ }
+    ensures { λ r. ⌜ TellsLong used limit (configAt 0 (now (row .entry))) r ⌝ }
 {
     let mut i = 0;
     while i < used {
-        let l = c.leftovers[i];
-        if limit < l.len {
+        if limit < row[3 + 74 * i] {
             return true;
         }
         i += 1;
@@ -80,42 +46,39 @@ pub fn too_long(c: Config, used: usize, limit: u8) -> bool
     false
 }
 
-// Whether all leftovers of the first `used` pairs are empty.
-pub fn no_leftovers(c: Config, used: usize) -> bool
-    requires { ⌜ (GoodConfig used c) × (used ≤ 4) ⌝ }
-    ensures { λ r. ⌜ r ≡ automata.noLeftovers (configAs used c) ⌝ }
+// How many symbols of the leftover at `at` are on the second tape, or on the first.
+fn length_on(second: bool, row: &[u8], at: usize) -> u8
+    requires { ⌜ (at + 74 ≤ length (now row)) × Good (leftoverAt at (now row)) ⌝ }
+    ensures { λ r. ⌜ r ≡ length (onTape second (leftoverAs (leftoverAt at (now (row .entry))))) ⌝ }
 {
-    !too_long(c, used, 0)
+    let ahead = row[at] == 1;
+    if ahead == second { row[at + 1] } else { 0 }
 }
 
 // The lengths of the four leftovers on the second tapes, or on the first.
-fn lengths_on(second: bool, c: Config) -> [u8; 4]
-    requires { ⌜ (length (c .leftovers) ≡ 4) × (All Good (c .leftovers)) ⌝ }
-    ensures { λ r. ⌜ r ≡ lengthsOn second c ⌝ }
+fn lengths_on(second: bool, row: &[u8]) -> [u8; 4]
+    requires { ⌜ (length (now row) ≡ 298) × All Good (configAt 0 (now row) .leftovers) ⌝ }
+    ensures { λ r. ⌜ r ≡ lengthsOn second (configAt 0 (now (row .entry))) ⌝ }
 {
-    let p = c.leftovers[0];
-    let q = c.leftovers[1];
-    let r = c.leftovers[2];
-    let s = c.leftovers[3];
-    let w = length_on(second, p);
-    let x = length_on(second, q);
-    let y = length_on(second, r);
-    let z = length_on(second, s);
+    let w = length_on(second, row, 2);
+    let x = length_on(second, row, 76);
+    let y = length_on(second, row, 150);
+    let z = length_on(second, row, 224);
     [w, x, y, z]
 }
 
 // The lengths of the leftovers on the first tape of each pair.
-pub fn first_lengths(c: Config) -> [u8; 4]
-    requires { ⌜ (length (c .leftovers) ≡ 4) × (All Good (c .leftovers)) ⌝ }
-    ensures { λ r. ⌜ r ≡ lengthsOn false c ⌝ }
+pub fn first_lengths(row: &[u8]) -> [u8; 4]
+    requires { ⌜ (length (now row) ≡ 298) × All Good (configAt 0 (now row) .leftovers) ⌝ }
+    ensures { λ r. ⌜ r ≡ lengthsOn false (configAt 0 (now (row .entry))) ⌝ }
 {
-    lengths_on(false, c)
+    lengths_on(false, row)
 }
 
 // The lengths of the leftovers on the second tape of each pair.
-pub fn second_lengths(c: Config) -> [u8; 4]
-    requires { ⌜ (length (c .leftovers) ≡ 4) × (All Good (c .leftovers)) ⌝ }
-    ensures { λ r. ⌜ r ≡ lengthsOn true c ⌝ }
+pub fn second_lengths(row: &[u8]) -> [u8; 4]
+    requires { ⌜ (length (now row) ≡ 298) × All Good (configAt 0 (now row) .leftovers) ⌝ }
+    ensures { λ r. ⌜ r ≡ lengthsOn true (configAt 0 (now (row .entry))) ⌝ }
 {
-    lengths_on(true, c)
+    lengths_on(true, row)
 }

@@ -5,7 +5,7 @@ ghost use Prim.Native.Nat.{_+_, _≤_};
 ghost use lib.ListN.{length, take};
 ghost use Rattle.automata.specs.Leftover as automata;
 ghost use Rattle.memory.specs.Region.{splice};
-ghost use Rattle.configuration.specs.Leftovers.{blank, flag, Good, onTape, leftoverAs, labelOf, leftoverBytes, leftoverAt, packed, advancedOf, turned, agrees, Advances};
+ghost use Rattle.configuration.specs.Leftovers.{blank, flag, leftoverAs, labelOf, leftoverBytes, leftoverAt, packed, advancedOf, turned, agrees, Advances};
 use memory::bytes::copy_into;
 use memory::record::Label;
 
@@ -157,12 +157,4 @@ pub fn store_leftover(work: &mut [u8], at: usize, l: Leftover)
     work[at + 1] = l.len;
     let symbols = l.symbols;
     copy_into(work, at + 2, &symbols);
-}
-
-// How many symbols are left on the second tape, or on the first.
-pub fn length_on(second: bool, l: Leftover) -> u8
-    requires { ⌜ Good l ⌝ }
-    ensures { λ r. ⌜ r ≡ length (onTape second (leftoverAs l)) ⌝ }
-{
-    if l.second == second { l.len } else { 0 }
 }

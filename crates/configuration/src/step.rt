@@ -1,27 +1,22 @@
 // The step of a configuration by an arc, whose record stands in a table's bytes.
 ghost use mathlib.Core.Path.{_≡_};
-ghost use Prim.Native.Nat.{_+_, _-_, _≤_, _<_};
-ghost use lib.ListN.{length, getD, set};
+ghost use Prim.Native.Nat.{_+_, _-_, _≤_};
+ghost use lib.ListN.{length, getD};
 ghost use Rattle.memory.specs.Pairs.{Within};
-ghost use Rattle.configuration.specs.Leftovers.{Advances};
-ghost use Rattle.configuration.specs.Steps.{labelPlace, labelAt, pairAfter, Followable, Follows};
-use crate::config::Config;
-use crate::config::start_config;
+ghost use Rattle.configuration.specs.Leftovers.{Advances, leftoverAt};
+ghost use Rattle.configuration.specs.Configs.{configAt, slot, Row};
+ghost use Rattle.configuration.specs.Steps.{labelPlace, labelAt, pairAfter, Advanceable, AdvancesAt, Followable, FollowsIn};
 use crate::leftover::Advanced;
 use crate::leftover::Leftover;
 use crate::leftover::advance;
+use crate::leftover::load_leftover;
+use crate::leftover::store_leftover;
 use memory::bytes::copy_into;
 use memory::bytes::get16;
+use memory::bytes::put16;
 use memory::pair::Pair;
 use memory::pair::PairList;
-use memory::record::InputState;
 use memory::record::Label;
-
-// The configuration after an arc, if the tapes of every pair are still compatible.
-pub struct Followed {
-    pub compatible: bool,
-    pub config: Config,
-}
 
 // The label on a tape, counted from 1, of the arc whose record stands at `at`.
 pub fn label_at(arcs: &[u8], at: usize, tape: u8) -> Label
@@ -48,40 +43,37 @@ fn advance_pair(l: Leftover, arcs: &[u8], at: usize, p: Pair) -> Advanced
     advance(l, x, y)
 }
 
-// The configuration with another leftover of one pair.
-fn with_leftover(c: Config, i: usize, l: Leftover) -> Config
-    requires { ⌜ i < 4 ⌝ }
-    ensures { λ r. ⌜ r ≡ record { state = c .state; leftovers = set (c .leftovers) i l } ⌝ }
+// What is left of pair i of the configuration in `own` after the arc, written in its place of the row. Tells whether
+// its tapes are compatible.
+fn advance_slot(own: &[u8], arcs: &[u8], at: usize, p: Pair, i: usize, row: &mut [u8]) -> bool
+    requires { ⌜ Advanceable (now own) (now arcs) at p i (now row) ⌝ }
+    ensures { λ r. ⌜ AdvancesAt (pairAfter at (now (arcs .entry)) p (leftoverAt (slot i) (now (own .entry)))) (slot i) (now (row .entry)) r (now (row .exit)) ⌝ }
 {
-    let mut next = c;
-    next.leftovers[i] = l;
-    next
+    let l = load_leftover(own, 2 + 74 * i);
+    let a = advance_pair(l, arcs, at, p);
+    if !a.compatible {
+        return false;
+    }
+    let left = a.leftover;
+    store_leftover(row, 2 + 74 * i, left);
+    true
 }
 
-// The configuration after the arc whose record stands at `at`.
-pub fn follow(c: Config, arcs: &[u8], at: usize, pairs: PairList) -> Followed
-    requires { ⌜ Followable c (now arcs) at pairs ⌝ }
-    ensures { λ r. ⌜ Follows c (now (arcs .entry)) at pairs r ⌝ }
+// The configuration after the arc whose record stands at `at`, written over the row. Tells whether the tapes of every
+// pair are compatible.
+pub fn follow(own: &[u8], arcs: &[u8], at: usize, pairs: PairList, row: &mut [u8]) -> bool
+    requires { ⌜ Followable (configAt 0 (now own)) (now arcs) at pairs × (length (now own) ≡ 298) × Row (pairs .used) (now row) ⌝ }
+    ensures { λ r. ⌜ FollowsIn (now (own .entry)) (now (arcs .entry)) at pairs r (now (row .exit)) ⌝ }
 {
     let target = get16(arcs, at + 2);
-    let mut next = start_config(InputState(target));
+    put16(row, 0, target);
     let mut i = 0;
     while i < pairs.used {
-        let l = c.leftovers[i];
         let p = pairs.pairs[i];
-        let a = advance_pair(l, arcs, at, p);
-        if !a.compatible {
-            let config = start_config(InputState(target));
-            return Followed {
-                compatible: false,
-                config,
-            };
+        if !advance_slot(own, arcs, at, p, i, row) {
+            return false;
         }
-        next = with_leftover(next, i, a.leftover);
         i += 1;
     }
-    Followed {
-        compatible: true,
-        config: next,
-    }
+    true
 }

@@ -4,6 +4,7 @@ use memory::bytes::get16;
 use memory::bytes::put16;
 use relaxation::edge_at;
 use relaxation::least_delays;
+use relaxation::listing::list_arcs;
 ghost use mathlib.Core.Path.{_≡_};
 ghost use mathlib.Core.Bool.{true};
 ghost use Prim.Native.Nat.{_+_, _*_, _≤_};
@@ -67,11 +68,11 @@ fn joined(arcs: &[u8], count: usize, states: u16) -> bool
 }
 
 // The closing delays of one pair.
-fn both_ways(states: &[u8], arcs: &[u8], count: usize, work: &mut [u8], at: usize)
+fn both_ways(states: &[u8], arcs: &[u8], count: usize, order: &[u16], work: &mut [u8], at: usize)
     requires { ⌜ Readable (now states) 1024 (now arcs) count × (at + 65480 ≤ length (now work)) ⌝ }
 {
-    least_delays(states, 1024, arcs, count, 0, 1, work, at);
-    least_delays(states, 1024, arcs, count, 1, 0, work, at + 4);
+    least_delays(states, 1024, arcs, count, 0, 1, order, work, at);
+    least_delays(states, 1024, arcs, count, 1, 0, order, work, at + 4);
 }
 
 // The delays of state 0 on the first pair, as they are held.
@@ -84,19 +85,28 @@ fn print_first(work: &[u8])
     io::write_all(1, b"\n");
 }
 
-// Four pairs, where the arcs join states.
+// Four pairs, with the arcs listed.
+fn four_pairs(states: &[u8], arcs: &[u8], count: usize, order: &[u16])
+    requires { ⌜ Readable (now states) 1024 (now arcs) count ⌝ }
+{
+    let mut work = io::large_buffer();
+    both_ways(states, arcs, count, order, &mut work, 0);
+    both_ways(states, arcs, count, order, &mut work, 8);
+    both_ways(states, arcs, count, order, &mut work, 16);
+    both_ways(states, arcs, count, order, &mut work, 24);
+    print_first(&work);
+}
+
+// The same, where the arcs join states.
 fn run(states: &[u8], arcs: &[u8], count: usize)
-    requires { ⌜ (10240 ≤ length (now states)) × (80 * count ≤ length (now arcs)) ⌝ }
+    requires { ⌜ (10240 ≤ length (now states)) × (80 * count ≤ length (now arcs)) × (count ≤ 8192) ⌝ }
 {
     if !joined(arcs, count, 1024) {
         return;
     }
-    let mut work = io::large_buffer();
-    both_ways(states, arcs, count, &mut work, 0);
-    both_ways(states, arcs, count, &mut work, 8);
-    both_ways(states, arcs, count, &mut work, 16);
-    both_ways(states, arcs, count, &mut work, 24);
-    print_first(&work);
+    let mut order = [65535u16; 8192];
+    list_arcs(states, 1024, arcs, count, &mut order);
+    four_pairs(states, arcs, count, &order);
 }
 
 // A chain, and then the same chain closed to a loop that adds and takes off: every delay becomes endless.

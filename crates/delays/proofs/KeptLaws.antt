@@ -20,15 +20,16 @@ use Rattle.relaxation.proofs.ColumnLaws.{column-ext}
 use Rattle.memory.specs.declared.pair.PairList.{PairList}
 use Rattle.delays.specs.ClosingRegion.{HoldsClosing, WritesClosing}
 
-behind-outside : (base n i : ℕ) → base + 64 * n ≤ i → Outside (base + 32) 4 n i
-behind-outside base n i h = go (ltb i (base + 32)) refl (ltb i (base + 32 + 64 * n)) refl
+-- a place behind the region lies outside its columns
+behind-outside : (base n i c : ℕ) → c + 2 ≤ 64 → base + 64 * n ≤ i → Outside (base + c) 2 n i
+behind-outside base n i c s h = go (ltb i (base + c)) refl (ltb i (base + c + 64 * n)) refl
   where
-    go : (a : Bool) → ltb i (base + 32) ≡ a → (b : Bool) → ltb i (base + 32 + 64 * n) ≡ b → Outside (base + 32) 4 n i
+    go : (a : Bool) → ltb i (base + c) ≡ a → (b : Bool) → ltb i (base + c + 64 * n) ≡ b → Outside (base + c) 2 n i
     go true e b f = inl (ltb→lt _ _ (rw e tt))
     go false e false f = inr (inl (ltb-false f))
     go false e true f =
-        let k : base + 32 ≤ i = ltb-false e in
-        let l : i < base + 32 + 64 * n = ltb→lt _ _ (rw f tt) in
+        let k : base + c ≤ i = ltb-false e in
+        let l : i < base + c + 64 * n = ltb→lt _ _ (rw f tt) in
         inr (inr (omega arith))
 
 module _ (m : Memory) (ps : PairList) (base : ℕ) (w v : List ℕ) (c : WritesClosing m ps base w v) where
@@ -40,15 +41,22 @@ module _ (m : Memory) (ps : PairList) (base : ℕ) (w v : List ℕ) (c : WritesC
       (λ i l.
       let f : length (take base w) ≡ min base (length w) = length-take base w in
       let b : i < base = omega (arith, f, l) in
-      getD-take base w i 0 b ∙ c .same i (inl b) (inl (omega arith)) ∙ sym (getD-take base v i 0 b))
+      getD-take base w i 0 b ∙ c .same i (λ h s. (inl (omega arith), inl (omega arith))) (inl (omega arith)) ∙ sym (getD-take base v i 0 b))
 
   -- and every byte behind it
-  pub kept-behind : drop (base + 64 * m .states) w ≡ drop (base + 64 * m .states) v
-  kept-behind =
+  pub kept-behind : ps .used ≤ 4 → drop (base + 64 * m .states) w ≡ drop (base + 64 * m .states) v
+  kept-behind u =
       let e = c .same-length in
       let p = base + 64 * m .states in
       ext-getD 0 (drop p w) (drop p v) (simp (length-drop, e))
-      (λ i l. getD-drop p w i 0 ∙ c .same (p + i) (inr (inl (omega arith))) (behind-outside base (m .states) (p + i) (omega arith)) ∙ sym (getD-drop p v i 0))
+      (λ i l. getD-drop p w i 0
+      ∙ c .same (p + i)
+      (λ h s. (behind-outside base (m .states) (p + i) (8 * h) (omega arith) (omega arith), behind-pair h (p + i) (omega arith) (omega arith)))
+      (behind-outside base (m .states) (p + i) 32 (omega arith) (omega arith))
+      ∙ sym (getD-drop p v i 0))
+    where
+      behind-pair : (h i : ℕ) → h < 4 → base + 64 * m .states ≤ i → Outside (base + 8 * h + 4) 2 (m .states) i
+      behind-pair h i s g = let z : base + (8 * h + 4) ≡ base + 8 * h + 4 = omega arith in rw z at (behind-outside base (m .states) i (8 * h + 4) (omega arith) g)
 
 -- a column of the region depends on no byte outside it
 column-part : (base n c : ℕ) (w v : List ℕ) → c + 2 ≤ 64 → part base (64 * n) w ≡ part base (64 * n) v → column (base + c) n w ≡ column (base + c) n v

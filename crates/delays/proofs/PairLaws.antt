@@ -1,7 +1,7 @@
 -- The closing delays of several pairs, and the test that reads them.
 use Prim.Native.Nat.{ℕ, zero, suc, _+_, _-_, _*_, _<_, _≤_}
-use mathlib.Core.Path.{_≡_, refl, sym, ap, ap₂, _∙_}
-use mathlib.Core.Logic.{_≢_, _⊎_, inl, inr}
+use mathlib.Core.Path.{_≡_, refl, sym, _∙_}
+use mathlib.Core.Logic.{_≢_, inr}
 use mathlib.Core.Bool.{Bool, true, false, not}
 use mathlib.Core.List.{List, [], _∷_}
 use native.Mathlib.Omega.{arith}
@@ -15,66 +15,64 @@ use Rattle.automata.specs.Closing.{withDelay≤}
 use Rattle.automata.proofs.TestFacts.{eqb-false}
 use Rattle.memory.specs.declared.pair.Pair.{Pair}
 use Rattle.relaxation.specs.Column.{column, Room, Frame}
-use Rattle.relaxation.specs.Edges.{edges, Both, roundsOf, starts, leastOf}
+use Rattle.relaxation.specs.Edges.{edges}
+use Rattle.relaxation.specs.Lowered.{FillsLeast}
 use Rattle.memory.specs.Pairs.{noPair}
-use Rattle.delays.specs.ClosingRegion.{PairClosed, ClosesPair, reachingOf, closableAt, closableFrom, viableAt}
-use Rattle.relaxation.proofs.ColumnLaws.{frame-trans}
-use Rattle.relaxation.proofs.SweepLaws.{frame-column, frame-wider}
+use Rattle.delays.specs.ClosingRegion.{PairClosed, ClosesPair, ClosesPairs, closableAt, closableFrom, viableAt}
+use Rattle.relaxation.proofs.SweepLaws.{frame-column, outside-in}
+
+-- the bytes of a pair are all that a pair changes
+pub pair-frame : (bytes : List ℕ) (n : ℕ) (arcs : List ℕ) (count : ℕ) (p : Pair) (at : ℕ) (w v : List ℕ) → ClosesPair bytes n arcs count p at w v → Frame at 8 n w v
+pair-frame bytes n arcs count p at w v c = record {
+  same-length = c .same-length;
+  same = λ i o. c .same i (outside-in at 2 at 8 n i (omega arith) (omega arith) (omega arith) o, outside-in (at + 4) 2 at 8 n i (omega arith) (omega arith) (omega arith) o);
+}
 
 -- one pair
 pub closes-pair : (bytes : List ℕ) (n : ℕ) (arcs : List ℕ) (count : ℕ) (p : Pair) (at : ℕ) (v u w : List ℕ) → Room at 8 n u
-    → Both at n (leastOf (edges (p .first - 1) (p .second - 1) 0 count arcs) n bytes) u v
-    → Both (at + 4) n (leastOf (edges (p .second - 1) (p .first - 1) 0 count arcs) n bytes) w u → ClosesPair bytes n arcs count p at w v
+    → FillsLeast (edges (p .first - 1) (p .second - 1) 0 count arcs) at n bytes u v
+    → FillsLeast (edges (p .second - 1) (p .first - 1) 0 count arcs) (at + 4) n bytes w u → ClosesPair bytes n arcs count p at w v
 closes-pair bytes n arcs count p at v u w l a b = record {
   closed = record {
-    least = frame-column at (at + 4) 4 n w u (b .frame) (omega arith) (inr (omega arith, omega arith)) ∙ a .old;
-    opposite = b .old;
-    least-again = frame-column (at + 2) (at + 4) 4 n w u (b .frame) (omega arith) (inr (omega arith, omega arith)) ∙ a .new ∙ sym (a .old)
-        ∙ sym (frame-column at (at + 4) 4 n w u (b .frame) (omega arith) (inr (omega arith, omega arith)));
-    opposite-again = b .new ∙ sym (b .old);
+    least = rw (frame-column at (at + 4) 2 n w u (b .frame) (omega arith) (inr (omega arith, omega arith))) (a .least);
+    opposite = b .least;
   };
-  frame = frame-trans at 8 n w u v (frame-wider (at + 4) 4 at 8 n w u (b .frame) (omega arith) (omega arith) (omega arith))
-      (frame-wider at 4 at 8 n u v (a .frame) (omega arith) (omega arith) (omega arith));
+  same-length = b .frame .same-length ∙ a .frame .same-length;
+  same = λ i o. b .frame .same i (o .1) ∙ a .frame .same i (o .0);
 }
 
 -- one pair more
 pub pairs-turn : (bytes : List ℕ) (n : ℕ) (arcs : List ℕ) (count : ℕ) (ps : List Pair) (p : Pair) (base h : ℕ) (v u w : List ℕ) → h < 4 → Room base 32 n u
-    → ((k : ℕ) → k < h → PairClosed bytes n arcs count (getD ps k noPair) (base + 8 * k) u) → Frame base (8 * h) n u v
-    → p ≡ getD ps h noPair → ClosesPair bytes n arcs count p (base + 8 * h) w u
-    → ((k : ℕ) → k < h + 1 → PairClosed bytes n arcs count (getD ps k noPair) (base + 8 * k) w) × Frame base (8 * (h + 1)) n w v
-pairs-turn bytes n arcs count ps p base h v u w b l f g e c = (
-  λ k s. go k s (ℕ-discrete k h),
-  frame-trans base (8 * (h + 1)) n w u v (frame-wider (base + 8 * h) 8 base (8 * (h + 1)) n w u (c .frame) (omega arith) (omega arith) (omega arith))
-      (frame-wider base (8 * h) base (8 * (h + 1)) n u v g (omega arith) (omega arith) (omega arith)),
-)
+    → ClosesPairs bytes n arcs count ps h base u v → p ≡ getD ps h noPair → ClosesPair bytes n arcs count p (base + 8 * h) w u
+    → ClosesPairs bytes n arcs count ps (h + 1) base w v
+pairs-turn bytes n arcs count ps p base h v u w b l f e c = record {
+  closed = λ k s. go k s (ℕ-discrete k h);
+  same-length = c .same-length ∙ f .same-length;
+  same = λ i o. c .same i (o h (omega arith)) ∙ f .same i (λ k s. o k (omega arith));
+}
   where
     -- a column of an earlier pair
     kept : (k o : ℕ) → k < h → o ≤ 6 → column (base + 8 * k + o) n w ≡ column (base + 8 * k + o) n u
-    kept k o r i = frame-column (base + 8 * k + o) (base + 8 * h) 8 n w u (c .frame) (omega arith) (inr (omega arith, omega arith))
+    kept k o r i =
+        frame-column (base + 8 * k + o) (base + 8 * h) 8 n w u (pair-frame bytes n arcs count p (base + 8 * h) w u c) (omega arith) (inr (omega arith, omega arith))
 
     go : (k : ℕ) → k < h + 1 → Dec (k ≡ h) → PairClosed bytes n arcs count (getD ps k noPair) (base + 8 * k) w
     go k s (yes q) = rw (q, ← e) (c .closed)
     go k s (no q) =
         let r : k < h = omega arith in
-        let o = f k r in
-        let z : column (base + 8 * k) n w ≡ column (base + 8 * k) n u
-        = frame-column (base + 8 * k) (base + 8 * h) 8 n w u (c .frame) (omega arith) (inr (omega arith, omega arith)) in
-        let y = kept k 4 r (omega arith) in
-        let six : base + 8 * k + 6 ≡ base + 8 * k + 4 + 2 = omega arith in
-        let x = rw six at (kept k 6 r (omega arith)) in
-        record {
-          least = z ∙ o .least;
-          opposite = y ∙ o .opposite;
-          least-again = kept k 2 r (omega arith) ∙ o .least-again ∙ sym z;
-          opposite-again = x ∙ o .opposite-again ∙ sym y;
-        }
+        let o = f .closed k r in
+        let z : base + 8 * k + 0 ≡ base + 8 * k = omega arith in
+        let l : column (base + 8 * k) n w ≡ column (base + 8 * k) n u = rw z at (kept k 0 r (omega arith)) in
+        record { least = rw l (o .least); opposite = rw (kept k 4 r (omega arith)) (o .opposite) }
 
--- the states that reach a final one
-pub reaching-both : (bytes : List ℕ) (n : ℕ) (arcs : List ℕ) (count at : ℕ) (v u w : List ℕ) → Both at n (starts 0 n bytes) u v
-    → Both at n (roundsOf false (edges 0 0 0 count arcs) n (column at n u)) w u → Both at n (reachingOf bytes n arcs count) w v
-reaching-both bytes n arcs count at v u w a b =
-    let e = ap (roundsOf false (edges 0 0 0 count arcs) n) (a .old) in
-    record { old = b .old ∙ e; new = b .new ∙ e; frame = frame-trans at 4 n w u v (b .frame) (a .frame) }
+-- no pair yet
+pub pairs-start : (bytes : List ℕ) (n : ℕ) (arcs : List ℕ) (count : ℕ) (ps : List Pair) (base : ℕ) (v : List ℕ) → ClosesPairs bytes n arcs count ps 0 base v v
+pairs-start bytes n arcs count ps base v = record { closed = λ k s. absurd (omega arith); same-length = refl; same = λ i o. refl }
+
+-- all pairs
+pub pairs-end : (bytes : List ℕ) (n : ℕ) (arcs : List ℕ) (count : ℕ) (ps : List Pair) (h used base : ℕ) (w v : List ℕ) → h ≤ used → used ≤ h
+    → ClosesPairs bytes n arcs count ps h base w v → ClosesPairs bytes n arcs count ps used base w v
+pairs-end bytes n arcs count ps h used base w v a b c = let e : h ≡ used = omega arith in rw e at c
 
 -- ---- the test
 

@@ -1,6 +1,6 @@
--- The region of the closing delays: of each state's 64 bytes, 8 for each of four pairs, and 4 for whether a final state can be reached.
--- Of a pair's 8 bytes the first two hold the least delay, the fifth and sixth the least of the pair turned round; the two behind each are
--- the second buffer of the rounds.
+-- The region of the closing delays: of each state's 64 bytes, 8 for each of four pairs, and 2 for whether a final state
+-- can be reached. Of a pair's 8 bytes the first two hold the least delay, the fifth and sixth the least of the pair
+-- turned round; the others are not used.
 use Prim.Native.Nat.{ℕ, zero, suc, _+_, _-_, _*_, _<_, _≤_}
 use mathlib.Core.Path.{_≡_}
 use mathlib.Core.Bool.{Bool, true, false}
@@ -16,31 +16,35 @@ use Rattle.automata.specs.Leftover.{Leftover}
 use Rattle.automata.specs.Config.{Config}
 use Rattle.automata.specs.TapePair.{limited}
 use Rattle.automata.specs.Memory.{Memory, tableOf}
-use Rattle.relaxation.specs.Column.{column, Frame, Outside}
-use Rattle.relaxation.specs.Edges.{edges, roundsOf, starts, leastOf}
+use Rattle.relaxation.specs.Column.{column, Outside}
+use Rattle.relaxation.specs.Edges.{edges}
+use Rattle.relaxation.specs.Lowered.{Least}
 use Rattle.memory.specs.declared.pair.Pair.{Pair}
 use Rattle.memory.specs.declared.pair.PairList.{PairList}
 use Rattle.memory.specs.Pairs.{pairsAs, noPair}
 
--- the closing delays of a pair stand in the columns at place at and four bytes behind, and again two bytes behind each
+-- the closing delays of a pair stand in the columns at place at and four bytes behind
 pub record PairClosed (bytes : List ℕ) (n : ℕ) (arcs : List ℕ) (count : ℕ) (p : Pair) (at : ℕ) (w : List ℕ) : Type 0 where
-  pub least : column at n w ≡ leastOf (edges (p .first - 1) (p .second - 1) 0 count arcs) n bytes
-  pub opposite : column (at + 4) n w ≡ leastOf (edges (p .second - 1) (p .first - 1) 0 count arcs) n bytes
-  pub least-again : column (at + 2) n w ≡ column at n w
-  pub opposite-again : column (at + 4 + 2) n w ≡ column (at + 4) n w
+  pub least : Least (edges (p .first - 1) (p .second - 1) 0 count arcs) n bytes (column at n w)
+  pub opposite : Least (edges (p .second - 1) (p .first - 1) 0 count arcs) n bytes (column (at + 4) n w)
 
--- the same of one pair that was closed from v to w, and of the first k of several
+-- place i lies outside the two columns of a pair, and outside those of the first k of several
+abbrev pub OutsidePair : ℕ → ℕ → ℕ → Type 0
+OutsidePair at n i = Outside at 2 n i × Outside (at + 4) 2 n i
+
+abbrev pub OutsidePairs : ℕ → ℕ → ℕ → ℕ → Type 0
+OutsidePairs base k n i = (h : ℕ) → h < k → OutsidePair (base + 8 * h) n i
+
+-- the delays of one pair, and of the first k of several, were found from v to w, and nothing else changed
 pub record ClosesPair (bytes : List ℕ) (n : ℕ) (arcs : List ℕ) (count : ℕ) (p : Pair) (at : ℕ) (w v : List ℕ) : Type 0 where
   pub closed : PairClosed bytes n arcs count p at w
-  pub frame : Frame at 8 n w v
+  pub same-length : length w ≡ length v
+  pub same : (i : ℕ) → OutsidePair at n i → getD w i 0 ≡ getD v i 0
 
 pub record ClosesPairs (bytes : List ℕ) (n : ℕ) (arcs : List ℕ) (count : ℕ) (ps : List Pair) (k base : ℕ) (w v : List ℕ) : Type 0 where
   pub closed : (h : ℕ) → h < k → PairClosed bytes n arcs count (getD ps h noPair) (base + 8 * h) w
-  pub frame : Frame base (8 * k) n w v
-
--- the delays of the states that reach a final one are origin, those of the others are missing: on one tape taken twice
-abbrev pub reachingOf : List ℕ → ℕ → List ℕ → ℕ → List ℕ
-reachingOf bytes n arcs count = roundsOf false (edges 0 0 0 count arcs) n (starts 0 n bytes)
+  pub same-length : length w ≡ length v
+  pub same : (i : ℕ) → OutsidePairs base k n i → getD w i 0 ≡ getD v i 0
 
 -- the region from place base holds the closing tables T of n states
 pub record HoldsClosing (T : ClosingTables) (base n : ℕ) (w : List ℕ) : Type 0 where
@@ -62,15 +66,12 @@ closableFrom at h (suc left) firsts seconds w =
 abbrev pub viableAt : ℕ → ℕ → List ℕ → List ℕ → List ℕ → Bool
 viableAt at used firsts seconds w = if (eqb (le (part (at + 32) 2 w)) missing) false (closableFrom at 0 used firsts seconds w)
 
--- The closing tables of the table in memory m were written to the region from place base, each column again two bytes behind it, and no
--- other place was changed from v to w.
+-- The closing tables of the table in memory m were written to the region from place base, and no other place was
+-- changed from v to w.
 pub record WritesClosing (m : Memory) (ps : PairList) (base : ℕ) (w v : List ℕ) : Type 0 where
   pub tables : (D : ℕ) → HoldsClosing (closingTables (tableOf m) (limited D (pairsAs ps))) base (m .states) w
-  pub reaching-again : column (base + 32 + 2) (m .states) w ≡ column (base + 32) (m .states) w
-  pub least-again : (h : ℕ) → h < ps .used → column (base + 8 * h + 2) (m .states) w ≡ column (base + 8 * h) (m .states) w
-  pub opposite-again : (h : ℕ) → h < ps .used → column (base + 8 * h + 4 + 2) (m .states) w ≡ column (base + 8 * h + 4) (m .states) w
   pub same-length : length w ≡ length v
-  pub same : (i : ℕ) → Outside base (8 * ps .used) (m .states) i → Outside (base + 32) 4 (m .states) i → getD w i 0 ≡ getD v i 0
+  pub same : (i : ℕ) → OutsidePairs base (ps .used) (m .states) i → Outside (base + 32) 2 (m .states) i → getD w i 0 ≡ getD v i 0
 
 -- the leftovers ls are k, and have these lengths
 pub record Lengths (k : ℕ) (firsts seconds : List ℕ) (ls : List Leftover) : Type 0 where

@@ -6,8 +6,7 @@ use memory::pair::Pair;
 use memory::pair::PairList;
 use memory::record::InputState;
 use relaxation::least_delays;
-use relaxation::run_rounds;
-use relaxation::start_delays;
+use relaxation::listing::list_arcs;
 ghost use mathlib.Core.Path.{_≡_};
 ghost use Prim.Native.Nat.{_+_, _*_, _≤_, _<_};
 ghost use lib.ListN.{length, getD};
@@ -15,9 +14,10 @@ ghost use Rattle.automata.specs.Closing.{withDelay≤};
 ghost use Rattle.automata.specs.Memory.{Sound};
 ghost use Rattle.memory.specs.Answers.{lent};
 ghost use Rattle.relaxation.specs.Column.{Room};
-ghost use Rattle.relaxation.specs.Edges.{Readable, Both};
+ghost use Rattle.relaxation.specs.Edges.{edges, Readable};
+ghost use Rattle.relaxation.specs.Lowered.{FillsLeast};
 ghost use Rattle.memory.specs.Pairs.{Named, Within, noPair};
-ghost use Rattle.delays.specs.ClosingRegion.{ClosesPair, ClosesPairs, reachingOf, closableAt, viableAt, WritesClosing, Tests};
+ghost use Rattle.delays.specs.ClosingRegion.{ClosesPair, ClosesPairs, closableAt, viableAt, WritesClosing, Tests};
 
 // The closing delays of a pair: the least, and the least of the pair turned round.
 fn close_pair(
@@ -25,6 +25,7 @@ fn close_pair(
     states: usize,
     arcs: &[u8],
     count: usize,
+    order: &[u16],
     p: Pair,
     work: &mut [u8],
     at: usize,
@@ -34,8 +35,18 @@ fn close_pair(
 {
     let first = p.first as usize - 1;
     let second = p.second as usize - 1;
-    least_delays(bytes, states, arcs, count, first, second, work, at);
-    least_delays(bytes, states, arcs, count, second, first, work, at + 4);
+    least_delays(bytes, states, arcs, count, first, second, order, work, at);
+    least_delays(
+        bytes,
+        states,
+        arcs,
+        count,
+        second,
+        first,
+        order,
+        work,
+        at + 4,
+    );
 }
 
 // The closing delays of the first `used` pairs.
@@ -44,6 +55,7 @@ fn close_pairs(
     states: usize,
     arcs: &[u8],
     count: usize,
+    order: &[u16],
     pairs: [Pair; 4],
     used: usize,
     work: &mut [u8],
@@ -55,18 +67,25 @@ fn close_pairs(
     let mut h: usize = 0;
     while h < used {
         let p = pairs[h];
-        close_pair(bytes, states, arcs, count, p, work, base + 8 * h);
+        close_pair(bytes, states, arcs, count, order, p, work, base + 8 * h);
         h += 1;
     }
 }
 
-// Which states reach a final one: relaxation on one tape taken twice, where every delay is none or missing.
-fn mark_reaching(bytes: &[u8], states: usize, arcs: &[u8], count: usize, work: &mut [u8], at: usize)
-    requires { ⌜ Readable (now bytes) states (now arcs) count × Room at 4 states (now work) ⌝ }
-    ensures { λ _. ⌜ Both at states (reachingOf (now (bytes .entry)) states (now (arcs .entry)) count) (now (work .exit)) (now (work .entry)) ⌝ }
+// Which states reach a final one: the closing delays on one tape taken twice, each of them none or missing.
+fn mark_reaching(
+    bytes: &[u8],
+    states: usize,
+    arcs: &[u8],
+    count: usize,
+    order: &[u16],
+    work: &mut [u8],
+    at: usize,
+)
+    requires { ⌜ Readable (now bytes) states (now arcs) count × Room at 2 states (now work) ⌝ }
+    ensures { λ _. ⌜ FillsLeast (edges 0 0 0 count (now (arcs .entry))) at states (now (bytes .entry)) (now (work .exit)) (now (work .entry)) ⌝ }
 {
-    start_delays(bytes, states, work, at);
-    run_rounds(arcs, count, 0, 0, work, at, states, false);
+    least_delays(bytes, states, arcs, count, 0, 0, order, work, at);
 }
 
 // Whether `x` with the delay held as `v` is at most `y`.
@@ -110,6 +129,42 @@ pub fn viable_at(work: &[u8], at: usize, used: usize, firsts: [u8; 4], seconds: 
     true
 }
 
+// The closing tables, with the arcs listed.
+fn write_tables(
+    counts: Counts,
+    states: &[u8],
+    arcs: &[u8],
+    order: &[u16],
+    pairs: PairList,
+    work: &mut [u8],
+    base: usize,
+)
+    requires { ⌜ Sound (lent counts (now states) (now arcs)) × (base + 64 * counts .states ≤ length (now work)) × Named (counts .tapes) pairs ⌝ }
+    ensures { λ _. ⌜ WritesClosing (lent counts (now (states .entry)) (now (arcs .entry))) pairs base (now (work .exit)) (now (work .entry)) ⌝ }
+{
+    mark_reaching(
+        states,
+        counts.states,
+        arcs,
+        counts.arcs,
+        order,
+        work,
+        base + 32,
+    );
+    let list = pairs.pairs;
+    close_pairs(
+        states,
+        counts.states,
+        arcs,
+        counts.arcs,
+        order,
+        list,
+        pairs.used,
+        work,
+        base,
+    );
+}
+
 // The closing tables of the lent table for the pairs, in the region of 64 bytes a state from `base`.
 pub fn closing_tables(
     counts: Counts,
@@ -122,18 +177,9 @@ pub fn closing_tables(
     requires { ⌜ Sound (lent counts (now states) (now arcs)) × (base + 64 * counts .states ≤ length (now work)) × Named (counts .tapes) pairs ⌝ }
     ensures { λ _. ⌜ WritesClosing (lent counts (now (states .entry)) (now (arcs .entry))) pairs base (now (work .exit)) (now (work .entry)) ⌝ }
 {
-    mark_reaching(states, counts.states, arcs, counts.arcs, work, base + 32);
-    let list = pairs.pairs;
-    close_pairs(
-        states,
-        counts.states,
-        arcs,
-        counts.arcs,
-        list,
-        pairs.used,
-        work,
-        base,
-    );
+    let mut order = [65535u16; 8192];
+    list_arcs(states, counts.states, arcs, counts.arcs, &mut order);
+    write_tables(counts, states, arcs, &order, pairs, work, base);
 }
 
 // Whether a configuration with this state and leftovers of these lengths is viable, by the closing tables in the region from `base`.

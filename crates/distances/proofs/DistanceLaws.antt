@@ -27,13 +27,14 @@ module _ (A : Automaton ℕ) (t : Tuple) (xs : List ℕ) where
   abbrev pub val : ℕ → List ℕ → ℕ
   val q ps = getD xs (cell q ps t) 0
 
-  -- Every number is attained or that for "none", no ending lowers one, and no arc one whose combination of positions is at least b.
+  -- Every number is attained or that for "none", no ending lowers one, and no arc that leads to a combination of
+  -- positions of at least b.
   pub record Distances (b : ℕ) : Type 0 where
     pub below : (k : ℕ) → getD xs k 0 ≤ far
     pub attained : (q : ℕ) (ps : List ℕ) → q < size A → Positions ps t → val q ps < far → (k : ℕ) × Onward ℕ-sum A k q (dropAll ps t) (val q ps)
     pub ends : (q : ℕ) (ps : List ℕ) (f : ℕ) → q < size A → Positions ps t → Spells {W = ℕ} [] (dropAll ps t) → finalOf A q ≡ some f → val q ps ≤ f
-    pub goes : (q : ℕ) (ps : List ℕ) → q < size A → Positions ps t → b ≤ place ps t → (e : ℕ) (a : Arc ℕ) → getElem? (A .arcs) e ≡ some a → a .source ≡ q
-        → (rest : Tuple) → leftQuotients (a .labels) (dropAll ps t) ≡ some rest → val q ps ≤ a .weight + val (a .target) (moved ps (a .labels))
+    pub goes : (q : ℕ) (ps : List ℕ) → q < size A → Positions ps t → (e : ℕ) (a : Arc ℕ) → getElem? (A .arcs) e ≡ some a → a .source ≡ q
+        → (rest : Tuple) → leftQuotients (a .labels) (dropAll ps t) ≡ some rest → b ≤ place (moved ps (a .labels)) t → val q ps ≤ a .weight + val (a .target) (moved ps (a .labels))
 
   -- From a combination of positions that is at least b, no run is lighter.
   pub distances-bound : Within (graph A) (size A) → (b : ℕ) → Distances b → {q : ℕ} {r : List ℕ} {es : List (Arc ℕ)} {p : ℕ} (f : ℕ) (ps : List ℕ) → q < size A → Positions ps t
@@ -44,7 +45,7 @@ module _ (A : Automaton ℕ) (t : Tuple) (xs : List ℕ) where
       let (r, k) = leftQuotients-drop (a .labels) ps t rest h g in
       let i : val (a .target) (moved ps (a .labels)) ≤ onward ℕ-sum A es f
       = distances-bound within b d f (moved ps (a .labels)) (within n a at .1) k (omega (arith, le, place-moved ps (a .labels) t h)) w e (subst (λ z. Spells es z) r s′) in
-      omega (arith, d .goes q ps lt h le n a at from rest g, i)
+      omega (arith, d .goes q ps lt h n a at from rest g (omega (arith, le, place-moved ps (a .labels) t h)), i)
 
   module _ (within : Within (graph A) (size A)) (d : Distances 0) where
     module _ (ok : WeightsBounded A) (few : size A ≤ 1024) (short : total length t ≤ 512) (q : ℕ) (lt : q < size A) where

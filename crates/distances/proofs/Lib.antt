@@ -1,10 +1,12 @@
 -- Laws of shortest distances on the cells of a lookup.
-pub mod DistanceLaws
-pub mod SweepLaws
+pub mod ChainLaws
+pub mod QueueLaws
+pub mod DequeueLaws
+pub mod PushLaws
 pub mod MoveMeaning
+pub mod DistanceLaws
 pub mod RelaxLaws
-pub mod EmptyRounds
-pub mod RoundMeaning
+pub mod PushMeaning
 pub mod SpotMeaning
 pub mod StartMeaning
 pub mod LeastMeaning

@@ -1,15 +1,15 @@
--- The moves of a combination of positions are those of left quotients.
+-- The moves back from a combination of positions are left quotients from an earlier one on.
 use mathlib.Core.Path.{_≡_, refl, sym, ap, ap₂, subst, _∙_}
 use mathlib.Core.Bool.{Bool, true, false, false≢true}
-use mathlib.Core.Option.{Option, none, some}
+use mathlib.Core.Option.{Option, none, some, Option·none-ne-some, Option·some-injective}
 use mathlib.Core.List.{List, [], _∷_, map}
-use Prim.Native.Nat.{ℕ, zero, suc, _+_, _*_, _≤_, _<_}
-use native.Mathlib.Nat.{add-mul, add-zero, add-assoc, mul-pos, mul-le-mul}
+use Prim.Native.Nat.{ℕ, zero, suc, _+_, _-_, _*_, _≤_, _<_}
+use native.Mathlib.Nat.{add-mul, add-zero, add-assoc, mul-pos}
 use native.Mathlib.Omega.{arith}
 use borrow.Author.Tests.{ltb-true, ltb-false}
 use lib.Dec.{eqb, ltb}
 use lib.ListN.{length, getD, take, drop}
-use lib.Seq.{take-take}
+use lib.Seq.{take-take, drop-drop}
 use Rattle.automata.specs.Lists.{if, and, bind, sameList, consBoth}
 use Rattle.automata.specs.Automaton.{Tuple}
 use Rattle.automata.specs.Lookup.{leftQuotient, leftQuotients}
@@ -19,18 +19,9 @@ use Rattle.memory.specs.Region.{part}
 use Rattle.memory.specs.Records.{labelAs, labelAt, labelsAt}
 use Rattle.memory.proofs.PartLaws.{length-part}
 use Rattle.cell_moves.specs.declared.spot.Spot.{Spot}
-use Rattle.cell_moves.specs.Moves.{tapeMove, movesFrom, noSymbol, Spotted}
+use Rattle.cell_moves.specs.Moves.{tapeMove, movesFrom, Spotted}
 
 -- ---- left quotients by a comparison
-
-quotient-long : (x r : List ℕ) → length r < length x → leftQuotient x r ≡ none
-quotient-long [] r h = absurd (omega arith)
-quotient-long (c ∷ x) [] h = refl
-quotient-long (c ∷ x) (d ∷ r) h = go (eqb c d) (quotient-long x r (omega arith))
-  where
-    go : (b : Bool) → leftQuotient x r ≡ none → if b (leftQuotient x r) none ≡ none
-    go true i = i
-    go false i = refl
 
 quotient-differs : (x r : List ℕ) → sameList x (take (length x) r) ≡ false → leftQuotient x r ≡ none
 quotient-differs [] r h = absurd (false≢true (sym h))
@@ -52,11 +43,6 @@ quotient-same (c ∷ x) (d ∷ r) h = go (eqb c d) (quotient-same x r) h
     go true i h = i h
     go false i h = absurd (false≢true h)
 
--- n where there is a value
-abbrev pub where? : {A : Type 0} → Option A → ℕ → Option ℕ
-where? none n = none
-where? (some a) n = some n
-
 -- ---- one tape
 
 -- the label at a place is its bytes
@@ -68,47 +54,58 @@ label-part arcs at h = take-take (getD arcs at 0) 8 (drop (at + 1) arcs) h
 label-length : (arcs : List ℕ) (at : ℕ) → at + 9 ≤ length arcs → getD arcs at 0 ≤ 8 → length (labelAs (labelAt at arcs)) ≡ getD arcs at 0
 label-length arcs at lent short = ap length (label-part arcs at short) ∙ length-part (at + 1) (getD arcs at 0) arcs (omega arith)
 
-part-take : (n m start : ℕ) (text : List ℕ) → n ≤ m → part start n text ≡ take n (part start m text)
-unfolding part
-part-take n m start text h = sym (take-take n m (drop start text) h)
+module _ (arcs : List ℕ) (at : ℕ) (text : List ℕ) (start p span : ℕ) (x : List ℕ) (lent : at + 9 ≤ length arcs) (short : getD arcs at 0 ≤ 8)
+    (before : (n : ℕ) → n ≤ p → part (start - n) n text ≡ part (p - n) n x) where
+  abbrev label : List ℕ
+  label = labelAs (labelAt at arcs)
 
-pub tape-means : (arcs : List ℕ) (at : ℕ) (text : List ℕ) (start size span : ℕ) → at + 9 ≤ length arcs → getD arcs at 0 ≤ 8 → start + size ≤ length text
-    → tapeMove arcs at text start size span
-    ≡ where? (leftQuotient (labelAs (labelAt at arcs)) (part start size text)) (length (labelAs (labelAt at arcs)) * span)
-unfolding tapeMove
-tape-means arcs at text start size span lent short within = go (ltb size n) refl (sameList (part (at + 1) n arcs) (part start n text)) refl
-  where
-    n : ℕ
-    n = getD arcs at 0
+  same-as : getD arcs at 0 ≤ p → sameList label (take (length label) (drop (p - length label) x))
+      ≡ sameList (part (at + 1) (getD arcs at 0) arcs) (part (start - getD arcs at 0) (getD arcs at 0) text)
+  unfolding part
+  same-as le =
+      ap (λ (n : ℕ). sameList label (take n (drop (p - n) x))) (label-length arcs at lent short)
+      ∙ ap₂ sameList (label-part arcs at short) (sym (before (getD arcs at 0) le))
 
-    x : List ℕ
-    x = labelAs (labelAt at arcs)
+  -- a move back is a left quotient from the earlier position on
+  tape-sound : (m : ℕ) → tapeMove arcs at text start p span ≡ some m
+      → (length label ≤ p) × (leftQuotient label (drop (p - length label) x) ≡ some (drop p x)) × (m ≡ length label * span)
+  unfolding tapeMove
+  tape-sound m e = go (ltb p n) refl (sameList (part (at + 1) n arcs) (part (start - n) n text)) refl e
+    where
+      n : ℕ
+      n = getD arcs at 0
 
-    r : List ℕ
-    r = part start size text
+      go : (b : Bool) → ltb p n ≡ b → (c : Bool) → sameList (part (at + 1) n arcs) (part (start - n) n text) ≡ c → if b none (if c (some (n * span)) none) ≡ some m
+          → (length label ≤ p) × (leftQuotient label (drop (p - length label) x) ≡ some (drop p x)) × (m ≡ length label * span)
+      go true f c g e = absurd (Option·none-ne-some m e)
+      go false f false g e = absurd (Option·none-ne-some m e)
+      go false f true g e =
+          let l = label-length arcs at lent short in
+          let le : n ≤ p = ltb-false p n f in
+          let there : p - length label + length label ≡ p = omega (arith, l, le) in (
+            omega (arith, l, le),
+            quotient-same label (drop (p - length label) x) (same-as le ∙ g)
+                ∙ ap some (drop-drop (length label) (p - length label) x ∙ ap (λ (k : ℕ). drop k x) there),
+            sym (Option·some-injective (n * span) m e) ∙ ap (λ (k : ℕ). k * span) (sym l),
+          )
 
-    x-is : x ≡ part (at + 1) n arcs
-    x-is = label-part arcs at short
+  -- and every one is found
+  tape-complete : (p′ : ℕ) (r : List ℕ) → p′ + length label ≡ p → leftQuotient label (drop p′ x) ≡ some r → tapeMove arcs at text start p span ≡ some (length label * span)
+  unfolding tapeMove
+  tape-complete p′ r q e = go (ltb p n) refl (sameList (part (at + 1) n arcs) (part (start - n) n text)) refl
+    where
+      n : ℕ
+      n = getD arcs at 0
 
-    x-length : length x ≡ n
-    x-length = label-length arcs at lent short
-
-    r-length : length r ≡ size
-    r-length = length-part start size text within
-
-    go : (b : Bool) → ltb size n ≡ b → (c : Bool) → sameList (part (at + 1) n arcs) (part start n text) ≡ c
-        → if b none (if c (some (n * span)) none) ≡ where? (leftQuotient x r) (length x * span)
-    go true e c f = rw (quotient-long x r (omega (arith, ltb-true size n e, x-length, r-length)))
-    go false e false f =
-        let le : n ≤ size = ltb-false size n e in
-        let g : sameList x (take (length x) r) ≡ false
-        = ap₂ sameList x-is (ap (λ (i : ℕ). take i r) x-length ∙ sym (part-take n size start text le)) ∙ f in
-        rw (quotient-differs x r g)
-    go false e true f =
-        let le : n ≤ size = ltb-false size n e in
-        let g : sameList x (take (length x) r) ≡ true
-        = ap₂ sameList x-is (ap (λ (i : ℕ). take i r) x-length ∙ sym (part-take n size start text le)) ∙ f in
-        rw (quotient-same x r g, x-length)
+      go : (b : Bool) → ltb p n ≡ b → (c : Bool) → sameList (part (at + 1) n arcs) (part (start - n) n text) ≡ c
+          → if b none (if c (some (n * span)) none) ≡ some (length label * span)
+      go true f c g = absurd (omega (arith, ltb-true p n f, q, label-length arcs at lent short))
+      go false f false g =
+          let there : p - length label ≡ p′ = omega (arith, q) in
+          let d : leftQuotient label (drop p′ x) ≡ none
+          = ap (λ (k : ℕ). leftQuotient label (drop k x)) (sym there) ∙ quotient-differs label (drop (p - length label) x) (same-as (ltb-false p n f) ∙ g) in
+          absurd (Option·none-ne-some r (sym d ∙ e))
+      go false f true g = ap (λ (k : ℕ). some (k * span)) (sym (label-length arcs at lent short))
 
 -- ---- all tapes
 
@@ -140,29 +137,102 @@ labelled n at arcs = map labelAs (labelsAt n at arcs)
 spotted-next : (text : List ℕ) (s : Spot) (h p : ℕ) (ps x : List ℕ) (t : Tuple) → Spotted text s h (p ∷ ps) (x ∷ t) → Spotted text s (h + 1) ps t
 spotted-next text s h p ps x t sp = record {
   span-is = λ j lt. ap (λ (i : ℕ). getD (s .spans) i 0) (next j) ∙ sp .span-is (suc j) (omega arith);
-  length-is = λ j lt. ap (λ (i : ℕ). getD (s .lengths) i 0) (next j) ∙ sp .length-is (suc j) (omega arith);
-  rest-is = λ j lt. ap (λ (i : ℕ). part (getD (s .starts) i 0) (getD (s .lengths) i 0) text) (next j) ∙ sp .rest-is (suc j) (omega arith);
+  position-is = λ j lt. ap (λ (i : ℕ). getD (s .positions) i 0) (next j) ∙ sp .position-is (suc j) (omega arith);
+  before-is = λ j lt n le. ap (λ (i : ℕ). part (getD (s .starts) i 0 - n) n text) (next j) ∙ sp .before-is (suc j) (omega arith) n le;
 }
   where
     next : (j : ℕ) → h + 1 + j ≡ h + suc j
     next j = omega arith
 
-pub moves-mean : (n h at k : ℕ) (arcs text : List ℕ) (s : Spot) (ps : List ℕ) (t : Tuple) → length t ≡ n → Positions ps t → Spotted text s h ps t
-    → at + 9 * n ≤ length arcs → ((i : ℕ) → i < n → getD arcs (at + 9 * i) 0 ≤ 8)
-    → ((i : ℕ) → i < n → getD (s .starts) (h + i) 0 + getD (s .lengths) (h + i) 0 ≤ length text)
-    → movesFrom n h at k arcs text s ≡ where? (leftQuotients (labelled n at arcs) (dropAll ps t)) (k + shift (labelled n at arcs) t)
+-- the first string
+module _ (text : List ℕ) (s : Spot) (h p : ℕ) (ps x : List ℕ) (t : Tuple) (sp : Spotted text s h (p ∷ ps) (x ∷ t)) where
+  at-zero : h + 0 ≡ h
+  at-zero = omega arith
+
+  first-span : getD (s .spans) h 0 ≡ combinations t
+  first-span = ap (λ (i : ℕ). getD (s .spans) i 0) (sym at-zero) ∙ sp .span-is 0 (omega arith)
+
+  first-position : getD (s .positions) h 0 ≡ p
+  first-position = ap (λ (i : ℕ). getD (s .positions) i 0) (sym at-zero) ∙ sp .position-is 0 (omega arith)
+
+  first-before : (n : ℕ) → n ≤ p → part (getD (s .starts) h 0 - n) n text ≡ part (p - n) n x
+  first-before n le = ap (λ (i : ℕ). part (getD (s .starts) i 0 - n) n text) (sym at-zero) ∙ sp .before-is 0 (omega arith) n le
+
+  first-move : (arcs : List ℕ) (at : ℕ) → tapeMove arcs at text (getD (s .starts) h 0) (getD (s .positions) h 0) (getD (s .spans) h 0)
+      ≡ tapeMove arcs at text (getD (s .starts) h 0) p (combinations t)
+  first-move arcs at = ap₂ (λ (i j : ℕ). tapeMove arcs at text (getD (s .starts) h 0) i j) first-position first-span
+
+-- the labels behind the first
+next-short : (n at : ℕ) (arcs : List ℕ) → ((i : ℕ) → i < suc n → getD arcs (at + 9 * i) 0 ≤ 8) → (i : ℕ) → i < n → getD arcs (at + 9 + 9 * i) 0 ≤ 8
+next-short n at arcs short i lt =
+    let z : at + 9 * suc i ≡ at + 9 + 9 * i = omega arith in subst (λ (j : ℕ). getD arcs j 0 ≤ 8) z (short (suc i) (omega arith))
+
+first-short : (n at : ℕ) (arcs : List ℕ) → ((i : ℕ) → i < suc n → getD arcs (at + 9 * i) 0 ≤ 8) → getD arcs at 0 ≤ 8
+first-short n at arcs short = let z : at + 9 * 0 ≡ at = omega arith in subst (λ (j : ℕ). getD arcs j 0 ≤ 8) z (short 0 (omega arith))
+
+-- the positions from which labels lead to the positions ps, by which they move the number of the combination
+pub record Before (labels : List (List ℕ)) (t : Tuple) (ps : List ℕ) (k : ℕ) : Type 0 where
+  pub earlier : List ℕ
+  pub positions : Positions earlier t
+  pub leads : moved earlier labels ≡ ps
+  pub quotient : leftQuotients labels (dropAll earlier t) ≡ some (dropAll ps t)
+  pub by-is : k ≡ shift labels t
+
+-- labels that end at a combination lead there from an earlier one
+pub moves-sound : (n h at k : ℕ) (arcs text : List ℕ) (s : Spot) (ps : List ℕ) (t : Tuple) → length t ≡ n → Positions ps t → Spotted text s h ps t
+    → at + 9 * n ≤ length arcs → ((i : ℕ) → i < n → getD arcs (at + 9 * i) 0 ≤ 8) → (j : ℕ) → movesFrom n h at k arcs text s ≡ some j
+    → (i : ℕ) × (j ≡ k + i) × Before (labelled n at arcs) t ps i
 unfolding movesFrom labelsAt
-moves-mean zero h at k arcs text s [] [] e pos sp lent short within = ap some (sym (add-zero k))
-moves-mean zero h at k arcs text s ps (x ∷ t) e pos sp lent short within = absurd (omega (arith, e))
-moves-mean zero h at k arcs text s (p ∷ ps) [] e pos sp lent short within = absurd pos
-moves-mean (suc n) h at k arcs text s ps [] e pos sp lent short within = absurd (omega (arith, e))
-moves-mean (suc n) h at k arcs text s [] (x ∷ t) e pos sp lent short within = absurd pos
-moves-mean (suc n) h at k arcs text s (p ∷ ps) (x ∷ t) e pos sp lent short within =
-    ap (λ (o : Option ℕ). bind o next) (one ∙ ap₂ (λ (r : List ℕ) (c : ℕ). where? (leftQuotient l r) (length l * c)) rest span)
-    ∙ go (leftQuotient l (drop p x)) (λ m.
-    moves-mean n (h + 1) (at + 9) (k + m) arcs text s ps t (omega (arith, e)) (pos .1) (spotted-next text s h p ps x t sp) (omega arith)
-    (λ i lt. subst (λ (j : ℕ). getD arcs j 0 ≤ 8) (move i) (short (suc i) (omega arith)))
-    (λ i lt. subst (λ (j : ℕ). getD (s .starts) j 0 + getD (s .lengths) j 0 ≤ length text) (place-next i) (within (suc i) (omega arith))))
+moves-sound zero h at k arcs text s [] [] e pos sp lent short j f =
+    (0, omega (arith, Option·some-injective k j f), record { earlier = []; positions = tt; leads = refl; quotient = refl; by-is = refl })
+moves-sound zero h at k arcs text s ps (x ∷ t) e pos sp lent short j f = absurd (omega (arith, e))
+moves-sound zero h at k arcs text s (p ∷ ps) [] e pos sp lent short j f = absurd pos
+moves-sound (suc n) h at k arcs text s ps [] e pos sp lent short j f = absurd (omega (arith, e))
+moves-sound (suc n) h at k arcs text s [] (x ∷ t) e pos sp lent short j f = absurd pos
+moves-sound (suc n) h at k arcs text s (p ∷ ps) (x ∷ t) e pos sp lent short j f =
+    go (tapeMove arcs at text (getD (s .starts) h 0) p (combinations t)) refl
+    (ap (λ (o : Option ℕ). bind o next) (sym (first-move text s h p ps x t sp arcs at)) ∙ f)
+    (λ m g. moves-sound n (h + 1) (at + 9) (k + m) arcs text s ps t (omega (arith, e)) (pos .1) (spotted-next text s h p ps x t sp) (omega arith) (next-short n at arcs short) j g)
+  where
+    l : List ℕ
+    l = labelAs (labelAt at arcs)
+
+    next : ℕ → Option ℕ
+    next m = movesFrom n (h + 1) (at + 9) (k + m) arcs text s
+
+    go : (o : Option ℕ) → tapeMove arcs at text (getD (s .starts) h 0) p (combinations t) ≡ o → bind o next ≡ some j
+        → ((m : ℕ) → next m ≡ some j → (i : ℕ) × (j ≡ k + m + i) × Before (labelled n (at + 9) arcs) t ps i)
+        → (i : ℕ) × (j ≡ k + i) × Before (l ∷ labelled n (at + 9) arcs) (x ∷ t) (p ∷ ps) i
+    go none a g ih = absurd (Option·none-ne-some j g)
+    go (some m) a g ih =
+        let (i, q, b) = ih m g in
+        let (le, quotient, by) = tape-sound arcs at text (getD (s .starts) h 0) p (combinations t) x (omega arith) (first-short n at arcs short) (first-before text s h p ps x t sp) m a in
+        let there : p - length l + length l ≡ p = omega (arith, le) in (
+          m + i,
+          omega (arith, q),
+          record {
+            earlier = (p - length l) ∷ b .earlier;
+            positions = (omega (arith, pos .0), b .positions);
+            leads = ap₂ _∷_ there (b .leads);
+            quotient = ap₂ consBoth quotient (b .quotient);
+            by-is = omega (arith, by, b .by-is);
+          },
+        )
+
+-- and labels that lead there from an earlier one end there
+pub moves-complete : (n h at k : ℕ) (arcs text : List ℕ) (s : Spot) (ps : List ℕ) (t : Tuple) → length t ≡ n → Positions ps t → Spotted text s h ps t
+    → at + 9 * n ≤ length arcs → ((i : ℕ) → i < n → getD arcs (at + 9 * i) 0 ≤ 8) → (ps′ : List ℕ) (rest : Tuple) → Positions ps′ t
+    → moved ps′ (labelled n at arcs) ≡ ps → leftQuotients (labelled n at arcs) (dropAll ps′ t) ≡ some rest
+    → movesFrom n h at k arcs text s ≡ some (k + shift (labelled n at arcs) t)
+unfolding movesFrom labelsAt
+moves-complete zero h at k arcs text s ps t e pos sp lent short ps′ rest pos′ m q = ap some (sym (add-zero k))
+moves-complete (suc n) h at k arcs text s ps [] e pos sp lent short ps′ rest pos′ m q = absurd (omega (arith, e))
+moves-complete (suc n) h at k arcs text s [] (x ∷ t) e pos sp lent short ps′ rest pos′ m q = absurd pos
+moves-complete (suc n) h at k arcs text s (p ∷ ps) (x ∷ t) e pos sp lent short [] rest pos′ m q = absurd pos′
+moves-complete (suc n) h at k arcs text s (p ∷ ps) (x ∷ t) e pos sp lent short (p′ ∷ ps′) rest pos′ m q =
+    go (leftQuotient l (drop p′ x)) refl (leftQuotients ls (dropAll ps′ t)) refl q
+    (λ rs b. moves-complete n (h + 1) (at + 9) (k + length l * combinations t) arcs text s ps t (omega (arith, e)) (pos .1) (spotted-next text s h p ps x t sp) (omega arith)
+    (next-short n at arcs short) ps′ rs (pos′ .1) behind b)
   where
     l : List ℕ
     l = labelAs (labelAt at arcs)
@@ -171,59 +241,22 @@ moves-mean (suc n) h at k arcs text s (p ∷ ps) (x ∷ t) e pos sp lent short w
     ls = labelled n (at + 9) arcs
 
     next : ℕ → Option ℕ
-    next m = movesFrom n (h + 1) (at + 9) (k + m) arcs text s
+    next j = movesFrom n (h + 1) (at + 9) (k + j) arcs text s
 
-    at-zero : h + 0 ≡ h
-    at-zero = omega arith
+    here : p′ + length l ≡ p
+    here = ap (λ (z : List ℕ). getD z 0 0) m
 
-    first : at + 9 * 0 ≡ at
-    first = omega arith
+    behind : moved ps′ ls ≡ ps
+    behind = ap (λ (z : List ℕ). drop 1 z) m
 
-    one : tapeMove arcs at text (getD (s .starts) h 0) (getD (s .lengths) h 0) (getD (s .spans) h 0)
-        ≡ where? (leftQuotient l (part (getD (s .starts) h 0) (getD (s .lengths) h 0) text)) (length l * getD (s .spans) h 0)
-    one = tape-means arcs at text (getD (s .starts) h 0) (getD (s .lengths) h 0) (getD (s .spans) h 0) (omega arith)
-        (subst (λ (i : ℕ). getD arcs i 0 ≤ 8) first (short 0 (omega arith)))
-        (subst (λ (i : ℕ). getD (s .starts) i 0 + getD (s .lengths) i 0 ≤ length text) at-zero (within 0 (omega arith)))
-
-    rest : part (getD (s .starts) h 0) (getD (s .lengths) h 0) text ≡ drop p x
-    rest = ap (λ (i : ℕ). part (getD (s .starts) i 0) (getD (s .lengths) i 0) text) (sym at-zero) ∙ sp .rest-is 0 (omega arith)
-
-    span : getD (s .spans) h 0 ≡ combinations t
-    span = ap (λ (i : ℕ). getD (s .spans) i 0) (sym at-zero) ∙ sp .span-is 0 (omega arith)
-
-    move : (i : ℕ) → at + 9 * suc i ≡ at + 9 + 9 * i
-    move i = omega arith
-
-    place-next : (i : ℕ) → h + suc i ≡ h + 1 + i
-    place-next i = omega arith
-
-    end : (o : Option Tuple) → where? o (k + length l * combinations t + shift ls t) ≡ where? o (k + (length l * combinations t + shift ls t))
-    end none = refl
-    end (some z) = ap some (add-assoc k (length l * combinations t) (shift ls t))
-
-    inner : (r : List ℕ) (o : Option Tuple) → where? o (k + (length l * combinations t + shift ls t)) ≡ where? (consBoth (some r) o) (k + (length l * combinations t + shift ls t))
-    inner r none = refl
-    inner r (some z) = refl
-
-    go : (o : Option (List ℕ)) → ((m : ℕ) → next m ≡ where? (leftQuotients ls (dropAll ps t)) (k + m + shift ls t))
-        → bind (where? o (length l * combinations t)) next
-        ≡ where? (consBoth o (leftQuotients ls (dropAll ps t))) (k + (length l * combinations t + shift ls t))
-    go none i = refl
-    go (some r) i = i (length l * combinations t) ∙ end (leftQuotients ls (dropAll ps t)) ∙ inner r (leftQuotients ls (dropAll ps t))
-
--- labels that move no position have no symbol
-pub shift-none : (n at : ℕ) (arcs : List ℕ) (t : Tuple) → length t ≡ n → at + 9 * n ≤ length arcs → ((i : ℕ) → i < n → getD arcs (at + 9 * i) 0 ≤ 8)
-    → shift (labelled n at arcs) t ≡ 0 → noSymbol n at arcs ≡ true
-unfolding noSymbol labelsAt
-shift-none zero at arcs t e lent short still = refl
-shift-none (suc n) at arcs [] e lent short still = absurd (omega (arith, e))
-shift-none (suc n) at arcs (x ∷ t) e lent short still =
-    let first : at + 9 * 0 ≡ at = omega arith in
-    let l = label-length arcs at (omega arith) (subst (λ (i : ℕ). getD arcs i 0 ≤ 8) first (short 0 (omega arith))) in
-    let k : ℕ = length (labelAs (labelAt at arcs)) in
-    let same : k ≤ k = omega arith in
-    let m = mul-le-mul same (combinations-positive t) in
-    let z : getD arcs at 0 ≡ 0 = omega (arith, m, l, still) in
-    let i = shift-none n (at + 9) arcs t (omega (arith, e)) (omega arith)
-    (λ i lt. let y : at + 9 * suc i ≡ at + 9 + 9 * i = omega arith in subst (λ (j : ℕ). getD arcs j 0 ≤ 8) y (short (suc i) (omega arith))) (omega (arith, still)) in
-    rw (z, i)
+    go : (o : Option (List ℕ)) → leftQuotient l (drop p′ x) ≡ o → (o′ : Option Tuple) → leftQuotients ls (dropAll ps′ t) ≡ o′ → consBoth o o′ ≡ some rest
+        → ((rs : Tuple) → leftQuotients ls (dropAll ps′ t) ≡ some rs → next (length l * combinations t) ≡ some (k + length l * combinations t + shift ls t))
+        → bind (tapeMove arcs at text (getD (s .starts) h 0) (getD (s .positions) h 0) (getD (s .spans) h 0)) next
+        ≡ some (k + (length l * combinations t + shift ls t))
+    go none a o′ b c ih = absurd (Option·none-ne-some rest c)
+    go (some r) a none b c ih = absurd (Option·none-ne-some rest c)
+    go (some r) a (some rs) b c ih =
+        ap (λ (o : Option ℕ). bind o next) (first-move text s h p ps x t sp arcs at
+        ∙ tape-complete arcs at text (getD (s .starts) h 0) p (combinations t) x (omega arith) (first-short n at arcs short) (first-before text s h p ps x t sp) p′ r here a)
+        ∙ ih rs b
+        ∙ ap some (add-assoc k (length l * combinations t) (shift ls t))

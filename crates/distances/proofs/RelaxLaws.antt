@@ -1,13 +1,13 @@
--- Relaxation by an arc at a combination of positions keeps what is known of the numbers; the combination is done when no arc can lower one.
+-- Relaxation by an arc that leads to a combination of positions keeps what is known of the numbers; the combination is
+-- done when no such arc can lower one.
 use mathlib.Core.Path.{_≡_, refl, sym, ap, subst}
-use mathlib.Core.Logic.{inr, _≢_}
+use mathlib.Core.Logic.{inr}
 use mathlib.Core.Option.{none, some}
 use mathlib.Core.List.{List}
-use Prim.Native.Nat.{ℕ, suc, _+_, _*_, _≤_, _<_, min}
+use Prim.Native.Nat.{ℕ, suc, _+_, _*_, _≤_, _<_}
 use native.Mathlib.Decide.{ℕ-discrete, decLe}
 use native.Mathlib.Omega.{arith}
-use lib.ListN.{length, getD, getElem?, length-set}
-use lib.Seq.{getD-set-same, getD-set-other}
+use lib.ListN.{length, getD, getElem?}
 use Rattle.automata.specs.OrderedSum.{ℕ-sum}
 use Rattle.automata.specs.Graph.{Within}
 use Rattle.automata.specs.Automaton.{Automaton, Arc, size, graph, Tuple}
@@ -18,26 +18,13 @@ use Rattle.automata.proofs.Cells.{Positions, dropAll, moved, place, place-inj, 
 use Rattle.cell_moves.specs.Distances.{far, lowered}
 use Rattle.distances.proofs.DistanceLaws.{val, Distances}
 use Rattle.distances.proofs.MoveMeaning.{place-moved}
-use Rattle.distances.proofs.SweepLaws.{lowered-le}
-
--- the number found, where it is less than the one there
-pub lowered-same : (k v : ℕ) (xs : List ℕ) → k < length xs → getD (lowered k v xs) k 0 ≡ min (getD xs k 0) v
-unfolding lowered
-lowered-same k v xs h = getD-set-same xs k (min (getD xs k 0) v) 0 h
-
-pub lowered-other : (k v : ℕ) (xs : List ℕ) (j : ℕ) → j ≢ k → getD (lowered k v xs) j 0 ≡ getD xs j 0
-unfolding lowered
-lowered-other k v xs j h = getD-set-other xs k j (min (getD xs k 0) v) 0 h
-
-pub lowered-length : (k v : ℕ) (xs : List ℕ) → length (lowered k v xs) ≡ length xs
-unfolding lowered
-lowered-length k v xs = length-set xs k (min (getD xs k 0) v)
+use Rattle.distances.proofs.PushLaws.{lowered-le, lowered-same, lowered-other}
 
 -- ---- one arc
 
 module _ (A : Automaton ℕ) (within : Within (graph A) (size A)) (t : Tuple) (ps : List ℕ) (h : Positions ps t) (xs : List ℕ)
-    (room : size A * combinations t ≤ length xs) (d : Distances A t xs (suc (place ps t))) (e : ℕ) (a : Arc ℕ) (at : getElem? (A .arcs) e ≡ some a)
-    (rest : Tuple) (b : leftQuotients (a .labels) (dropAll ps t) ≡ some rest) where
+    (room : size A * combinations t ≤ length xs) (n : ℕ) (d : Distances A t xs n) (e : ℕ) (a : Arc ℕ) (at : getElem? (A .arcs) e ≡ some a)
+    (rest : Tuple) (b : leftQuotients (a .labels) (dropAll ps t) ≡ some rest) (early : place (moved ps (a .labels)) t < n) where
   -- the cell of its source, the weight through it, and the numbers after it
   abbrev pub sourceCell : ℕ
   sourceCell = cell (a .source) ps t
@@ -74,10 +61,10 @@ module _ (A : Automaton ℕ) (within : Within (graph A) (size A)) (t : Tuple) (p
       )
 
   -- numbers of later combinations stay
-  later-stays : (q : ℕ) (ps₂ : List ℕ) → Positions ps₂ t → suc (place ps t) ≤ place ps₂ t → val A t after q ps₂ ≡ val A t xs q ps₂
+  later-stays : (q : ℕ) (ps₂ : List ℕ) → Positions ps₂ t → n ≤ place ps₂ t → val A t after q ps₂ ≡ val A t xs q ps₂
   later-stays q ps₂ h₂ le = lowered-other sourceCell through xs (cell q ps₂ t) (λ same.
       let (i, j) = cell-inj q (a .source) ps₂ ps t h₂ h same in
-      let z : place ps₂ t ≡ place ps t = ap (λ (x : List ℕ). place x t) j in omega (arith, z, le))
+      let z : place ps₂ t ≡ place ps t = ap (λ (x : List ℕ). place x t) j in omega (arith, z, le, early, place-moved ps (a .labels) t h))
 
   after-attained : (q : ℕ) (ps₂ : List ℕ) → q < size A → Positions ps₂ t → val A t after q ps₂ < far
       → (k : ℕ) × Onward ℕ-sum A k q (dropAll ps₂ t) (val A t after q ps₂)
@@ -100,42 +87,40 @@ module _ (A : Automaton ℕ) (within : Within (graph A) (size A)) (t : Tuple) (p
           let f : through ≡ val A t after q ps₂ = omega (arith, gt, lowered-same sourceCell through xs in-room, ap (λ (i : ℕ). getD after i 0) same) in
           subst (Shown q ps₂) f (subst (λ (z : List ℕ). Shown q z through) (sym j) (subst (λ (z : ℕ). Shown z ps through) (sym i) through-attained))
 
-  pub arc-keeps : Distances A t after (suc (place ps t))
+  pub arc-keeps : Distances A t after n
   arc-keeps = record {
     below = λ k. omega (arith, lowered-le sourceCell through xs k, d .below k);
     attained = after-attained;
     ends = λ q ps₂ f lt h₂ s g. omega (arith, lowered-le sourceCell through xs (cell q ps₂ t), d .ends q ps₂ f lt h₂ s g);
-    goes = λ q ps₂ lt h₂ le e₂ a₂ at₂ from₂ rest₂ b₂.
+    goes = λ q ps₂ lt h₂ e₂ a₂ at₂ from₂ rest₂ b₂ le.
         let g = leftQuotients-drop (a₂ .labels) ps₂ t rest₂ h₂ b₂ .1 in
-        let m = place-moved ps₂ (a₂ .labels) t h₂ in
         omega (
           arith,
-          later-stays q ps₂ h₂ le,
-          later-stays (a₂ .target) (moved ps₂ (a₂ .labels)) g (omega (arith, m, le)),
-          d .goes q ps₂ lt h₂ le e₂ a₂ at₂ from₂ rest₂ b₂,
+          lowered-le sourceCell through xs (cell q ps₂ t),
+          later-stays (a₂ .target) (moved ps₂ (a₂ .labels)) g le,
+          d .goes q ps₂ lt h₂ e₂ a₂ at₂ from₂ rest₂ b₂ le,
         );
   }
 
 -- ---- all arcs
 
--- A combination is done when none of its arcs lowers a number.
+-- A combination is done when none of the arcs that lead to it lowers a number.
 pub combination-done : (A : Automaton ℕ) (t : Tuple) (ps : List ℕ) → Positions ps t → (xs : List ℕ) → Distances A t xs (suc (place ps t))
-    → ((e : ℕ) (a : Arc ℕ) → getElem? (A .arcs) e ≡ some a → (rest : Tuple) → leftQuotients (a .labels) (dropAll ps t) ≡ some rest
-    → val A t xs (a .source) ps ≤ a .weight + val A t xs (a .target) (moved ps (a .labels)))
+    → ((e : ℕ) (a : Arc ℕ) → getElem? (A .arcs) e ≡ some a → (ps₂ : List ℕ) → Positions ps₂ t → moved ps₂ (a .labels) ≡ ps
+    → (rest : Tuple) → leftQuotients (a .labels) (dropAll ps₂ t) ≡ some rest → val A t xs (a .source) ps₂ ≤ a .weight + val A t xs (a .target) ps)
     → Distances A t xs (place ps t)
 combination-done A t ps h xs d each = record {
   below = d .below;
   attained = d .attained;
   ends = d .ends;
-  goes = λ q ps₂ lt h₂ le e a at from rest b. go q ps₂ lt h₂ le e a at from rest b (ℕ-discrete (place ps₂ t) (place ps t));
+  goes = λ q ps₂ lt h₂ e a at from rest b le. go q ps₂ lt h₂ e a at from rest b le (ℕ-discrete (place (moved ps₂ (a .labels)) t) (place ps t));
 }
   where
-    go : (q : ℕ) (ps₂ : List ℕ) → q < size A → Positions ps₂ t → place ps t ≤ place ps₂ t → (e : ℕ) (a : Arc ℕ) → getElem? (A .arcs) e ≡ some a
-        → a .source ≡ q → (rest : Tuple) → leftQuotients (a .labels) (dropAll ps₂ t) ≡ some rest → Dec (place ps₂ t ≡ place ps t)
-        → val A t xs q ps₂ ≤ a .weight + val A t xs (a .target) (moved ps₂ (a .labels))
-    go q ps₂ lt h₂ le e a at from rest b (no ne) = d .goes q ps₂ lt h₂ (omega arith) e a at from rest b
-    go q ps₂ lt h₂ le e a at from rest b (yes same) =
-        let j : ps ≡ ps₂ = sym (place-inj ps₂ ps t h₂ h same) in
-        subst (λ (z : List ℕ). val A t xs q z ≤ a .weight + val A t xs (a .target) (moved z (a .labels))) j
-        (subst (λ (z : ℕ). val A t xs z ps ≤ a .weight + val A t xs (a .target) (moved ps (a .labels))) from
-        (each e a at rest (subst (λ (z : List ℕ). leftQuotients (a .labels) (dropAll z t) ≡ some rest) (sym j) b)))
+    go : (q : ℕ) (ps₂ : List ℕ) → q < size A → Positions ps₂ t → (e : ℕ) (a : Arc ℕ) → getElem? (A .arcs) e ≡ some a
+        → a .source ≡ q → (rest : Tuple) → leftQuotients (a .labels) (dropAll ps₂ t) ≡ some rest → place ps t ≤ place (moved ps₂ (a .labels)) t
+        → Dec (place (moved ps₂ (a .labels)) t ≡ place ps t) → val A t xs q ps₂ ≤ a .weight + val A t xs (a .target) (moved ps₂ (a .labels))
+    go q ps₂ lt h₂ e a at from rest b le (no ne) = d .goes q ps₂ lt h₂ e a at from rest b (omega arith)
+    go q ps₂ lt h₂ e a at from rest b le (yes same) =
+        let j : moved ps₂ (a .labels) ≡ ps = place-inj (moved ps₂ (a .labels)) ps t (leftQuotients-drop (a .labels) ps₂ t rest h₂ b .1) h same in
+        subst (λ (z : List ℕ). val A t xs q ps₂ ≤ a .weight + val A t xs (a .target) z) (sym j)
+        (subst (λ (z : ℕ). val A t xs z ps₂ ≤ a .weight + val A t xs (a .target) ps) from (each e a at ps₂ h₂ j rest b))

@@ -1,4 +1,4 @@
--- The combination of a number: its positions, and what is left of the strings from them on.
+-- The combination of a number: its positions, and the symbols of the strings before them.
 use mathlib.Core.Path.{_≡_, refl, sym, ap, ap₂, subst, _∙_}
 use mathlib.Core.List.{List, [], _∷_}
 use Prim.Native.Nat.{ℕ, zero, suc, _+_, _-_, _*_, _/_, _%_, _^_, _≤_, _<_}
@@ -6,18 +6,19 @@ use native.Mathlib.Nat.{mod-lt, mod-one, mod-eq-of-lt, mul-le-mul, mul-comm, pow
 use native.Mathlib.Decide.{decLe}
 use native.Mathlib.Omega.{arith}
 use lib.Arith.{mod-mul}
-use lib.ListN.{length, getD, take, drop, length-drop, List·getD-eq-default}
-use lib.Seq.{getD-drop, drop-drop}
+use lib.ListN.{length, getD, drop, length-drop, List·getD-eq-default}
+use lib.Seq.{getD-drop}
 use Rattle.automata.specs.Automaton.{Tuple}
 use Rattle.automata.specs.Calls.Work.{combinations}
 use Rattle.automata.proofs.Cells.{Positions, place}
 use Rattle.memory.specs.Region.{part}
+use Rattle.memory.proofs.PartLaws.{part-part}
 use Rattle.tuple.specs.declared.Strings.{Strings}
 use Rattle.tuple.specs.Strings.{Stands}
 use Rattle.cell_moves.specs.declared.spot.Spans.{Spans}
 use Rattle.cell_moves.specs.Spots.{spanOf, Spanned, digit, eightOf, spotOf, Positive}
 use Rattle.distances.proofs.MoveMeaning.{combinations-positive}
-use Rattle.distances.proofs.RoundMeaning.{AtSpot}
+use Rattle.distances.proofs.PushMeaning.{AtSpot}
 
 -- ---- positions by their number
 
@@ -94,21 +95,6 @@ eight-at f (suc (suc (suc (suc (suc (suc zero)))))) lt = refl
 eight-at f (suc (suc (suc (suc (suc (suc (suc zero))))))) lt = refl
 eight-at f (suc (suc (suc (suc (suc (suc (suc (suc h)))))))) lt = absurd (omega arith)
 
-drop-take : (p n : ℕ) (ys : List ℕ) → drop p (take n ys) ≡ take (n - p) (drop p ys)
-drop-take zero n ys = let z : n ≡ n - 0 = omega arith in ap (λ (k : ℕ). take k ys) z
-drop-take (suc p) zero ys = let z : 0 - suc p ≡ 0 = omega arith in ap (λ (k : ℕ). take k (drop (suc p) ys)) (sym z)
-drop-take (suc p) (suc n) [] = sym (take-none (suc n - suc p))
-  where
-    take-none : (k : ℕ) → _≡_ {A = List ℕ} (take k []) []
-    take-none zero = refl
-    take-none (suc k) = refl
-drop-take (suc p) (suc n) (y ∷ ys) =
-    let z : n - p ≡ suc n - suc p = omega arith in drop-take p n ys ∙ ap (λ (k : ℕ). take k (drop p ys)) z
-
-drop-part : (p a n : ℕ) (xs : List ℕ) → part (a + p) (n - p) xs ≡ drop p (part a n xs)
-unfolding part
-drop-part p a n xs = ap (take (n - p)) (sym (drop-drop p a xs)) ∙ sym (drop-take p n (drop a xs))
-
 module _ (text : List ℕ) (t : Tuple) (s : Strings) (st : Stands text t s) (spans : Spans) (sp : Spanned (s .lengths) spans) where
   pub span-at : (h : ℕ) → h < 8 → getD (spans .spans) h 0 ≡ combinations (drop (suc h) t)
   span-at h lt = sp .each h lt ∙ span-combinations (drop (suc h) (s .lengths)) (drop (suc h) t)
@@ -145,10 +131,20 @@ module _ (text : List ℕ) (t : Tuple) (s : Strings) (st : Stands text t s) (spa
     start-is j lt =
         eight-at (λ h. getD (s .starts) h 0 + digit s spans b h) j (omega (arith, st .few)) ∙ ap (λ (x : ℕ). getD (s .starts) j 0 + x) (digit-is j lt)
 
-    left-is : (j : ℕ) → j < length t → getD (spotOf s spans b .lengths) j 0 ≡ getD (s .lengths) j 0 - getD (digits b t) j 0
+    position-is : (j : ℕ) → j < length t → getD (spotOf s spans b .positions) j 0 ≡ getD (digits b t) j 0
     unfolding spotOf
-    left-is j lt =
-        eight-at (λ h. getD (s .lengths) h 0 - digit s spans b h) j (omega (arith, st .few)) ∙ ap (λ (x : ℕ). getD (s .lengths) j 0 - x) (digit-is j lt)
+    position-is j lt = eight-at (λ h. digit s spans b h) j (omega (arith, st .few)) ∙ digit-is j lt
+
+    -- the symbols before the position
+    before-is : (j : ℕ) → j < length t → (n : ℕ) → n ≤ getD (digits b t) j 0
+        → part (getD (spotOf s spans b .starts) j 0 - n) n text ≡ part (getD (digits b t) j 0 - n) n (getD t j [])
+    before-is j lt n le =
+        let p : ℕ = getD (digits b t) j 0 in
+        let a : ℕ = getD (s .starts) j 0 in
+        let z : getD (spotOf s spans b .starts) j 0 - n ≡ a + (p - n) = omega (arith, start-is j lt, le) in
+        ap (λ (i : ℕ). part i n text) z
+        ∙ sym (part-part (p - n) n a (getD (s .lengths) j 0) text (omega (arith, le, digits-le b t j lt, st .length-is j lt)))
+        ∙ ap (part (p - n) n) (st .string-is j lt)
 
     pub at-spot : AtSpot text t (spotOf s spans b) (digits b t)
     unfolding spotOf
@@ -158,19 +154,16 @@ module _ (text : List ℕ) (t : Tuple) (s : Strings) (st : Stands text t s) (spa
       all-is = all-at;
       spotted = record {
         span-is = λ j lt. ap (λ (i : ℕ). getD (spans .spans) i 0) (add j) ∙ span-at j (omega (arith, st .few));
-        length-is = λ j lt. ap (λ (i : ℕ). getD (spotOf s spans b .lengths) i 0) (add j) ∙ left-is j lt
-            ∙ ap (λ (x : ℕ). x - getD (digits b t) j 0) (st .length-is j lt);
-        rest-is = λ j lt. ap (λ (i : ℕ). part (getD (spotOf s spans b .starts) i 0) (getD (spotOf s spans b .lengths) i 0) text) (add j)
-            ∙ ap₂ (λ (a n : ℕ). part a n text) (start-is j lt) (left-is j lt)
-            ∙ drop-part (getD (digits b t) j 0) (getD (s .starts) j 0) (getD (s .lengths) j 0) text
-            ∙ ap (drop (getD (digits b t) j 0)) (st .string-is j lt);
+        position-is = λ j lt. ap (λ (i : ℕ). getD (spotOf s spans b .positions) i 0) (add j) ∙ position-is j lt;
+        before-is = λ j lt n le. ap (λ (i : ℕ). part (getD (spotOf s spans b .starts) i 0 - n) n text) (add j) ∙ before-is j lt n le;
       };
       laid = record {
         few = st .few;
         eight-starts = refl;
-        eight-lengths = refl;
+        eight-positions = refl;
         eight-spans = sp .eight;
-        within = λ j lt. omega (arith, start-is j lt, left-is j lt, digits-le b t j lt, st .length-is j lt, st .within j lt);
+        before = λ j lt. omega (arith, start-is j lt, position-is j lt);
+        within = λ j lt. omega (arith, start-is j lt, digits-le b t j lt, st .length-is j lt, st .within j lt);
         small = span-small;
       };
     }

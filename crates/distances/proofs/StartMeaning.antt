@@ -21,7 +21,7 @@ use Rattle.automata.proofs.Finite.{digits-≡}
 use Rattle.automata.proofs.SoundFacts.{sound-holds}
 use Rattle.automata.proofs.Spelling.{Spells, allEmpty-spells, spells-allEmpty}
 use Rattle.automata.proofs.LookupRuns.{Onward, onward-of}
-use Rattle.automata.proofs.Cells.{Positions, dropAll, place, place-lt, cell, cell-lt}
+use Rattle.automata.proofs.Cells.{Positions, dropAll, moved, place, place-lt, cell, cell-lt, leftQuotients-drop}
 use Rattle.memory.specs.Region.{part}
 use Rattle.memory.specs.Endian.{le}
 use Rattle.memory.specs.Answers.{lent}
@@ -35,8 +35,7 @@ use Rattle.cell_moves.specs.Distances.{far, cellsOf, lowered}
 use Rattle.distances.specs.Ends.{endedBy, started, startedFrom}
 use Rattle.cell_moves.proofs.CellLaws.{cells-get, length-cells}
 use Rattle.distances.proofs.DistanceLaws.{val, Distances}
-use Rattle.distances.proofs.SweepLaws.{lowered-le}
-use Rattle.distances.proofs.RelaxLaws.{lowered-same, lowered-other, lowered-length}
+use Rattle.distances.proofs.PushLaws.{lowered-le, lowered-same, lowered-other, lowered-length}
 use Rattle.distances.proofs.MoveMeaning.{combinations-positive}
 
 -- ---- the last combination
@@ -240,5 +239,6 @@ module _ (c : Counts) (states arcs : List ℕ) (sound : Sound (lent c states arc
         below = b .below;
         attained = b .attained;
         ends = λ q ps f lt h s g. b .ends q ps f (omega (arith, lt, sound-holds (lent c states arcs) sound .states)) h s g;
-        goes = λ q ps lt h l e x at from rest g. absurd (omega (arith, place-lt ps t h, l, a));
+        goes = λ q ps lt h e x at from rest g l.
+            absurd (omega (arith, place-lt (moved ps (x .labels)) t (leftQuotients-drop (x .labels) ps t rest h g .1), l, a));
       }

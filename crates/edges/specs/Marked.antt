@@ -1,12 +1,12 @@
--- Marks as bytes 0 and 1, and a round over edges on them.
+-- Marks as bytes 0 and 1, and a round in place over edges on them.
 use Prim.Native.Nat.{ℕ, _<_}
-use mathlib.Core.Path.{_≡_}
 use mathlib.Core.Bool.{Bool, true, false}
 use mathlib.Core.List.{List, [], map}
 use lib.Dec.{eqb}
-use lib.ListN.{getD, take, drop}
-use Rattle.automata.specs.Lists.{if, sameList}
-use Rattle.automata.specs.Rounds.{visit, sweep, round}
+use lib.ListN.{getD}
+use Rattle.automata.specs.Lists.{if}
+use Rattle.automata.specs.Rounds.{visit}
+use Rattle.automata.specs.InPlace.{sweepInPlace, roundInPlace}
 use Rattle.edges.specs.Edges.{recordGraph}
 use Rattle.edges.specs.declared.edge.EdgeRecord.{EdgeRecord}
 
@@ -28,23 +28,17 @@ bools ms = map isMark ms
 unfoldable pub Bits : List ℕ → Type 0
 Bits ms = (i : ℕ) → getD ms i 0 < 2
 
--- an edge makes the byte x of its source 1 where that of its target was
+-- an edge makes the byte x of its source 1 where that of its target is
 abbrev pub markByte : EdgeRecord → List ℕ → ℕ → ℕ
 markByte e old x = if (isMark (getD old (e .to .0) 0)) 1 x
 
--- the bytes after one edge and after several, by the old ones
-unfoldable pub visitedMarks : EdgeRecord → List ℕ → List ℕ → List ℕ
-visitedMarks e old new = visit (recordGraph []) 0 markByte old new e
+-- the bytes after one edge, and after several, the last one first
+unfoldable pub visitedMarks : EdgeRecord → List ℕ → List ℕ
+visitedMarks e ms = visit (recordGraph []) 0 markByte ms ms e
 
-unfoldable pub sweptMarks : List EdgeRecord → List ℕ → List ℕ → List ℕ
-sweptMarks es old new = sweep (recordGraph []) 0 markByte old new es
+unfoldable pub sweptMarks : List EdgeRecord → List ℕ → List ℕ
+sweptMarks es ms = sweepInPlace (recordGraph []) 0 markByte ms es
 
 -- the bytes after a round
 abbrev pub roundBytes : List EdgeRecord → List ℕ → List ℕ
-roundBytes es ms = round (recordGraph es) 0 markByte ms
-
--- a round over the edges es took the first n bytes from v to w and left the others; same tells whether it changed none
-pub record RoundedMarks (es : List EdgeRecord) (n : ℕ) (same : Bool) (w v : List ℕ) : Type 0 where
-  pub first : take n w ≡ roundBytes es (take n v)
-  pub rest : drop n w ≡ drop n v
-  pub same-is : same ≡ sameList (take n v) (roundBytes es (take n v))
+roundBytes es ms = roundInPlace (recordGraph es) 0 markByte ms

@@ -17,14 +17,14 @@ use Rattle.automata.proofs.ListFacts
 use Rattle.automata.proofs.TestFacts
 use Rattle.automata.proofs.AppendFacts
 use Rattle.automata.proofs.SearchFacts.{insertAll-append}
-use Rattle.memory.specs.Region.{rows}
 use Rattle.delays.specs.ClosingRegion.{HoldsClosing}
 use Rattle.rows.proofs.SearchLaws.{inserted-longer}
+use Rattle.chains.specs.Chain.{fronts, Chained}
 use Rattle.edges.proofs.EdgeLaws.{holds-none}
 use Rattle.offers.specs.declared.plan.Plan.{Plan}
 use Rattle.config_search.specs.declared.head.Head.{Head}
 use Rattle.offers.specs.Plans.{Explorable, tableIn, pairsIn, tablesIn, viableIn}
-use Rattle.config_search.specs.Searching.{ConfigSearch, Holds, Comes}
+use Rattle.config_search.specs.Searching.{bucketBy, ConfigSearch, Holds, Comes}
 use Rattle.config_search.specs.Starting.{withConfigs, startBy, startsUpTo, Startable, Enters, Beginnable, Begun}
 use Rattle.config_search.proofs.StartLaws.{state-count}
 
@@ -39,17 +39,19 @@ pub record Beginning (p : Plan) (states : List ℕ) (v : List ℕ) (g : Head) (w
   pub arcs : g .arcs ≡ 0
   pub same-length : length w ≡ length v
   pub meaning : (arcs : List ℕ) → Explorable p states arcs (length v) → HoldsClosing (tablesIn p states arcs) (p .room .delays) (p .counts .states) v
+      → Chained (bucketBy (p .pairs .used) (p .room .states)) 320 298 (p .room .states) 0 v
       → Holds p states arcs g (withConfigs (record { vertices = []; edges = [] }) (startsUpTo (tableIn p states arcs) (pairsIn p) (viableIn p states arcs) q)) false w
 
 pub begin-start : (p : Plan) (states : List ℕ) (v : List ℕ) → Beginning p states v (record { taken = 0; reached = 0; arcs = 0; late = false; full = false }) v 0
-unfolding rows
+unfolding fronts
 begin-start p states v = record {
   within = omega arith;
   taken = refl;
   arcs = refl;
   same-length = refl;
-  meaning = λ arcs x c. record {
+  meaning = λ arcs x c e. record {
     configs = refl;
+    chained = e;
     edges = holds-none (p .room .edges) (p .room .arcs) v;
     closing = c;
     reached = refl;
@@ -77,14 +79,15 @@ module _ (p : Plan) (states : List ℕ) (v : List ℕ) (k : Beginnable p states 
     search = _;
     late = _;
     explorable = wider (k .arcs) (k .explorable);
-    holds = t .meaning (k .arcs) (k .explorable) (k .closing);
+    holds = t .meaning (k .arcs) (k .explorable) (k .closing) (k .chained);
     state-fits = b;
   }
 
   module _ (b : q < p .counts .states) (r : Head) (u : List ℕ) (z : Enters p g states q w r u) where
     begin-comes : (arcs : List ℕ) → Explorable p states arcs (length v) → HoldsClosing (tablesIn p states arcs) (p .room .delays) (p .counts .states) v
+        → Chained (bucketBy (p .pairs .used) (p .room .states)) 320 298 (p .room .states) 0 v
         → Comes p states arcs r (withConfigs (record { vertices = []; edges = [] }) (firsts p states arcs (q + 1))) false u
-    begin-comes arcs x c =
+    begin-comes arcs x c m =
         let A = tableIn p states arcs in
         let f = startBy (pairsIn p) (viableIn p states arcs) in
         let y = ListFacts.place-exists (A .states) q (omega (arith, state-count p states arcs (length v) x)) in
@@ -93,7 +96,7 @@ module _ (p : Plan) (states : List ℕ) (v : List ℕ) (k : Beginnable p states 
         let one : firsts p states arcs (suc q) ≡ firsts p states arcs q ++ consMaybe (f (q, a)) [] = AppendFacts.first-values-suc f (A .states) q (y .1) in
         let e : insertAll sameConfig [] (firsts p states arcs (suc q)) ≡ insertAll sameConfig (insertAll sameConfig [] (firsts p states arcs q)) (consMaybe (f (q, a)) [])
         = ap (insertAll sameConfig []) one ∙ insertAll-append sameConfig [] (firsts p states arcs q) (consMaybe (f (q, a)) []) in
-        let c0 = z .meaning arcs _ false a (wider arcs x) (t .meaning arcs x c) (y .1) in
+        let c0 = z .meaning arcs _ false a (wider arcs x) (t .meaning arcs x c m) (y .1) in
         let c1 = subst (λ (vs : List automata.Config). Comes p states arcs r (record { vertices = vs; edges = [] }) false u) (sym e) c0 in
         subst (λ (i : ℕ). Comes p states arcs r (withConfigs (record { vertices = []; edges = [] }) (firsts p states arcs i)) false u) n c1
 
@@ -103,7 +106,7 @@ module _ (p : Plan) (states : List ℕ) (v : List ℕ) (k : Beginnable p states 
       taken = z .taken ∙ t .taken;
       arcs = z .arcs ∙ t .arcs;
       same-length = z .same-length ∙ t .same-length;
-      meaning = λ arcs x c. begin-comes arcs x c .held f;
+      meaning = λ arcs x c m. begin-comes arcs x c m .held f;
     }
 
     pub begin-full : r .full ≡ true → Begun p states v r u
@@ -111,13 +114,13 @@ module _ (p : Plan) (states : List ℕ) (v : List ℕ) (k : Beginnable p states 
       taken = z .taken ∙ t .taken;
       arcs = z .arcs ∙ t .arcs;
       same-length = z .same-length ∙ t .same-length;
-      meaning = λ arcs x c. record {
+      meaning = λ arcs x c z. record {
         held = λ n. TestFacts.false-not-true n f;
         over = λ n.
             let A = tableIn p states arcs in
             let st = startBy (pairsIn p) (viableIn p states arcs) in
             let whole : List automata.Config = mapMaybe st (numbered zero (A .states)) in
-            let m = begin-comes arcs x c .over f in
+            let m = begin-comes arcs x c z .over f in
             let y = AppendFacts.first-values-begin st (A .states) (q + 1) in
             let l = inserted-longer sameConfig [] (firsts p states arcs (q + 1)) (y .rest) whole (y .joined) in
             subst (λ (s : ConfigSearch). p .room .states < length (s .vertices)) (all-starts p states arcs) (omega (arith, m, l));
@@ -129,10 +132,10 @@ module _ (p : Plan) (states : List ℕ) (v : List ℕ) (k : Beginnable p states 
     taken = t .taken;
     arcs = t .arcs;
     same-length = t .same-length;
-    meaning = λ arcs x c.
+    meaning = λ arcs x c z.
         let A = tableIn p states arcs in
         let st = startBy (pairsIn p) (viableIn p states arcs) in
-        let m = t .meaning arcs x c in
+        let m = t .meaning arcs x c z in
         let e : take q (A .states) ≡ A .states = take-all q (A .states) (omega (arith, state-count p states arcs (length v) x)) in
         let m1 = subst (λ (xs : List (State ℕ)). Holds p states arcs g (withConfigs (record { vertices = []; edges = [] }) (mapMaybe st (numbered zero xs))) false w) e m in
         let m2 = subst (λ (s : ConfigSearch). Holds p states arcs g s false w) (all-starts p states arcs) m1 in

@@ -1,5 +1,5 @@
 -- All configurations that are reached, taken up one after the other.
-use Prim.Native.Nat.{ℕ, suc, _-_, _*_, _≤_, _<_}
+use Prim.Native.Nat.{ℕ, zero, suc, _-_, _*_, _≤_, _<_}
 use mathlib.Core.Path.{_≡_, refl, sym, _∙_, subst}
 use mathlib.Core.Bool.{Bool, true, false}
 use mathlib.Core.List.{List}
@@ -18,14 +18,20 @@ use Rattle.automata.proofs.TestFacts
 use Rattle.automata.proofs.Configurations.{configs-decided}
 use Rattle.automata.proofs.SearchFacts.{searched-some, found-over, taken-any, taken-all}
 use Rattle.automata.proofs.IntersectSteps.{delayed-late}
+use Rattle.automata.proofs.SoundFacts.{sound-well-formed, sound-holds}
 use Rattle.memory.specs.Answers.{lent}
 use Rattle.rows.proofs.SearchLaws.{searched-begun, searched-whole}
-use Rattle.delays.specs.ClosingRegion.{WritesClosing}
+use Rattle.adjacency.specs.Chains.{Chainable}
+use Rattle.chains.specs.Chain.{Clears}
+use Rattle.delays.specs.ClosingRegion.{HoldsClosing, WritesClosing}
+use Rattle.delays.proofs.KeptLaws.{holds-part}
 use Rattle.offers.specs.declared.plan.Plan.{Plan}
 use Rattle.config_search.specs.declared.head.Head.{Head}
-use Rattle.offers.specs.Plans.{Explorable, tableIn, pairsIn, viableIn}
-use Rattle.config_search.specs.Searching.{ConfigSearch, Holds, Comes, Takable, TakesUp}
+use Rattle.offers.specs.Plans.{Explorable, tableIn, pairsIn, tablesIn, viableIn}
+use Rattle.offers.proofs.OfferLaws.{arc-exists, arc-reads, arc-source, arc-source-fits}
+use Rattle.config_search.specs.Searching.{bucketBy, ConfigSearch, Holds, Comes, Takable, TakesUp}
 use Rattle.config_search.specs.Starting.{Beginnable, Begun}
+use Rattle.config_search.proofs.HeldLaws.{few-closings}
 use Rattle.exploration.specs.Exploring.{begunSearch, ComesToReached, Runnable, Runs, Explored}
 
 module _ (p : Plan) (states arcs : List ℕ) where
@@ -142,27 +148,64 @@ module _ (p : Plan) (h : Head) (arcs : List ℕ) (v : List ℕ) (q : Runnable p 
       meaning = λ states x c. let o = t .meaning states x c in all-taken p states arcs (g .taken) g w (omega (arith, o .reached, b)) o;
     }
 
+-- ---- the arcs by their sources
+
+-- the arcs of the table may be chained
+pub chainable : (p : Plan) (states arcs : List ℕ) (size : ℕ) → Explorable p states arcs size → Chainable (p .counts .states) (p .counts .arcs) arcs 1024 8192
+chainable p states arcs size x =
+    let m = lent (p .counts) states arcs in
+    let wf = sound-well-formed m (x .sound) .counts in
+    let holds = sound-holds m (x .sound) in
+    let few : p .counts .arcs ≤ 8192 = omega (arith, wf .arcsFit, holds .arcs) in
+    record {
+      whole = whole (p .counts .arcs) refl;
+      few = few;
+      sources = λ j b.
+          let y = arc-exists p states arcs size x j b in
+          let s = arc-source p states arcs size x j (y .0) (y .1) in
+          let f = arc-source-fits p states arcs size x j (y .0) (y .1) in
+          omega (arith, s, f);
+      states-fit = omega (arith, wf .statesFit, holds .states);
+      arcs-fit = few;
+    }
+  where
+    whole : (n : ℕ) → n ≡ p .counts .arcs → 80 * n ≤ length arcs
+    whole zero e = omega arith
+    whole (suc n) e =
+        let y = arc-exists p states arcs size x n (omega arith) in
+        let r = arc-reads p states arcs size x n (y .0) (y .1) .whole in
+        omega (arith, r)
+
 -- ---- the whole
 
 module _ (p : Plan) (states arcs : List ℕ) (v : List ℕ) (x : Explorable p states arcs (length v)) (w : List ℕ) (c : WritesClosing (lent (p .counts) states arcs) (p .pairs) (p .room .delays) w v) where
   closed : Explorable p states arcs (length w)
   closed = subst (Explorable p states arcs) (sym (c .same-length)) x
 
-  pub may-begin : Beginnable p states w
-  may-begin = record { arcs = arcs; explorable = closed; closing = c .tables (p .limit) }
+  module _ (t : List ℕ) (e : Clears 320 298 (p .room .states) w t) where
+    cleared : Explorable p states arcs (length t)
+    cleared = subst (Explorable p states arcs) (sym (e .same-length)) closed
 
-  module _ (h : Head) (u : List ℕ) (b : Begun p states w h u) where
-    begun : Comes p states arcs h (begunSearch p states arcs) false u
-    begun = b .meaning arcs closed (c .tables (p .limit))
+    -- empty chains leave the closing tables
+    closing : HoldsClosing (tablesIn p states arcs) (p .room .delays) (p .counts .states) t
+    closing = holds-part (tablesIn p states arcs) (p .room .delays) (p .counts .states) t w (few-closings p states arcs (length w) closed)
+        (e .kept (p .room .delays) (64 * p .counts .states) (omega (arith, x .configs-fit, x .edges-fit))) (c .tables (p .limit))
 
-    open-still : Explorable p states arcs (length u)
-    open-still = subst (Explorable p states arcs) (sym (b .same-length)) closed
+    pub may-begin : Beginnable p states t
+    may-begin = record { arcs = arcs; explorable = cleared; closing = closing; chained = e .chained (bucketBy (p .pairs .used) (p .room .states)) }
 
-    pub may-run : Runnable p h arcs u
-    may-run = record { states = states; explorable = open-still; begun = begun; taken = b .taken; arcs-none = b .arcs }
+    module _ (h : Head) (u : List ℕ) (b : Begun p states t h u) where
+      begun : Comes p states arcs h (begunSearch p states arcs) false u
+      begun = b .meaning arcs cleared closing (e .chained (bucketBy (p .pairs .used) (p .room .states)))
 
-    pub explored : (r : Head) (z : List ℕ) → Runs p h arcs u r z → Explored p states arcs v r z
-    explored r z y = record {
-      same-length = y .same-length ∙ b .same-length ∙ c .same-length;
-      comes = y .meaning states open-still begun;
-    }
+      open-still : Explorable p states arcs (length u)
+      open-still = subst (Explorable p states arcs) (sym (b .same-length)) cleared
+
+      pub may-run : Runnable p h arcs u
+      may-run = record { states = states; explorable = open-still; begun = begun; taken = b .taken; arcs-none = b .arcs }
+
+      pub explored : (r : Head) (z : List ℕ) → Runs p h arcs u r z → Explored p states arcs v r z
+      explored r z y = record {
+        same-length = y .same-length ∙ b .same-length ∙ e .same-length ∙ c .same-length;
+        comes = y .meaning states open-still begun;
+      }

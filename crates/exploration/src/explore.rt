@@ -1,8 +1,11 @@
 // The search over all configurations that are reached.
 ghost use lib.ListN.{length};
+ghost use Rattle.adjacency.specs.Chains.{Chained};
 ghost use Rattle.offers.specs.Plans.{Explorable};
 ghost use Rattle.config_search.specs.Starting.{Beginnable, Begun};
 ghost use Rattle.exploration.specs.Exploring.{Runnable, Runs, Explored};
+use adjacency::chain_arcs;
+use chains::clear;
 use config_search::head::Head;
 use delays::closing_tables;
 use offers::plan::Plan;
@@ -31,9 +34,16 @@ fn begin(plan: Plan, states: &[u8], work: &mut [u8]) -> Head
     head
 }
 
-// All configurations that are reached from those, taken up one after the other.
-fn run(start: Head, plan: Plan, arcs: &[u8], work: &mut [u8]) -> Head
-    requires { ⌜ Runnable plan start (now arcs) (now work) ⌝ }
+// All configurations that are reached from those, taken up one after the other, by the chains of the arcs.
+fn run_chained(
+    start: Head,
+    plan: Plan,
+    arcs: &[u8],
+    first: &[u16],
+    next: &[u16],
+    work: &mut [u8],
+) -> Head
+    requires { ⌜ Runnable plan start (now arcs) (now work) × Chained (plan .counts .states) (plan .counts .arcs) (now arcs) (now first) (now next) ⌝ }
     ensures { λ r. ⌜ Runs plan start (now (arcs .entry)) (now (work .entry)) r (now (work .exit)) ⌝ }
 {
     if start.full {
@@ -41,7 +51,7 @@ fn run(start: Head, plan: Plan, arcs: &[u8], work: &mut [u8]) -> Head
     }
     let mut head = start;
     while head.taken < head.reached {
-        head = head.take_up(plan, arcs, work);
+        head = head.take_up(plan, arcs, first, next, work);
         if head.full {
             return head;
         }
@@ -49,7 +59,20 @@ fn run(start: Head, plan: Plan, arcs: &[u8], work: &mut [u8]) -> Head
     head
 }
 
-// The closing delays, the configurations in which paths start, and then all that are reached.
+// The same, the arcs chained first.
+fn run(start: Head, plan: Plan, arcs: &[u8], work: &mut [u8]) -> Head
+    requires { ⌜ Runnable plan start (now arcs) (now work) ⌝ }
+    ensures { λ r. ⌜ Runs plan start (now (arcs .entry)) (now (work .entry)) r (now (work .exit)) ⌝ }
+{
+    let counts = plan.counts;
+    let mut first = [0u16; 1024];
+    let mut next = [0u16; 8192];
+    chain_arcs(counts, arcs, &mut first, &mut next);
+    run_chained(start, plan, arcs, &first, &next, work)
+}
+
+// The closing delays, chains that are all empty, the configurations in which paths start, and then all that are
+// reached.
 pub fn explore(plan: Plan, states: &[u8], arcs: &[u8], work: &mut [u8]) -> Head
     requires { ⌜ Explorable plan (now states) (now arcs) (length (now work)) ⌝ }
     ensures { λ r. ⌜ Explored plan (now (states .entry)) (now (arcs .entry)) (now (work .entry)) r (now (work .exit)) ⌝ }
@@ -58,6 +81,7 @@ pub fn explore(plan: Plan, states: &[u8], arcs: &[u8], work: &mut [u8]) -> Head
     let pairs = plan.pairs;
     let room = plan.room;
     closing_tables(counts, states, arcs, pairs, work, room.delays);
+    clear(work, 320, 298, room.states);
     let head = begin(plan, states, work);
     run(head, plan, arcs, work)
 }

@@ -1,4 +1,4 @@
--- The row of a configuration by value holds the configuration that it stands for.
+-- A row that begins with the record of a configuration by value holds the configuration that it stands for.
 use Prim.Native.Nat.{ℕ, zero, suc, _+_, _-_, _*_, _≤_, _<_}
 use mathlib.Core.Path.{_≡_, refl, sym, ap, _∙_}
 use mathlib.Core.Bool.{Bool, true, false}
@@ -6,17 +6,16 @@ use mathlib.Core.Option.{some}
 use mathlib.Core.List.{List, [], _∷_, _++_}
 use native.Mathlib.Omega.{arith}
 use lib.Dec.{eqb}
-use lib.ListN.{length, getD, getElem?, take, replicate, getD-replicate}
+use lib.ListN.{length, getD, getElem?, take, getD-replicate}
 use lib.Seq.{getD-take, getD-drop, take-at}
 use borrow.Author.Tests.{ne-eqb}
 use Rattle.automata.specs.Leftover as automata
 use Rattle.automata.proofs.ListFacts.{place-bound, place-default}
 use Rattle.automata.proofs.Membership.{place-map⁻¹}
 use Rattle.memory.specs.Region.{part}
-use Rattle.configuration.specs.declared.config.Config.{Config}
 use Rattle.configuration.specs.declared.leftover.Leftover.{Leftover}
 use Rattle.configuration.specs.Leftovers.{sided, leftoverAs, blank, outside, Good, leftoverAt}
-use Rattle.configuration.specs.Configs.{configAs, GoodConfig, configBytes, configAt}
+use Rattle.configuration.specs.Configs.{Config, configAs, GoodConfig, configBytes, configAt}
 use Rattle.configuration.proofs.RoundLaws.{length-config, load-row}
 use Rattle.configuration.proofs.TestLaws.{kept-length, good-at, length-leftovers}
 use Rattle.trimming.specs.Rows.{RowOf}
@@ -31,14 +30,14 @@ sided-none true (x ∷ r) = ne-eqb (suc (length r)) 0 (λ e. absurd (omega arith
 leftover-none : (l : Leftover) → Good l → eqb (l .len) 0 ≡ automata.sameLeftover (leftoverAs l) automata.nothing
 leftover-none l g = ap (λ (n : ℕ). eqb n 0) (sym (kept-length l g)) ∙ sided-none (l .second) (take (l .len) (l .symbols))
 
-module _ (used : ℕ) (d : Config) (few : used ≤ 4) (g : GoodConfig used d) where
+module _ (used : ℕ) (d : Config) (few : used ≤ 4) (g : GoodConfig used d) (rest : List ℕ) where
   -- the row
   abbrev row : List ℕ
-  row = configBytes d ++ replicate 22 0
+  row = configBytes d ++ rest
 
   loaded : configAt 0 row ≡ d
   unfolding part
-  loaded = load-row used 0 d row g (take-at (configBytes d) (replicate 22 0) 298 (length-config used d g))
+  loaded = load-row used 0 d row g (take-at (configBytes d) rest 298 (length-config used d g))
 
   -- the length bytes of its leftovers
   len-at : (h : ℕ) → h < 4 → getD row (3 + 74 * h) 0 ≡ getD (d .leftovers) h outside .len
@@ -71,7 +70,7 @@ module _ (used : ℕ) (d : Config) (few : used ≤ 4) (g : GoodConfig used d) wh
       ∙ ap (λ (ls : List Leftover). getD ls (h - used) outside) (g .blanks) ∙ getD-replicate (4 - used) (h - used) blank outside (omega arith) in
       len-at h i ∙ ap (λ (l : Leftover). l .len) e
 
-  -- The row of a configuration by value.
-  pub row-of : RowOf (configAs used d) (configBytes d ++ replicate 22 0)
+  -- The row, whatever stands behind the record.
+  pub row-of : RowOf (configAs used d) (configBytes d ++ rest)
   unfolding part configBytes
   row-of = record { state = refl; few = omega (arith, many); used = used-at; unused = unused-at }

@@ -1,23 +1,25 @@
 -- The search of a plan, as the answer is settled by it.
 use Prim.Native.Nat.{ℕ, _+_, _/_, _≤_, _<_}
-use mathlib.Core.Path.{_≡_, sym, subst}
-use mathlib.Core.List.{List, [], _∷_, _++_}
+use mathlib.Core.Path.{_≡_, sym, ap, _∙_, subst}
+use mathlib.Core.List.{List, [], _∷_, _++_, map}
 use native.Mathlib.Omega.{arith}
-use lib.ListN.{length, replicate}
+use lib.ListN.{length, getD, drop}
 use Rattle.automata.specs.Lists.{All}
 use Rattle.automata.specs.TapePair.{Pair}
 use Rattle.automata.specs.Config.{Config}
 use Rattle.automata.specs.Limits.{maxDelay}
 use Rattle.automata.specs.Memory.{Sound}
 use Rattle.automata.proofs.SoundFacts.{sound-holds}
+use Rattle.memory.specs.Region.{part, rows}
 use Rattle.memory.specs.declared.answer.Judged.the-variants.{Fine}
 use Rattle.memory.specs.declared.answer.Counts.{Counts}
 use Rattle.memory.specs.declared.pair.PairList.{PairList}
 use Rattle.memory.specs.Answers.{lent}
 use Rattle.memory.specs.Pairs.{Named}
+use Rattle.memory.proofs.Laws.{part-add}
+use Rattle.chains.specs.Chain.{fronts}
 use Rattle.configuration.specs.Configs.{configBytes}
 use Rattle.trimming.specs.Rows.{RowOf, RowsOf}
-use Rattle.trimming.proofs.StateModel.{rows-of-codes}
 use Rattle.workspace.specs.declared.room.Room.{Room}
 use Rattle.workspace.specs.Room.{Divides}
 use Rattle.offers.specs.declared.plan.Plan.{Plan}
@@ -30,14 +32,22 @@ use Rattle.intersect_result.specs.Prepared.{Prepares}
 use Rattle.intersect_result.specs.Searched.{Searched, Settleable}
 use Rattle.intersect.proofs.ConfigRows.{row-of}
 
--- the row of a configuration that is stored holds it
-stored-row : (used limit n : ℕ) (c : Config) → used ≤ 4 → Stored used limit n c → RowOf c (rowOf c)
+-- a row that begins with the record of a configuration that is stored holds it
+stored-row : (used limit n : ℕ) (c : Config) (a : ℕ) (w : List ℕ) → used ≤ 4 → Stored used limit n c → part a 298 w ≡ rowOf c → RowOf c (part a 320 w)
 unfolding rowOf
-stored-row used limit n c h s = subst (λ (x : Config). RowOf x (configBytes (configOf c) ++ replicate 22 0)) (s .meaning) (row-of used (configOf c) h (s .form))
+stored-row used limit n c a w h s e =
+    let q : configBytes (configOf c) ++ part (a + 298) 22 w ≡ part a 320 w = ap (λ (r : List ℕ). r ++ part (a + 298) 22 w) (sym e) ∙ sym (part-add a 298 22 w) in
+    subst (RowOf c) q (subst (λ (x : Config). RowOf x (configBytes (configOf c) ++ part (a + 298) 22 w)) (s .meaning) (row-of used (configOf c) h (s .form) (part (a + 298) 22 w)))
 
-stored-rows : (used limit n k : ℕ) (cs : List Config) → used ≤ 4 → n ≡ k → All (Stored used limit n) cs → All (λ c. RowOf c (rowOf c) × (c .state < k)) cs
-stored-rows used limit n k [] h e a = tt
-stored-rows used limit n k (c ∷ cs) h e a = ((stored-row used limit n c h (a .0), omega (arith, a .0 .state-fits)), stored-rows used limit n k cs h e (a .1))
+-- so do all rows, where the records are at their fronts
+stored-rows : (used limit n k : ℕ) (cs : List Config) (a : ℕ) (w : List ℕ) → used ≤ 4 → n ≡ k → All (Stored used limit n) cs
+    → fronts a 320 298 (length cs) w ≡ map rowOf cs → RowsOf k cs (rows a 320 (length cs) w)
+unfolding fronts rows
+stored-rows used limit n k [] a w h e s q = tt
+stored-rows used limit n k (c ∷ cs) a w h e s q =
+    let r : part a 298 w ≡ rowOf c = ap (λ (z : List (List ℕ)). getD z 0 []) q in
+    let t : fronts (a + 320) 320 298 (length cs) w ≡ map rowOf cs = ap (λ (z : List (List ℕ)). drop 1 z) q in
+    ((stored-row used limit n c a w h (s .0) r, omega (arith, s .0 .state-fits)), stored-rows used limit n k cs (a + 320) w h e (s .1) t)
 
 module _ (p : Plan) (states arcs : List ℕ) (size : ℕ) (x : Explorable p states arcs size) (h : Head) (v w : List ℕ) (e : Explored p states arcs v h w) where
   -- what the search tells
@@ -50,10 +60,8 @@ module _ (p : Plan) (states arcs : List ℕ) (size : ℕ) (x : Explorable p stat
       number = d .arc-count;
       delay = d .late-is;
       placed =
-          subst (RowsOf (length (tableIn p states arcs .states)) (reachedIn p states arcs)) (sym (d .configs))
-          (rows-of-codes (length (tableIn p states arcs .states)) rowOf (reachedIn p states arcs)
-          (stored-rows (p .pairs .used) (p .limit) (p .counts .states) (length (tableIn p states arcs .states)) (reachedIn p states arcs) (x .named .used-fit)
-          (sound-holds (lent (p .counts) states arcs) (x .sound) .states) (d .stored)));
+          stored-rows (p .pairs .used) (p .limit) (p .counts .states) (length (tableIn p states arcs .states)) (reachedIn p states arcs) 0 w (x .named .used-fit)
+          (sound-holds (lent (p .counts) states arcs) (x .sound) .states) (d .stored) (d .configs);
       held = d .edges;
     };
   }

@@ -19,8 +19,7 @@ pub fn keep(
     requires { ⌜ Laid base reached arcs (now states) (now work) × (reached ≤ length (now marks)) × (reached ≤ length (now ranks)) ⌝ }
     ensures { λ r. ⌜ Kept base reached arcs (now (states .entry)) (now (work .entry)) (now (marks .exit)) (now (ranks .exit)) r ⌝ }
 {
-    let mut scratch = [0u8; 1024];
     mark_final(work, reached, states, marks);
-    mark_coaccessible(work, base, arcs, reached, marks, &mut scratch);
+    mark_coaccessible(work, base, arcs, reached, marks);
     number_marked(marks, reached, ranks)
 }

@@ -11,7 +11,7 @@ use Rattle.automata.specs.Refusal.{short}
 use Rattle.automata.specs.Format.{Format}
 use Rattle.automata.specs.Sequence.{readFirst}
 use Rattle.automata.specs.TableText.{stateLine, arcLine}
-use Rattle.automata.proofs.AnswerFacts.{refused≢ok, forget-map}
+use Rattle.automata.proofs.AnswerFacts.{refused≢ok}
 use Rattle.memory.specs.Answers.{refusalNumber, judgedAs}
 use Rattle.memory.proofs.SequenceLaws.{many-stop, many-none, at-short, at-value, at-next}
 use Rattle.lines.specs.Lines.{readStateLine, readArcLine, firstState, statesJudged, firstArc, arcsJudged}
@@ -70,8 +70,7 @@ module _ (tapes states : ℕ) (text : List ℕ) (at : ℕ) (h : at ≤ length te
   unfolding firstArc readArcLine
   arc-at-judged j k e =
       let n : at + (23 + tapes * 9) - at ≡ 23 + tapes * 9 = omega arith in
-      e ∙ forget-map (arcLine tapes states .read (take (at + (23 + tapes * 9) - at) (drop at text))) (λ a. (a .source, (a .target, a .weight)))
-      ∙ ap (λ (m : ℕ). forget (arcLine tapes states .read (take m (drop at text)))) n ∙ at-value (arcLine tapes states) (23 + tapes * 9) width-is text at h k
+      e ∙ ap (λ (m : ℕ). forget (arcLine tapes states .read (take m (drop at text)))) n ∙ at-value (arcLine tapes states) (23 + tapes * 9) width-is text at h k
 
   module _ (left : ℕ) (p : 0 < left) where
     pub arcs-refused : (j : Judged) (k : Refusal) → judgedAs j ≡ firstArc tapes states (drop at text) → j ≡ Refused k → judgedAs j ≡ arcsJudged tapes states left (drop at text)

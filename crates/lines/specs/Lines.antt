@@ -1,35 +1,18 @@
 -- What the answers of a line stand for, and what a text is judged by, line by line.
-use mathlib.Core.Option.{none}
 use mathlib.Core.List.{List}
 use Prim.Native.Nat.{ℕ}
 use lib.ListN.{length}
-use Rattle.automata.specs.Automaton.{State}
+use Rattle.automata.specs.Automaton.{State, Arc}
 use Rattle.automata.specs.Answer.{_>>=_, Answer, ok, refused, require, beside, forget}
 use Rattle.automata.specs.Refusal.{size, form}
 use Rattle.automata.specs.Table.{countsFit}
 use Rattle.automata.specs.Sequence.{readFirst, readMany}
 use Rattle.automata.specs.TableText.{isEmpty, headerLine, stateLine, arcLine, readTable}
 use Rattle.memory.specs.Answers.{refusalNumber}
-use Rattle.memory.specs.Records.{stateAs}
-use Rattle.lines.specs.declared.state.StateLine.{StateLine}
-use Rattle.lines.specs.declared.state.StateLine.the-variants as state
-use Rattle.lines.specs.declared.arc.ArcNumbers.{ArcNumbers}
-use Rattle.lines.specs.declared.arc.ArcLine.{ArcLine}
-use Rattle.lines.specs.declared.arc.ArcLine.the-variants as arc
 use Rattle.lines.specs.declared.header.HeaderLine.{HeaderLine}
 use Rattle.lines.specs.declared.header.HeaderLine.the-variants as header
 
 -- ---- the line of a state
-
--- a state, or the refusal of its line
-abbrev pub stateLineAs : StateLine → Answer (State ℕ)
-stateLineAs (state.State s) = ok (stateAs s)
-stateLineAs (state.Refused r) = refused (refusalNumber r)
-
--- the state alone, without weights where it is refused
-abbrev pub stateLineOf : Answer (State ℕ) → State ℕ
-stateLineOf (ok s) = s
-stateLineOf (refused n) = record { initial = none; final = none }
 
 -- the state in the 21 places of a list
 unfoldable pub readStateLine : List ℕ → Answer (State ℕ)
@@ -41,23 +24,9 @@ readStateLine x = stateLine .read x
 abbrev pub arcParts : {L : Type 0} → Answer ℕ → Answer ℕ → Answer ℕ → Answer L → Answer (Unit {0}) → Answer ((ℕ × (ℕ × (ℕ × L))) × Unit {0})
 arcParts source target weight labels end = beside (beside source (beside target (beside weight labels))) end
 
--- source, target and weight of an arc
-abbrev pub numbersOf : ArcNumbers → ℕ × (ℕ × ℕ)
-numbersOf a = (a .source, (a .target, a .weight))
-
--- an arc's numbers, or the refusal of its line
-abbrev pub arcLineAs : ArcLine → Answer (ℕ × (ℕ × ℕ))
-arcLineAs (arc.Arc a) = ok (numbersOf a)
-arcLineAs (arc.Refused r) = refused (refusalNumber r)
-
--- the numbers alone, 0 where the line is refused
-abbrev pub numbersOfLine : Answer (ℕ × (ℕ × ℕ)) → ℕ × (ℕ × ℕ)
-numbersOfLine (ok a) = a
-numbersOfLine (refused n) = (0, (0, 0))
-
--- the numbers of an arc of a table with so many tapes and states, or the refusal of its line
-unfoldable pub readArcLine : ℕ → ℕ → List ℕ → Answer (ℕ × (ℕ × ℕ))
-readArcLine tapes states x = arcLine tapes states .read x >>= λ a. ok (a .source, (a .target, a .weight))
+-- the arc of a table with so many tapes and states, in the places of a list
+unfoldable pub readArcLine : ℕ → ℕ → List ℕ → Answer (Arc ℕ)
+readArcLine tapes states x = arcLine tapes states .read x
 
 -- ---- the header
 

@@ -4,7 +4,6 @@ use memory::answer::Refusal;
 use memory::answer::both;
 use text_columns::decimal::Number;
 use text_columns::decimal::judge_number;
-use text_columns::decimal::number_of;
 use text_columns::decimal::read_state_number;
 use text_columns::label::judge_labels;
 use text_columns::label::line_end;
@@ -15,7 +14,7 @@ ghost use lib.ListN.{length, drop};
 ghost use Rattle.automata.specs.Answer.{forget};
 ghost use Rattle.memory.specs.Answers.{judgedAs};
 ghost use Rattle.text_columns.specs.Columns.{numberAs};
-ghost use Rattle.lines.specs.Lines.{arcParts, arcLineAs, readArcLine, numbersOf, numbersOfLine, firstArc, arcsJudged};
+ghost use Rattle.lines.specs.Lines.{arcParts, readArcLine, firstArc, arcsJudged};
 
 // The parts of an arc line side by side.
 fn judge_arc(source: Number, target: Number, weight: Number, labels: Judged, end: Judged) -> Judged
@@ -27,82 +26,34 @@ fn judge_arc(source: Number, target: Number, weight: Number, labels: Judged, end
     both(from_source, end)
 }
 
-// The numbers of an arc.
-pub struct ArcNumbers {
-    pub source: u16,
-    pub target: u16,
-    pub weight: u32,
-}
-
-// The numbers of an arc read from its line, or the refusal of the line.
-pub enum ArcLine {
-    Arc(ArcNumbers),
-    Refused(Refusal),
-}
-
-// A line of an arc: source, target, weight, and a label on each tape.
-pub fn read_arc_line(line: &[u8], tapes: usize, states: usize) -> ArcLine
-    requires { ⌜ (length (now line) ≡ 23 + tapes * 9) × (states ≤ 1024) ⌝ }
-    ensures { λ r. ⌜ arcLineAs r ≡ readArcLine tapes states (now (line .entry)) ⌝ }
+// A line of an arc, judged: source, target, weight, and a label on each tape.
+fn judge_arc_line(line: &[u8], tapes: usize, states: usize) -> Judged
+    requires { ⌜ length (now line) ≡ 23 + tapes * 9 ⌝ }
+    ensures { λ r. ⌜ judgedAs r ≡ forget (readArcLine tapes states (now (line .entry))) ⌝ }
 {
     let source = read_state_number(&line[0..6], states);
     let target = read_state_number(&line[6..12], states);
     let weight = read_present(&line[12..22]);
     let end = line.len() - 1;
     let labels = judge_labels(&line[22..end], tapes);
-    let judged = judge_arc(source, target, weight, labels, line_end(line[end]));
-    match judged {
-        Judged::Refused(k) => ArcLine::Refused(k),
-        Judged::Fine => {
-            let arc = ArcNumbers {
-                source: number_of(source) as u16,
-                target: number_of(target) as u16,
-                weight: number_of(weight) as u32,
-            };
-            ArcLine::Arc(arc)
-        }
-    }
-}
-
-// The refusal of a line, if it is refused.
-fn judge_arc_line(line: ArcLine) -> Judged
-    ensures { λ r. ⌜ judgedAs r ≡ forget (arcLineAs line) ⌝ }
-{
-    match line {
-        ArcLine::Arc(_) => Judged::Fine,
-        ArcLine::Refused(k) => Judged::Refused(k),
-    }
-}
-
-// The numbers of a line; 0 where the line is refused.
-pub fn numbers_of(line: ArcLine) -> ArcNumbers
-    ensures { λ r. ⌜ numbersOf r ≡ numbersOfLine (arcLineAs line) ⌝ }
-{
-    match line {
-        ArcLine::Arc(a) => a,
-        ArcLine::Refused(_) => ArcNumbers {
-            source: 0,
-            target: 0,
-            weight: 0,
-        },
-    }
+    judge_arc(source, target, weight, labels, line_end(line[end]))
 }
 
 // The arc line at a place of a text.
 fn judge_arc_at(text: &[u8], at: usize, tapes: usize, states: usize) -> Judged
-    requires { ⌜ (at ≤ length (now text)) × ((tapes ≤ 8) × (states ≤ 1024)) ⌝ }
+    requires { ⌜ (at ≤ length (now text)) × (tapes ≤ 8) ⌝ }
     ensures { λ r. ⌜ judgedAs r ≡ firstArc tapes states (drop at (now (text .entry))) ⌝ }
 {
     let width = 23 + tapes * 9;
     if text.len() - at < width {
         return Judged::Refused(Refusal::Short);
     }
-    judge_arc_line(read_arc_line(&text[at..at + width], tapes, states))
+    judge_arc_line(&text[at..at + width], tapes, states)
 }
 
 // So many arc lines from a place of a text. The first refusal counts.
 pub fn judge_arcs(text: &[u8], start: usize, count: usize, tapes: usize, states: usize) -> Judged
-    requires { ⌜ (start ≤ length (now text)) × ((tapes ≤ 8) × (states ≤ 1024)) ⌝ }
+    requires { ⌜ (start ≤ length (now text)) × (tapes ≤ 8) ⌝ }
     ensures { λ r. ⌜ judgedAs r ≡ arcsJudged tapes states count (drop start (now (text .entry))) ⌝ }
 {
     let width = 23 + tapes * 9;

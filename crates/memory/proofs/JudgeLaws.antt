@@ -122,11 +122,11 @@ cut-min n u y l m = go (leb n 8) refl
         (take-all n y k ∙ sym (take-all u y j), drop-of-length-le y k ∙ sym (drop-of-length-le y j))
 
 -- what a label is judged by: the bytes within its length are symbols, the others 0, and its length is at most 8
-abbrev labelJudged : ℕ → Bool → Bool → List ℕ → Answer (List ℕ)
+abbrev pub labelJudged : ℕ → Bool → Bool → List ℕ → Answer (List ℕ)
 labelJudged n symbols padding l = require (and symbols padding) form >>= λ t. check (leb n 8) size l
 
 -- the bytes behind the length, cut where the label ends
-label-cons : (n u : ℕ) (y : List ℕ) → length y ≡ 8 → u ≡ min n 8 → readLabel (n ∷ y) ≡ labelJudged n (all isSymbol (take u y)) (all isZero (drop u y)) (take n y)
+pub label-cons : (n u : ℕ) (y : List ℕ) → length y ≡ 8 → u ≡ min n 8 → readLabel (n ∷ y) ≡ labelJudged n (all isSymbol (take u y)) (all isZero (drop u y)) (take n y)
 unfolding readLabel
 label-cons n u y l m = let c = cut-min n u y l m in rw (places-read 8 y l, c .0, c .1)
 

@@ -4,12 +4,14 @@ pub mod SpliceLaws
 pub mod StoreLaws
 pub mod Laws
 pub mod EndianLaws
+pub mod WordLaws
 pub mod AnswerLaws
 pub mod RowLaws
 pub mod RecordLaws
 pub mod SymbolLaws
 pub mod SequenceLaws
 pub mod JudgeLaws
+pub mod GoodLaws
 pub mod TableLaws
 pub mod LoadedLaws
 pub mod EncodedLaws

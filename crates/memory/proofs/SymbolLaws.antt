@@ -1,14 +1,14 @@
--- The rule of the table of symbol numbers, at all of its entries by one computed test.
+-- The rule of the table of symbol numbers, at all of its entries by one computed test, and symbols by ranges.
 use mathlib.Core.Path.{_≡_, refl, sym, ap, subst, _∙_}
 use mathlib.Core.Bool.{Bool, true, false, not}
 use mathlib.Core.Option.{Option, none, some}
 use mathlib.Core.List.{List, [], _∷_}
-use Prim.Native.Nat.{ℕ, zero, suc, _+_, _-_, _<_}
+use Prim.Native.Nat.{ℕ, zero, suc, _+_, _-_, _≤_, _<_}
 use native.Mathlib.Nat.{add-zero, zero-add, add-suc, suc-add, le-of-suc-le-suc, not-suc-le-zero}
 use native.Mathlib.Omega.{arith}
 use lib.Dec.{T, eqb, leb, eqb→eq, leb→le}
 use lib.ListN.{length, getD}
-use borrow.Author.Tests.{ne-eqb}
+use borrow.Author.Tests.{ne-eqb, le-leb, lt-leb}
 use Rattle.automata.specs.Lists.{if, and, or, isSome, Each}
 use Rattle.automata.specs.Symbols.{isLetter, isDigit, isSymbol, symbolNumber}
 use Rattle.automata.proofs.TestFacts.{and-T}
@@ -108,3 +108,17 @@ module _ (b x : ℕ) (e : x ≡ symbolEntry b) where
       go : (o : Option ℕ) → Each (λ n. n < 36) o → not (eqb (entryOf o) 255) ≡ isSome o
       go none h = refl
       go (some n) h = let k : n ≡ 255 → ⊥ = omega arith in rw (ne-eqb n 255 k)
+
+-- ---- symbols by ranges
+module _ (b : ℕ) (h : 48 ≤ b) where
+  -- a digit
+  pub digit-symbol : b ≤ 57 → true ≡ isSymbol b
+  digit-symbol k = rw (lt-leb 65 b (omega arith), le-leb 48 b h, le-leb b 57 k)
+
+  -- behind the digits: a letter where it is not past Z
+  pub letter-symbol : 57 < b → 65 ≤ b → leb b 90 ≡ isSymbol b
+  letter-symbol k l = rw (le-leb 65 b l, le-leb 48 b h, lt-leb b 57 k) (go (leb b 90))
+    where
+      go : (t : Bool) → t ≡ or t false
+      go true = refl
+      go false = refl

@@ -16,7 +16,8 @@ use crate::answer::Refusal;
 use crate::answer::both;
 use crate::bytes::get16;
 use crate::bytes::get32;
-use crate::symbol::is_symbol;
+use crate::good::good_arc;
+use crate::symbol::has_number;
 
 // Fine where the test passes, else the refusal.
 fn demand(passes: bool, refusal: Refusal) -> Judged
@@ -57,7 +58,7 @@ pub fn all_symbols(bytes: &[u8]) -> bool
     ensures { λ r. ⌜ r ≡ all isSymbol (now (bytes .entry)) ⌝ }
 {
     for i in 0..bytes.len() {
-        if !is_symbol(bytes[i]) {
+        if !has_number(bytes[i]) {
             return false;
         }
     }
@@ -141,6 +142,17 @@ fn judge_arc_record(arc: &[u8], tapes: usize, states: usize) -> Judged
     both(source, both(target, both(weight, labels)))
 }
 
+// The same, with the quick test first.
+fn judge_arc(arc: &[u8], tapes: usize, states: usize) -> Judged
+    requires { ⌜ (length (now arc) ≡ 80) × (tapes ≤ 8) ⌝ }
+    ensures { λ r. ⌜ judgedAs r ≡ forget (readArc tapes states (now (arc .entry))) ⌝ }
+{
+    if good_arc(arc, tapes, states) {
+        return Judged::Fine;
+    }
+    judge_arc_record(arc, tapes, states)
+}
+
 // The record of a state at a place of a slice, which may end before it.
 fn judge_state_at(states: &[u8], at: usize) -> Judged
     requires { ⌜ at ≤ length (now states) ⌝ }
@@ -177,7 +189,7 @@ fn judge_arc_at(arcs: &[u8], at: usize, tapes: usize, states: usize) -> Judged
     if arcs.len() - at < 80 {
         return Judged::Refused(Refusal::Short);
     }
-    judge_arc_record(&arcs[at..at + 80], tapes, states)
+    judge_arc(&arcs[at..at + 80], tapes, states)
 }
 
 // So many records of arcs. The first refusal counts.

@@ -2,6 +2,7 @@
 // Bad input never traps and never reads past a slice: every function is proved safe for all bytes that its contract admits.
 pub mod answer;
 pub mod bytes;
+pub mod good;
 pub mod judge;
 pub mod pair;
 pub mod record;

@@ -287,9 +287,16 @@ pub fn symbol_number(b: u8) -> SymbolNumber
     SymbolNumber::Symbol(number)
 }
 
-// Whether a byte is a symbol.
-pub fn is_symbol(b: u8) -> bool
+// Whether a byte is a symbol, by the table.
+pub fn has_number(b: u8) -> bool
     ensures { λ r. ⌜ r ≡ isSymbol b ⌝ }
 {
     entry(b) != 255
+}
+
+// The same by ranges, without a branch, so that several bytes can be tested at once.
+pub fn is_symbol(b: u8) -> bool
+    ensures { λ r. ⌜ r ≡ isSymbol b ⌝ }
+{
+    ((65 <= b) & (b <= 90)) | ((48 <= b) & (b <= 57))
 }

@@ -5,20 +5,19 @@ use mathlib.Core.Bool.{Bool, true, false}
 use mathlib.Core.List.{List, [], _∷_, _++_, map}
 use native.Mathlib.Omega.{arith}
 use lib.Dec.{ltb}
-use lib.ListN.{length, getD, take, replicate, length-append, length-map}
-use lib.Seq.{take-at, getD-take, length-take-le}
+use lib.ListN.{length, getD, take, replicate, length-map}
+use lib.Seq.{getD-take, length-take-le}
 use Rattle.automata.specs.Lists.{All, or}
 use Rattle.automata.specs.TapePair.{Pair, limited}
 use Rattle.automata.specs.Config as automata
 use Rattle.automata.proofs.TestFacts
 use Rattle.automata.proofs.Configurations.{configs-decided}
 use Rattle.configuration.specs.declared.leftover.Leftover.{Leftover}
-use Rattle.configuration.specs.declared.config.Config.{Config}
 use Rattle.configuration.specs.Leftovers.{sided, leftoverAs, leftoverOf, blank, outside, Good}
-use Rattle.configuration.specs.Configs.{configAs, GoodConfig, configBytes}
+use Rattle.configuration.specs.Configs.{Config, configAs, GoodConfig}
 use Rattle.configuration.proofs.ListLaws.{All-take}
 use Rattle.configuration.proofs.TestLaws.{kept-length}
-use Rattle.configuration.proofs.RoundLaws.{all-leftovers, same-bytes, length-config}
+use Rattle.configuration.proofs.RoundLaws.{all-leftovers, same-bytes}
 use Rattle.rows.specs.Inserted.{Tells}
 use Rattle.rows.proofs.CodeLaws.{codes-tell}
 use Rattle.offers.specs.Held.{configOf, rowOf, Stored}
@@ -47,22 +46,11 @@ stored-form used limit n d h g s k =
 
 -- ---- rows
 
--- a row takes up 320 bytes
-pub length-row : (used limit n : ℕ) (c : automata.Config) → Stored used limit n c → length (rowOf c) ≡ 320
-unfolding rowOf
-length-row used limit n c s =
-    let l = length-config used (configOf c) (s .form) in
-    length-append (configBytes (configOf c)) (replicate 22 0) ∙ omega (arith, l)
-
 -- rows with the same bytes are those of the same configuration
 row-injective : (used limit n : ℕ) (c d : automata.Config) → Stored used limit n c → Stored used limit n d → rowOf c ≡ rowOf d → c ≡ d
 unfolding rowOf
 row-injective used limit n c d s t e =
-    let z : List ℕ = replicate 22 0 in
-    let a : take 298 (configBytes (configOf c) ++ z) ≡ configBytes (configOf c) = take-at (configBytes (configOf c)) z 298 (length-config used (configOf c) (s .form)) in
-    let b : take 298 (configBytes (configOf d) ++ z) ≡ configBytes (configOf d) = take-at (configBytes (configOf d)) z 298 (length-config used (configOf d) (t .form)) in
-    let q : configBytes (configOf c) ≡ configBytes (configOf d) = sym a ∙ ap (take 298) e ∙ b in
-    sym (s .meaning) ∙ ap (configAs used) (same-bytes used (configOf c) (configOf d) (s .form) (t .form) q) ∙ t .meaning
+    sym (s .meaning) ∙ ap (configAs used) (same-bytes used (configOf c) (configOf d) (s .form) (t .form) e) ∙ t .meaning
 
 -- so they tell one that may be stored from all that are
 pub rows-tell : (used limit n : ℕ) (c : automata.Config) (cs : List automata.Config) → Stored used limit n c → All (Stored used limit n) cs → Tells rowOf automata.sameConfig c cs

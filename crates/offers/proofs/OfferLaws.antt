@@ -24,11 +24,10 @@ use Rattle.memory.specs.Endian.{le}
 use Rattle.memory.specs.Answers.{lent}
 use Rattle.memory.specs.Pairs.{pairAs, pairsAs}
 use Rattle.relaxation.proofs.TableLaws.{source-is}
-use Rattle.configuration.specs.declared.config.Config.{Config}
-use Rattle.configuration.specs.declared.step.Followed.{Followed}
-use Rattle.configuration.specs.Configs.{configAs, GoodConfig, TellsLong, lengthsOn}
-use Rattle.configuration.specs.Steps.{Reads, Followable, Follows, followedAs}
+use Rattle.configuration.specs.Configs.{Config, configAs, GoodConfig, TellsLong, lengthsOn, configAt, configBytes}
+use Rattle.configuration.specs.Steps.{Followed, Reads, Followable, Follows, followedAs}
 use Rattle.configuration.proofs.TestLaws.{length-of}
+use Rattle.configuration.proofs.RowLaws.{length-row}
 use Rattle.configuration.proofs.SoundLaws.{reads-arc, followable}
 use Rattle.delays.specs.ClosingRegion.{HoldsClosing, Tests}
 use Rattle.delays.proofs.TestLaws.{length-closings}
@@ -37,6 +36,11 @@ use Rattle.offers.specs.declared.offer.Kind.the-variants.{Nothing, Late,
 use Rattle.offers.specs.Plans.{Explorable, tableIn, pairsIn, tablesIn, viableIn}
 use Rattle.offers.specs.Offers.{TellsViable, Offerable, Offers}
 use Rattle.offers.proofs.FormLaws.{stored-form, not-long}
+
+-- the state of the configuration in a row
+pub state-read : (xs : List ℕ) (y : ℕ) → y ≡ le (part 0 2 xs) → y ≡ configAt 0 xs .state .0
+unfolding configAt
+state-read xs y e = e
 
 -- the test for viable configurations, by the lengths of the leftovers
 pub tells-viable : (base used : ℕ) (c : Config) (firsts seconds w : List ℕ) (r : Bool) → used ≤ 4 → GoodConfig used c
@@ -47,6 +51,10 @@ tells-viable base used c firsts seconds w r k g e f t T n o b l m =
       first = λ h x q. ap (λ (z : List ℕ). getD z h 0) e ∙ length-of false used h c x k q;
       second = λ h x q. ap (λ (z : List ℕ). getD z h 0) f ∙ length-of true used h c x k q;
     })
+
+-- a row that is the record of a configuration is as long as all
+pub row-length : (used : ℕ) (row : List ℕ) → GoodConfig used (configAt 0 row) → configBytes (configAt 0 row) ≡ row → length row ≡ 298
+row-length used row g e = length-row used row (record { good = g; bytes = e })
 
 -- ---- an arc of the table read
 
@@ -72,13 +80,17 @@ module _ (p : Plan) (states arcs : List ℕ) (size : ℕ) (x : Explorable p stat
     arc-source = ap (λ (b : Arc ℕ). b .source) (sym arc-there) ∙ sym (source-is m (tableOf m) (sound-well-formed m (x .sound)) (sound-holds m (x .sound)) j arc-within)
         ∙ ap (λ (k : ℕ). le (part k 2 arcs)) (omega arith)
 
+    arc-well-formed : WellFormedArc (tableOf m .tapes) (length (tableOf m .states)) a
+    arc-well-formed = subst (WellFormedArc (tableOf m .tapes) (length (tableOf m .states))) arc-there
+        (All-at (WellFormedArc (tableOf m .tapes) (length (tableOf m .states))) (tableOf m .arcs) (record { source = 0; target = 0; weight = 0; labels = [] }) j (sound-well-formed m (x .sound) .arcs)
+        (ListFacts.place-bound (tableOf m .arcs) j e))
+
+    -- its source and its target are states of the table
+    pub arc-source-fits : a .source < p .counts .states
+    arc-source-fits = let t = arc-well-formed .source in omega (arith, t, sound-holds m (x .sound) .states)
+
     pub arc-target-fits : a .target < p .counts .states
-    arc-target-fits =
-        let f : WellFormedArc (tableOf m .tapes) (length (tableOf m .states)) (getD (tableOf m .arcs) j (record { source = 0; target = 0; weight = 0; labels = [] })) =
-        All-at (WellFormedArc (tableOf m .tapes) (length (tableOf m .states))) (tableOf m .arcs) (record { source = 0; target = 0; weight = 0; labels = [] }) j (sound-well-formed m (x .sound) .arcs)
-        (ListFacts.place-bound (tableOf m .arcs) j e) in
-        let t : a .target < length (tableOf m .states) = subst (λ (b : Arc ℕ). b .target < length (tableOf m .states)) arc-there (f .target) in
-        omega (arith, sound-holds m (x .sound) .states)
+    arc-target-fits = let t = arc-well-formed .target in omega (arith, t, sound-holds m (x .sound) .states)
 
   pub arc-exists : j < p .counts .arcs → (a : Arc ℕ) × (getElem? (tableIn p states arcs .arcs) j ≡ some a)
   arc-exists h = ListFacts.place-exists (tableIn p states arcs .arcs) j (omega (arith, arc-count))
@@ -110,10 +122,10 @@ module _ (p : Plan) (c : Config) (arcs : List ℕ) (j : ℕ) (w : List ℕ) (o :
       (λ h l. let s = o .short h l in omega (arith, s, o .explorable .limit-fits))
 
   -- the definition, where the arc leaves another state
-  pub offers-away : (x : ℕ) → x ≡ le (part (80 * j) 2 arcs) → (x ≡ c .state .0 → ⊥) → Offers p c arcs j w (record { kind = Nothing; config = c })
+  pub offers-away : (x : ℕ) (d : Config) → GoodConfig used d → x ≡ le (part (80 * j) 2 arcs) → (x ≡ c .state .0 → ⊥) → Offers p c arcs j w (record { kind = Nothing; config = d })
   unfolding offer
-  offers-away x e n = record {
-    good = o .good;
+  offers-away x d q e n = record {
+    good = q;
     stored = λ k. absurd (let z : _≡_ {A = ℕ} 0 1 = cc in omega arith);
     meaning = λ states a ex hc g.
         let s : a .source ≡ x = arc-source p states arcs (length w) ex j a g ∙ sym e in

@@ -4,10 +4,9 @@ use mathlib.Core.List.{List, _++_, map}
 use Prim.Native.Nat.{ℕ, _-_, _≤_, _<_}
 use lib.ListN.{length, getD, replicate}
 use Rattle.automata.specs.Config as automata
-use Rattle.memory.specs.Region.{rows}
-use Rattle.configuration.specs.declared.config.Config.{Config}
+use Rattle.chains.specs.Chain.{fronts}
 use Rattle.configuration.specs.Leftovers.{leftoverOf, blank, outside}
-use Rattle.configuration.specs.Configs.{configAs, GoodConfig, configBytes}
+use Rattle.configuration.specs.Configs.{Config, configAs, GoodConfig, configBytes}
 
 -- the configuration by value: blank past its leftovers
 abbrev pub configOf : automata.Config → Config
@@ -16,13 +15,13 @@ configOf c = record {
   leftovers = map leftoverOf (c .leftovers) ++ replicate (4 - length (c .leftovers)) blank;
 }
 
--- its row of 320 bytes: its record, and 22 zeros
+-- its record of 298 bytes, at the front of its row
 unfoldable pub rowOf : automata.Config → List ℕ
-rowOf c = configBytes (configOf c) ++ replicate 22 0
+rowOf c = configBytes (configOf c)
 
--- the rows of cs stand one behind the other at the front of w
+-- the records of cs stand in rows of 320 bytes at the front of w
 abbrev pub HoldsConfigs : List automata.Config → List ℕ → Type 0
-HoldsConfigs cs w = rows 0 320 (length cs) w ≡ map rowOf cs
+HoldsConfigs cs w = fronts 0 320 298 (length cs) w ≡ map rowOf cs
 
 -- What holds of every configuration that is stored: its state is one of n, and by value it is in its one form for so many pairs, stands for
 -- the same configuration, and has no leftover longer than the limit.

@@ -139,7 +139,7 @@ module _ (a b : Memory) (states arcs work : ℕ) where
 
 -- the plan by its parts
 pub plan-is : (first second : Counts) (states arcs s a : ℕ) → s ≡ min states 1024 → a ≡ min arcs 8192
-    → _≡_ {A = Plan} (record { first = first; second = second; states = s; arcs = a; base = 16 * states }) (planOf first second states arcs)
+    → _≡_ {A = Plan} (record { first = first; second = second; states = s; arcs = a; base = 16 * states; limit = a }) (planOf first second states arcs)
 plan-is first second states arcs s a e f = rw (e, f)
 
 module _ (first second : Counts) (s1 a1 s2 a2 : List ℕ) (forStates forArcs size : ℕ) (m : Multipliable (lent first s1 a1) (lent second s2 a2) forStates forArcs size)
@@ -156,8 +156,12 @@ module _ (first second : Counts) (s1 a1 s2 a2 : List ℕ) (forStates forArcs siz
     few-arcs = omega arith;
   }
 
-  pub explorable : Explorable p s1 a1 s2 a2 size
+  explorable : Explorable p s1 a1 s2 a2 size
   explorable = rw e planned
+
+  -- no more arcs are looked for than there is room for
+  pub limited : (Explorable p s1 a1 s2 a2 size) × (p .limit ≡ p .arcs)
+  limited = (explorable, rw e)
 
   -- and settles the answer
   pub settleable : (v w : List ℕ) (r : Head) → size ≡ length v → Explored p s1 a1 s2 a2 v r w → Settleable p s1 a1 s2 a2 r w forStates forArcs
@@ -167,6 +171,7 @@ module _ (first second : Counts) (s1 a1 s2 a2 : List ℕ) (forStates forArcs siz
     state-cap = rw e;
     arc-cap = rw e;
     over = x .over;
+    more = x .more;
     held = x .held;
   }
 

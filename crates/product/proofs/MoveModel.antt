@@ -22,7 +22,7 @@ use Rattle.automata.proofs.ListFacts.{place-bound, place-default, map-place}
 use Rattle.automata.proofs.RecordFacts.{writeAll-append}
 use Rattle.automata.proofs.WellFormedFacts.{all-place}
 use Rattle.automata.proofs.SoundFacts.{sound-holds}
-use Rattle.memory.specs.Region.{part, rows}
+use Rattle.memory.specs.Region.{part}
 use Rattle.memory.specs.Endian.{le, toLe}
 use Rattle.memory.specs.Records.{optionOf, stateAs, stateBytes}
 use Rattle.memory.specs.declared.record.Weight.{Weight}
@@ -30,7 +30,8 @@ use Rattle.memory.specs.declared.record.Weight.the-variants.{Absent, Present}
 use Rattle.memory.specs.declared.record.State.{State}
 use Rattle.memory.proofs.Laws.{part-part}
 use Rattle.memory.proofs.EndianLaws.{le-toLe}
-use Rattle.memory.proofs.RowLaws.{getD-rows}
+use Rattle.chains.specs.Chain.{fronts}
+use Rattle.chains.proofs.Meaning.{code-at}
 use Rattle.memory.proofs.EncodedLaws.{state-encoded}
 use Rattle.alignment.specs.declared.vertex.Vertex.{Vertex}
 use Rattle.alignment.specs.declared.vertex.Move.{Move}
@@ -102,12 +103,12 @@ module _ (a b : Memory) (sa : Sound a) (sb : Sound b) where
         λ i. record { first = r .0 i; second = r .1 i }
 
     -- the rows are those of the states
-    pub vertices-held : (at : ℕ) (cs : List product.Vertex) → All Below cs → rows at 4 (length cs) w ≡ map rowOf cs → verticesAt at (length cs) w ≡ map vertexOf cs
-    unfolding verticesAt rows
+    pub vertices-held : (at : ℕ) (cs : List product.Vertex) → All Below cs → fronts at 16 4 (length cs) w ≡ map rowOf cs → verticesAt at (length cs) w ≡ map vertexOf cs
+    unfolding verticesAt fronts
     vertices-held at [] h e = refl
     vertices-held at (c ∷ cs) h e =
         ap₂ (λ (v : Vertex) (vs : List Vertex). v ∷ vs) (row-vertex at c (h .0) (ap (λ (rs : List (List ℕ)). getD rs 0 []) e))
-        (vertices-held (at + 4) cs (h .1) (ap (λ (rs : List (List ℕ)). drop 1 rs) e))
+        (vertices-held (at + 16) cs (h .1) (ap (λ (rs : List (List ℕ)). drop 1 rs) e))
 
   -- the places of the states are within the bytes
   pub vertices-fit : (cs : List product.Vertex) → All Below cs → Vertices (a .stateBytes) (b .stateBytes) (map vertexOf cs)
@@ -178,18 +179,17 @@ module _ (a b : Memory) (sa : Sound a) (sb : Sound b) where
   }
 
   -- ---- a move as an arc, between states cs that stand in w
-  module _ (few : A .tapes + B .tapes ≤ 8) (w : List ℕ) (cs : List product.Vertex) (bound : All Below cs) (long : 4 * length cs ≤ length w) (held : HoldsVertices cs w) where
+  module _ (few : A .tapes + B .tapes ≤ 8) (w : List ℕ) (cs : List product.Vertex) (bound : All Below cs) (long : 16 * length cs ≤ length w) (held : HoldsVertices cs w) where
     -- the row of a state
     row-of : (q : ℕ) (c : product.Vertex) → getElem? cs q ≡ some c
-        → (le (part (4 * q) 2 w) ≡ placeNumber (c .0)) × (le (part (4 * q + 2) 2 w) ≡ placeNumber (c .1))
+        → (le (part (16 * q) 2 w) ≡ placeNumber (c .0)) × (le (part (16 * q + 2) 2 w) ≡ placeNumber (c .1))
     unfolding vertexBytes
     row-of q c at =
         let l = place-bound cs q at in
         let h = all-place Below cs bound q c at in
-        let z : 0 + q * 4 ≡ 4 * q = omega arith in
-        let e : part (4 * q) 4 w ≡ rowOf c =
-        ap (λ (k : ℕ). part k 4 w) (sym z) ∙ sym (getD-rows 0 4 (length cs) w q [] l) ∙ ap (λ (rs : List (List ℕ)). getD rs q []) held ∙ getD-map rowOf cs q c [] at in
-        row-read (4 * q) w (placeNumber (c .0)) (placeNumber (c .1)) (place-number a sa (c .0) (h .0)) (place-number b sb (c .1) (h .1)) e
+        let z : q * 16 ≡ 16 * q = omega arith in
+        let e : part (16 * q) 4 w ≡ rowOf c = ap (λ (k : ℕ). part k 4 w) (sym z) ∙ code-at rowOf 16 4 cs w q c held at in
+        row-read (16 * q) w (placeNumber (c .0)) (placeNumber (c .1)) (place-number a sa (c .0) (h .0)) (place-number b sb (c .1) (h .1)) e
 
     -- what is needed of a move: it is within the bytes, and its weight and its record are those of the arc
     record ArcOf (k : ℕ) (x : Edge (Content ℕ)) (m : Move) : Type 0 where

@@ -70,10 +70,6 @@ module _ (p : Plan) (s1 a1 s2 a2 : List ℕ) (r : Head) (w oldStates oldArcs : L
   settled-full e = settled-refused 8 (states-over A B space (p .states) (t .state-cap) (t .over e))
 
   module _ (e : r .full ≡ false) where
-    -- what stands in work space
-    seen : Held p s1 a1 s2 a2 r w
-    seen = t .held e
-
     abbrev cs : List product.Vertex
     cs = reachedIn p s1 a1 s2 a2
 
@@ -82,16 +78,23 @@ module _ (p : Plan) (s1 a1 s2 a2 : List ℕ) (r : Head) (w oldStates oldArcs : L
 
     -- more arcs than there is room for
     pub settled-arcs : p .arcs < r .arcs → madeOf (refused refusal.arcsFull) oldStates oldArcs ≡ productStep A B slices
-    settled-arcs h = settled-refused 9 (arcs-over A B space (p .states) (t .state-cap) (seen .few) (omega (arith, h, seen .arcs-is, t .arc-cap)))
+    settled-arcs h =
+        let m = t .more e h in
+        let l = m .1 in
+        settled-refused 9 (arcs-over A B space (p .states) (t .state-cap) (m .0) (omega (arith, l, t .arc-cap)))
 
     module _ (h : r .arcs ≤ p .arcs) where
+      -- what stands in work space
+      seen : Held p s1 a1 s2 a2 r w
+      seen = t .held e h
+
       within : length es ≤ arcCap space
       within = omega (arith, h, seen .arcs-is, t .arc-cap)
 
       few : A .tapes + B .tapes ≤ 8
       few = omega (arith, t .tapes-fit, sound-holds (lent (p .first) s1 a1) (t .explorable .first-sound) .tapes, sound-holds (lent (p .second) s2 a2) (t .explorable .second-sound) .tapes)
 
-      long : 4 * length cs ≤ length w
+      long : 16 * length cs ≤ length w
       long = omega (arith, seen .few, t .explorable .vertices-fit, t .explorable .moves-fit)
 
       -- the rows are the states of the product
@@ -106,7 +109,7 @@ module _ (p : Plan) (s1 a1 s2 a2 : List ℕ) (r : Head) (w oldStates oldArcs : L
       standing j x at = let l = place-bound es j at in seen .moves j x (omega (arith, l, seen .arcs-is, h)) at
 
       -- what judging them asks for
-      pub rows-fit : 4 * r .reached ≤ length w
+      pub rows-fit : 16 * r .reached ≤ length w
       rows-fit = omega (arith, long, seen .reached-is)
 
       pub rows-within : Vertices s1 s2 (verticesAt 0 (r .reached) w)

@@ -21,9 +21,10 @@ use Rattle.alignment.specs.declared.plan.Plan.{Plan}
 abbrev pub spaceFor : ℕ → ℕ → Space
 spaceFor states arcs = record { states = states; arcs = arcs }
 
--- the plan of a search for so many states and arcs lent: 16 bytes of work space are kept for each state
+-- the plan of a search for so many states and arcs lent: 16 bytes of work space are kept for each state, and no more
+-- arcs are looked for than there is room for
 abbrev pub planOf : Counts → Counts → ℕ → ℕ → Plan
-planOf first second states arcs = record { first = first; second = second; states = min states 1024; arcs = min arcs 8192; base = 16 * states }
+planOf first second states arcs = record { first = first; second = second; states = min states 1024; arcs = min arcs 8192; base = 16 * states; limit = min arcs 8192 }
 
 -- The first refusal is the call's, and where there is none the call goes on to the product; what then is known of its parts.
 pub record Prepares (a b : Memory) (states arcs work : ℕ) (r : Judged) : Type 0 where

@@ -8,7 +8,7 @@ use Rattle.automata.specs.Space.{Space, stateCap, arcCap}
 use Rattle.alignment.specs.declared.plan.Plan.{Plan}
 use Rattle.alignment.specs.declared.head.Head.{Head}
 use Rattle.alignment.specs.Plans.{Explorable}
-use Rattle.alignment.specs.Exploring.{reachedIn, Held}
+use Rattle.alignment.specs.Exploring.{reachedIn, edgesIn, Held}
 
 -- the space in slices of so many bytes
 abbrev pub spaceIn : ℕ → ℕ → Space
@@ -21,4 +21,5 @@ pub record Settleable (p : Plan) (s1 a1 s2 a2 : List ℕ) (r : Head) (w : List �
   pub state-cap : p .states ≡ stateCap (spaceIn forStates forArcs)
   pub arc-cap : p .arcs ≡ arcCap (spaceIn forStates forArcs)
   pub over : r .full ≡ true → p .states < length (reachedIn p s1 a1 s2 a2)
-  pub held : r .full ≡ false → Held p s1 a1 s2 a2 r w
+  pub more : r .full ≡ false → p .arcs < r .arcs → (length (reachedIn p s1 a1 s2 a2) ≤ p .states) × (p .arcs < length (edgesIn p s1 a1 s2 a2))
+  pub held : r .full ≡ false → r .arcs ≤ p .arcs → Held p s1 a1 s2 a2 r w

@@ -31,6 +31,7 @@ pub fn plan_for(first: Counts, second: Counts, states: usize, arcs: usize) -> Pl
         states: most_states,
         arcs: most_arcs,
         base: 16 * states,
+        limit: most_arcs,
     }
 }
 

@@ -51,12 +51,12 @@ everywhere P h (x ∷ xs) = (h x, everywhere P h xs)
 length-vertices : (at n : ℕ) (w : List ℕ) → length (verticesAt at n w) ≡ n
 unfolding verticesAt
 length-vertices at zero w = refl
-length-vertices at (suc n) w = ap suc (length-vertices (at + 4) n w)
+length-vertices at (suc n) w = ap suc (length-vertices (at + 16) n w)
 
 -- the first of several rows, and the others
-vertices-cons : (at left rest : ℕ) (w : List ℕ) (v : Vertex) → left ≡ suc rest → v ≡ vertexAt at w → verticesAt at left w ≡ v ∷ verticesAt (at + 4) rest w
+vertices-cons : (at left rest : ℕ) (w : List ℕ) (v : Vertex) → left ≡ suc rest → v ≡ vertexAt at w → verticesAt at left w ≡ v ∷ verticesAt (at + 16) rest w
 unfolding verticesAt
-vertices-cons at left rest w v s e = rw s (ap (λ (x : Vertex). x ∷ verticesAt (at + 4) rest w) (sym e))
+vertices-cons at left rest w v s e = rw s (ap (λ (x : Vertex). x ∷ verticesAt (at + 16) rest w) (sym e))
 
 vertices-none : (at left : ℕ) (w : List ℕ) → left ≡ 0 → verticesAt at left w ≡ []
 unfolding verticesAt
@@ -82,23 +82,23 @@ length-states s1 s2 vs =
 
 module _ (s1 s2 w : List ℕ) (at left rest : ℕ) (v : Vertex) (s : left ≡ suc rest) (e : v ≡ vertexAt at w) where
   -- the first row's places, and those of the others
-  pub vertices-turn : Vertices s1 s2 (verticesAt at left w) → VertexFits s1 s2 v × Vertices s1 s2 (verticesAt (at + 4) rest w)
+  pub vertices-turn : Vertices s1 s2 (verticesAt at left w) → VertexFits s1 s2 v × Vertices s1 s2 (verticesAt (at + 16) rest w)
   unfolding Vertices
   vertices-turn h = rw (vertices-cons at left rest w v s e) at h
 
   -- a state out of range, and one in range
   pub states-stop : (q : State) (b : Bool) → q ≡ vertexSum s1 s2 v → b ≡ stateFits q → not b ≡ true → false ≡ statesFit s1 s2 (verticesAt at left w)
   unfolding statesFit
-  states-stop q b f g h = rw (vertices-cons at left rest w v s e, ← f, ← g) (go b h (all (λ (x : Vertex). stateFits (vertexSum s1 s2 x)) (verticesAt (at + 4) rest w)))
+  states-stop q b f g h = rw (vertices-cons at left rest w v s e, ← f, ← g) (go b h (all (λ (x : Vertex). stateFits (vertexSum s1 s2 x)) (verticesAt (at + 16) rest w)))
     where
       go : (b : Bool) → not b ≡ true → (r : Bool) → false ≡ and b r
       go true h r = absurd (false-not-true {A = ⊥} refl h)
       go false h r = refl
 
   pub states-next : (q : State) (b : Bool) → q ≡ vertexSum s1 s2 v → b ≡ stateFits q → not b ≡ false
-      → statesFit s1 s2 (verticesAt (at + 4) rest w) ≡ statesFit s1 s2 (verticesAt at left w)
+      → statesFit s1 s2 (verticesAt (at + 16) rest w) ≡ statesFit s1 s2 (verticesAt at left w)
   unfolding statesFit
-  states-next q b f g h = rw (vertices-cons at left rest w v s e, ← f, ← g) (go b h (all (λ (x : Vertex). stateFits (vertexSum s1 s2 x)) (verticesAt (at + 4) rest w)))
+  states-next q b f g h = rw (vertices-cons at left rest w v s e, ← f, ← g) (go b h (all (λ (x : Vertex). stateFits (vertexSum s1 s2 x)) (verticesAt (at + 16) rest w)))
     where
       go : (b : Bool) → not b ≡ false → (r : Bool) → r ≡ and b r
       go true h r = refl
@@ -106,11 +106,11 @@ module _ (s1 s2 w : List ℕ) (at left rest : ℕ) (v : Vertex) (s : left ≡ su
 
   -- the next state written
   pub states-written : (q : State) (to : ℕ) (out out2 : List ℕ) → q ≡ vertexSum s1 s2 v → to + 10 * left ≤ length out → out2 ≡ splice to (stateBytes q) out
-      → splice (to + 10) (stateRecords s1 s2 (verticesAt (at + 4) rest w)) out2 ≡ splice to (stateRecords s1 s2 (verticesAt at left w)) out
+      → splice (to + 10) (stateRecords s1 s2 (verticesAt (at + 16) rest w)) out2 ≡ splice to (stateRecords s1 s2 (verticesAt at left w)) out
   unfolding stateRecords
   states-written q to out out2 f h g =
-      let vs = verticesAt (at + 4) rest w in
-      let l : length (stateRecords s1 s2 vs) ≡ rest * 10 = length-states s1 s2 vs ∙ ap (λ (k : ℕ). k * 10) (length-vertices (at + 4) rest w) in
+      let vs = verticesAt (at + 16) rest w in
+      let l : length (stateRecords s1 s2 vs) ≡ rest * 10 = length-states s1 s2 vs ∙ ap (λ (k : ℕ). k * 10) (length-vertices (at + 16) rest w) in
       written-turn (λ (x : Vertex). stateBytes (vertexSum s1 s2 x)) 10 to v vs out out2 (length-state (vertexSum s1 s2 v)) (omega (arith, l, h, s))
       (g ∙ ap (λ (x : State). splice to (stateBytes x) out) f)
       ∙ ap (λ (xs : List Vertex). splice to (stateRecords s1 s2 xs) out) (sym (vertices-cons at left rest w v s e))

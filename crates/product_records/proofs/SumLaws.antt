@@ -83,7 +83,7 @@ side-arc states arcs k place r f e g =
     (n, omega (arith, n, f .small))
 
 -- both sides of a move
-pub move-summed : (s1 a1 s2 a2 w : List ℕ) (m : Move) (p q x y : ℕ) → p ≡ le (part (4 * m .from .0) 2 w) → q ≡ le (part (4 * m .from .0 + 2) 2 w)
+pub move-summed : (s1 a1 s2 a2 w : List ℕ) (m : Move) (p q x y : ℕ) → p ≡ le (part (16 * m .from .0) 2 w) → q ≡ le (part (16 * m .from .0 + 2) 2 w)
     → x ≡ sideSum s1 a1 (m .first) p → y ≡ sideSum s2 a2 (m .second) q → x + y ≡ moveSum s1 a1 s2 a2 w m
 unfolding moveSum
 move-summed s1 a1 s2 a2 w m p q x y e f g h = rw (g, h, e, f)

@@ -62,7 +62,7 @@ sideSum states arcs k place = if (eqb k 65535) (amount (placeState states place 
 -- the weight of a move from the row of its first state in w
 unfoldable pub moveSum : List ℕ → List ℕ → List ℕ → List ℕ → List ℕ → Move → ℕ
 moveSum s1 a1 s2 a2 w m =
-    sideSum s1 a1 (m .first) (le (part (4 * m .from .0) 2 w)) + sideSum s2 a2 (m .second) (le (part (4 * m .from .0 + 2) 2 w))
+    sideSum s1 a1 (m .first) (le (part (16 * m .from .0) 2 w)) + sideSum s2 a2 (m .second) (le (part (16 * m .from .0 + 2) 2 w))
 
 -- the records of the labels of a side with so many tapes: those of its arc, zeros where its path has ended
 unfoldable pub sideLabels : List ℕ → ℕ → ℕ → List ℕ
@@ -85,7 +85,7 @@ moveRecord s1 a1 s2 a2 w n k m = moveFront m (moveSum s1 a1 s2 a2 w m) ++ moveLa
 -- the n rows from a place on
 unfoldable pub verticesAt : ℕ → ℕ → List ℕ → List Vertex
 verticesAt at zero w = []
-verticesAt at (suc n) w = vertexAt at w ∷ verticesAt (at + 4) n w
+verticesAt at (suc n) w = vertexAt at w ∷ verticesAt (at + 16) n w
 
 -- the n moves from a place on
 unfoldable pub movesAt : ℕ → ℕ → List ℕ → List Move
@@ -112,6 +112,6 @@ pub record SideFits (states arcs : List ℕ) (k place : ℕ) : Type 0 where
 
 -- both sides of a move
 pub record MoveFits (s1 a1 s2 a2 w : List ℕ) (m : Move) : Type 0 where
-  pub row : 4 * m .from .0 + 4 ≤ length w
-  pub first : SideFits s1 a1 (m .first) (le (part (4 * m .from .0) 2 w))
-  pub second : SideFits s2 a2 (m .second) (le (part (4 * m .from .0 + 2) 2 w))
+  pub row : 16 * m .from .0 + 4 ≤ length w
+  pub first : SideFits s1 a1 (m .first) (le (part (16 * m .from .0) 2 w))
+  pub second : SideFits s2 a2 (m .second) (le (part (16 * m .from .0 + 2) 2 w))

@@ -13,7 +13,7 @@ ghost use Rattle.product_records.specs.Results.{statesFit, Vertices, mov
 
 // Whether the weights of the first `count` states in `work` are in range.
 fn states_fit(work: &[u8], count: usize, first_states: &[u8], second_states: &[u8]) -> bool
-    requires { ⌜ (4 * count ≤ length (now work)) × Vertices (now «first_states») (now «second_states») (verticesAt 0 count (now work)) ⌝ }
+    requires { ⌜ (16 * count ≤ length (now work)) × Vertices (now «first_states») (now «second_states») (verticesAt 0 count (now work)) ⌝ }
     ensures { λ r. ⌜ r ≡ statesFit (now («first_states» .entry)) (now («second_states» .entry)) (verticesAt 0 count (now (work .entry))) ⌝ }
 {
     let mut left = count;
@@ -24,7 +24,7 @@ fn states_fit(work: &[u8], count: usize, first_states: &[u8], second_states: &[u
         if !state_fits(s) {
             return false;
         }
-        at += 4;
+        at += 16;
         left -= 1;
     }
     true
@@ -75,7 +75,7 @@ pub fn sums_fit(
     second_states: &[u8],
     second_arcs: &[u8],
 ) -> bool
-    requires { ⌜ (4 * reached ≤ length (now work)) × Vertices (now «first_states») (now «second_states») (verticesAt 0 reached (now work)) × (base + 16 * arcs ≤ length (now work)) × Moves (now «first_states») (now «first_arcs») (now «second_states») (now «second_arcs») (now work) (movesAt base arcs (now work)) ⌝ }
+    requires { ⌜ (16 * reached ≤ length (now work)) × Vertices (now «first_states») (now «second_states») (verticesAt 0 reached (now work)) × (base + 16 * arcs ≤ length (now work)) × Moves (now «first_states») (now «first_arcs») (now «second_states») (now «second_arcs») (now work) (movesAt base arcs (now work)) ⌝ }
     ensures { λ r. ⌜ r ≡ and (statesFit (now («first_states» .entry)) (now («second_states» .entry)) (verticesAt 0 reached (now (work .entry)))) (movesFit (now («first_states» .entry)) (now («first_arcs» .entry)) (now («second_states» .entry)) (now («second_arcs» .entry)) (now (work .entry)) (movesAt base arcs (now (work .entry)))) ⌝ }
 {
     if !states_fit(work, reached, first_states, second_states) {

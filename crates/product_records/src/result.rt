@@ -19,7 +19,7 @@ pub fn write_states(
     second_states: &[u8],
     out: &mut [u8],
 )
-    requires { ⌜ (4 * count ≤ length (now work)) × Vertices (now «first_states») (now «second_states») (verticesAt 0 count (now work)) × (10 * count ≤ length (now out)) ⌝ }
+    requires { ⌜ (16 * count ≤ length (now work)) × Vertices (now «first_states») (now «second_states») (verticesAt 0 count (now work)) × (10 * count ≤ length (now out)) ⌝ }
     ensures { λ _. ⌜ now (out .exit) ≡ overwrite (stateRecords (now («first_states» .entry)) (now («second_states» .entry)) (verticesAt 0 count (now (work .entry)))) (now (out .entry)) ⌝ }
 {
     let mut left = count;
@@ -29,7 +29,7 @@ pub fn write_states(
         let v = load_vertex(work, at);
         let s = vertex_state(v, first_states, second_states);
         store_state(out, to, s);
-        at += 4;
+        at += 16;
         to += 10;
         left -= 1;
     }

@@ -115,7 +115,7 @@ pub fn move_weight(
     requires { ⌜ MoveFits (now «first_states») (now «first_arcs») (now «second_states») (now «second_arcs») (now work) m ⌝ }
     ensures { λ r. ⌜ r ≡ moveSum (now («first_states» .entry)) (now («first_arcs» .entry)) (now («second_states» .entry)) (now («second_arcs» .entry)) (now (work .entry)) m ⌝ }
 {
-    let row = 4 * m.from.0 as usize;
+    let row = 16 * m.from.0 as usize;
     let p = get16(work, row);
     let q = get16(work, row + 2);
     let first = side_weight(first_states, first_arcs, m.first, p);

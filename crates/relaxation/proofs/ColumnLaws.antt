@@ -15,7 +15,7 @@ use Rattle.memory.specs.Region.{part, splice}
 use Rattle.memory.specs.Endian.{le, toLe}
 use Rattle.memory.proofs.Laws.{getD-splice-before, getD-splice-after, length-splice, part-splice-before, part-splice-after}
 use Rattle.memory.proofs.EndianLaws.{le-two, le-splice, length-toLe}
-use Rattle.relaxation.specs.Column.{Room, column, Frame, settled}
+use Rattle.relaxation.specs.Column.{Room, column, Frame}
 
 pub length-column : (at n : ℕ) (w : List ℕ) → length (column at n w) ≡ n
 unfolding column

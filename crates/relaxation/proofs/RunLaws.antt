@@ -2,18 +2,20 @@
 use Prim.Native.Nat.{ℕ, zero, suc, _+_, _-_, _*_, _<_, _≤_}
 use mathlib.Core.Path.{_≡_, refl, sym, ap, ap₂, _∙_}
 use mathlib.Core.Logic.{_≢_}
-use mathlib.Core.Bool.{Bool, true, false}
-use mathlib.Core.List.{List, [], _∷_}
+use mathlib.Core.Bool.{Bool, true, false, false≢true}
+use mathlib.Core.List.{List}
 use native.Mathlib.Omega.{arith}
-use lib.Dec.{eqb, eqb-refl}
-use lib.ListN.{length, getD}
+use mathlib.Core.Option.{some}
+use lib.ListN.{getD, getElem?}
 use Rattle.memory.specs.Region.{part, splice}
 use Rattle.memory.specs.Endian.{le, toLe}
-use Rattle.automata.specs.Lists.{sameList, and}
-use Rattle.automata.proofs.TestFacts.{eqb-false, T-true}
+use borrow.Author.Tests.{eq-eqb}
+use Rattle.automata.specs.Lists.{and}
+use Rattle.automata.proofs.TestFacts.{eqb-false}
+use Rattle.automata.specs.InPlace.{Becomes}
 use Rattle.relaxation.specs.declared.Edge.{Edge}
-use Rattle.relaxation.specs.Column.{column, settled}
 use Rattle.relaxation.specs.Edges.{edgeAt, edges, Joined, throughEdge, improve, visited, swept, startOf, started}
+use Rattle.relaxation.specs.Lowered.{next, Run}
 
 -- an edge, from its fields
 pub edge-read : (first second at : ℕ) (arcs : List ℕ) (s t u d : ℕ) → s ≡ le (part at 2 arcs) → t ≡ le (part (at + 2) 2 arcs)
@@ -21,60 +23,94 @@ pub edge-read : (first second at : ℕ) (arcs : List ℕ) (s t u d : ℕ) → s 
     → _≡_ {A = Edge} (record { source = s; target = t; up = u; down = d }) (edgeAt first second at arcs)
 edge-read first second at arcs s t u d a b c e = λ i. record { source = a i; target = b i; up = c i; down = e i }
 
--- the work space after one edge, from what each call gave
-pub visit-step : (diverging : Bool) (at : ℕ) (e : Edge) (w w2 : List ℕ) (v t x r : ℕ) → v ≡ le (part (at + 64 * e .target) 2 w) → t ≡ throughEdge (e .up) (e .down) v
-    → x ≡ le (part (at + 2 + 64 * e .source) 2 w) → r ≡ improve diverging x t → w2 ≡ splice (at + 2 + 64 * e .source) (toLe 2 r) w → w2 ≡ visited diverging at e w
-unfolding visited
-visit-step diverging at e w w2 v t x r a b c d f =
-    f ∙ ap (λ (k : ℕ). splice (at + 2 + 64 * e .source) (toLe 2 k) w)
-    (d ∙ ap₂ (λ (y u : ℕ). improve diverging y u) c (b ∙ ap (throughEdge (e .up) (e .down)) a))
+-- the work space after one edge, from what each call gave: the delay of its source stays, ...
+module _ (diverging : Bool) (at : ℕ) (e : Edge) (w : List ℕ) (v t x r : ℕ) (a : v ≡ le (part (at + 64 * e .target) 2 w)) (b : t ≡ throughEdge (e .up) (e .down) v)
+    (c : x ≡ le (part (at + 64 * e .source) 2 w)) (d : r ≡ improve diverging x t) where
+  improved-is : r ≡ improve diverging (le (part (at + 64 * e .source) 2 w)) (throughEdge (e .up) (e .down) (le (part (at + 64 * e .target) 2 w)))
+  improved-is = d ∙ ap₂ (λ (y u : ℕ). improve diverging y u) c (b ∙ ap (throughEdge (e .up) (e .down)) a)
+
+  pub visit-kept : r ≡ x → Becomes (visited diverging at e w) true w w
+  unfolding visited
+  visit-kept h = record { is = rw (← improved-is, ← c, eq-eqb r x h); still = λ z. refl }
+
+  -- ... or is improved
+  pub visit-stored : (w2 : List ℕ) → r ≢ x → w2 ≡ splice (at + 64 * e .source) (toLe 2 r) w → Becomes (visited diverging at e w) false w2 w
+  unfolding visited
+  visit-stored w2 h g = record {
+    is = rw (← improved-is, ← c, eqb-false r x h) g;
+    still = λ z. absurd (false≢true z);
+  }
 
 -- ---- arcs
 
-pub swept-turn : (diverging : Bool) (at first second from left rest : ℕ) (arcs w w2 : List ℕ) (e : Edge) → left ≡ suc rest → e ≡ edgeAt first second from arcs → w2 ≡ visited diverging at e w
-    → swept diverging at (edges first second (from + 80) rest arcs) w2 ≡ swept diverging at (edges first second from left arcs) w
-unfolding swept edges
-swept-turn diverging at first second from left rest arcs w w2 e s f g = rw (s, g, f)
-
-pub swept-end : (diverging : Bool) (at first second from left : ℕ) (arcs w : List ℕ) → left ≡ 0 → w ≡ swept diverging at (edges first second from left arcs) w
-unfolding swept edges
-swept-end diverging at first second from left arcs w s = rw s
-
-pub joined-turn : (n first second from left rest : ℕ) (arcs : List ℕ) (e : Edge) → left ≡ suc rest → e ≡ edgeAt first second from arcs → Joined n (edges first second from left arcs)
-    → (e .source < n) × (e .target < n) × Joined n (edges first second (from + 80) rest arcs)
+-- one of the first edges
+pub joined-at : (n first second at count k from : ℕ) (arcs : List ℕ) (e : Edge) → Joined n (edges first second at count arcs) → k < count → from ≡ at + 80 * k
+    → e ≡ edgeAt first second from arcs → (e .source < n) × (e .target < n)
 unfolding Joined edges
-joined-turn n first second from left rest arcs e s f j = let k = rw s at j in rw f k
+joined-at n first second at zero k from arcs e j l f g = absurd (omega arith)
+joined-at n first second at (suc count) zero from arcs e j l f g = let z : from ≡ at = omega arith in rw (g, z) (j .0, j .1)
+joined-at n first second at (suc count) (suc k) from arcs e j l f g = joined-at n first second (at + 80) count k from arcs e (j .2) (omega arith) (omega arith) g
 
--- ---- columns
+-- its place among all
+pub edges-place : (first second at count k from : ℕ) (arcs : List ℕ) (e : Edge) → k < count → from ≡ at + 80 * k → e ≡ edgeAt first second from arcs
+    → getElem? (edges first second at count arcs) k ≡ some e
+unfolding edges
+edges-place first second at zero k from arcs e l f g = absurd (omega arith)
+edges-place first second at (suc count) zero from arcs e l f g = let z : from ≡ at = omega arith in rw (g, z)
+edges-place first second at (suc count) (suc k) from arcs e l f g = edges-place first second (at + 80) count k from arcs e (omega arith) (omega arith) g
 
-pub same-turn : (a b b2 left rest : ℕ) (w : List ℕ) (x y : ℕ) → left ≡ suc rest → b2 ≡ b + 64 → x ≡ le (part a 2 w) → y ≡ le (part b 2 w) → x ≡ y
-    → sameList (column (a + 64) rest w) (column b2 rest w) ≡ sameList (column a left w) (column b left w)
-unfolding column
-same-turn a b b2 left rest w x y s m f g h = rw (s, m, ← f, ← g, h, T-true (eqb y y) (eqb-refl y))
+-- a run goes on by it
+pub run-turn : (first second count q p up down k from : ℕ) (arcs : List ℕ) (e : Edge) → k < count → from ≡ 80 * k → e ≡ edgeAt first second from arcs → e .source ≡ p
+    → Run (edges first second 0 count arcs) q p up down → Run (edges first second 0 count arcs) q (e .target) (up + e .up) (down + e .down)
+run-turn first second count q p up down k from arcs e l f g h r = next k e (edges-place first second 0 count k from arcs e l (omega arith) g) h r
 
-pub same-not : (a b left : ℕ) (w : List ℕ) (x y : ℕ) → 0 < left → x ≡ le (part a 2 w) → y ≡ le (part b 2 w) → x ≢ y
-    → false ≡ sameList (column a left w) (column b left w)
-unfolding column
-same-not a b zero w x y l f g h = absurd (omega arith)
-same-not a b (suc left) w x y l f g h = rw (← f, ← g, eqb-false x y h)
+-- a round that has left edges before it: those behind are done, and nothing changed where same is told
+pub record Sweeping (diverging : Bool) (at first second count : ℕ) (arcs v w : List ℕ) (left from : ℕ) (same : Bool) : Type 0 where
+  pub place : from ≡ 80 * left
+  pub few : left ≤ count
+  pub is : w ≡ swept diverging at (edges first second from (count - left) arcs) v
+  pub still : same ≡ true → w ≡ v
 
-pub same-end : (a b left : ℕ) (w : List ℕ) → left ≡ 0 → true ≡ sameList (column a left w) (column b left w)
-unfolding column
-same-end a b left w s = rw s
+pub sweep-start : (diverging : Bool) (at first second count : ℕ) (arcs v : List ℕ) → Sweeping diverging at first second count arcs v v count (80 * count) true
+unfolding swept edges
+sweep-start diverging at first second count arcs v =
+    let z : count - count ≡ 0 = omega arith in record { place = refl; few = omega arith; is = rw z; still = λ h. refl }
 
-pub settled-turn : (at left rest : ℕ) (w w2 : List ℕ) (v : ℕ) → left ≡ suc rest → v ≡ le (part (at + 2) 2 w) → w2 ≡ splice at (toLe 2 v) w
-    → settled (at + 64) rest w2 ≡ settled at left w
-unfolding settled
-settled-turn at left rest w w2 v s f g = rw (s, g, f)
+module _ (diverging : Bool) (at first second count : ℕ) (arcs v w : List ℕ) (left from : ℕ) (same : Bool) (s : Sweeping diverging at first second count arcs v w left from same) where
+  -- one edge more
+  pub sweep-turn : (w2 : List ℕ) (left2 from2 : ℕ) (kept same2 : Bool) (e : Edge) → left ≡ suc left2 → from2 ≡ from - 80 → e ≡ edgeAt first second from2 arcs
+      → Becomes (visited diverging at e w) kept w2 w → same2 ≡ and same kept → Sweeping diverging at first second count arcs v w2 left2 from2 same2
+  unfolding swept edges
+  sweep-turn w2 left2 from2 kept same2 e l f g b h =
+      let p = s .place in
+      let m = s .few in
+      let z : count - left2 ≡ suc (count - left) = omega arith in
+      let y : from2 + 80 ≡ from = omega arith in
+      record {
+        place = omega arith;
+        few = omega arith;
+        is = b .is ∙ (rw (z, y, ← g) (ap (visited diverging at e) (s .is)));
+        still = λ t. told same kept (sym h ∙ t) (s .still) (b .still);
+      }
+    where
+      told : (x y : Bool) → and x y ≡ true → (x ≡ true → w ≡ v) → (y ≡ true → w2 ≡ w) → w2 ≡ v
+      told true y t f g = g t ∙ f refl
+      told false y t f g = absurd (false≢true t)
 
-pub settled-end : (at left : ℕ) (w : List ℕ) → left ≡ 0 → w ≡ settled at left w
-unfolding settled
-settled-end at left w s = rw s
+  -- no edge more
+  pub sweep-end : left ≡ 0 → Becomes (swept diverging at (edges first second 0 count arcs) v) same w v
+  sweep-end l =
+      let p = s .place in
+      let z : count - left ≡ count = omega arith in
+      let y : from ≡ 0 = omega arith in
+      record { is = rw (z, y) at (s .is); still = s .still }
 
-pub started-turn : (at from left rest : ℕ) (bytes w w2 w3 : List ℕ) (v : ℕ) → left ≡ suc rest → v ≡ startOf (getD bytes (from + 5) 0) → w2 ≡ splice at (toLe 2 v) w → w3 ≡ splice (at + 2) (toLe 2 v) w2
-    → started (at + 64) (from + 10) rest bytes w3 ≡ started at from left bytes w
+-- ---- the delays that the states start with
+
+pub started-turn : (at from left rest : ℕ) (bytes w w2 : List ℕ) (v : ℕ) → left ≡ suc rest → v ≡ startOf (getD bytes (from + 5) 0) → w2 ≡ splice at (toLe 2 v) w
+    → started (at + 64) (from + 10) rest bytes w2 ≡ started at from left bytes w
 unfolding started
-started-turn at from left rest bytes w w2 w3 v s f g h = rw (s, h, g, f)
+started-turn at from left rest bytes w w2 v s f g = rw (s, g, f)
 
 pub started-end : (at from left : ℕ) (bytes w : List ℕ) → left ≡ 0 → w ≡ started at from left bytes w
 unfolding started

@@ -1,28 +1,35 @@
 -- The edges and the starting delays that the code reads are those of the table in memory, so its rounds are those of the definition.
-use Prim.Native.Nat.{ℕ, zero, suc, _+_, _-_, _*_, _%_, _/_, _<_, _≤_, min}
-use mathlib.Core.Path.{_≡_, refl, sym, ap, ap₂, _∙_}
-use mathlib.Core.Bool.{Bool, true, false}
+use Prim.Native.Nat.{ℕ, zero, suc, _+_, _-_, _*_, _%_, _/_, _<_}
+use mathlib.Core.Path.{_≡_, refl, sym, ap, subst, _∙_}
+use mathlib.Core.Bool.{true, false}
 use mathlib.Core.Option.{Option, none, some}
-use mathlib.Core.List.{List, [], _∷_, map}
+use mathlib.Core.List.{List, [], _∷_, _++_, map}
 use native.Mathlib.Omega.{arith}
-use lib.Dec.{eqb}
-use lib.ListN.{length, length-map, getD, take, drop}
+use lib.ListN.{length, length-map, getD, getElem?, take, drop}
 use lib.Seq.{ext-getD, getD-take, getD-drop}
 use Rattle.memory.specs.Region.{part}
 use Rattle.memory.specs.Endian.{le}
 use Rattle.automata.specs.Lists.{if, isSome}
-use Rattle.automata.specs.Graph.{Graph}
-use Rattle.automata.specs.Rounds.{visit, sweep, round}
-use Rattle.automata.specs.Automaton.{Automaton, Arc, State, labelOn, graph, size}
-use Rattle.automata.specs.Closing.{origin, missing, startDelays, relax, diverge, relaxed, leastDelays}
+use Rattle.automata.specs.Rounds.{iterate, visit}
+use Rattle.automata.specs.InPlace.{sweepInPlace, roundInPlace}
+use Rattle.automata.specs.Graph.{Leads, stop, step}
+use Rattle.automata.specs.Automaton.{Automaton, Arc, State, labelOn, lengthOn, graph, size, Formed}
+use Rattle.automata.specs.Closing.{origin, missing, startDelays, through, relax, diverge, leastDelays}
 use Rattle.automata.specs.Lists.{All}
 use Rattle.automata.specs.Table.{WellFormed, WellFormedArc}
 use Rattle.automata.specs.Memory.{Memory, Holds, flag}
 use Rattle.automata.proofs.RecordFacts.{All-at}
+use Rattle.automata.proofs.WellFormedFacts.{well-formed}
 use Rattle.automata.proofs.RoundFacts.{iterate-same}
+use Rattle.automata.proofs.Membership.{place-map⁻¹}
+use Rattle.automata.proofs.Walks.{walk-append}
+use Rattle.automata.proofs.AutomatonFacts.{lengthOn-nil, lengthOn-cons, lengthOn-append}
+use Rattle.automata.proofs.RelaxedDelays.{through-cases}
+use Rattle.automata.proofs.InPlaceDelays.{Held, start-held, arc-held, cycle-held, in-place-least}
 use Rattle.automata.proofs.MemoryLaws.{arc-field, label-field, state-field}
 use Rattle.relaxation.specs.declared.Edge.{Edge}
-use Rattle.relaxation.specs.Edges.{edgeAt, edges, edgeGraph, Joined, improveEdge, roundOf, roundsOf, startOf, starts, leastOf}
+use Rattle.relaxation.specs.Edges.{edgeAt, edges, edgeGraph, Joined, throughEdge, improveEdge, roundOf, roundsOf, startOf, starts}
+use Rattle.relaxation.specs.Lowered.{none, next, own, along, around, Run, Stands, Lowered, Least}
 
 -- an arc as relaxation on the tapes i and j takes it
 abbrev pub edgeOf : ℕ → ℕ → Arc ℕ → Edge
@@ -129,26 +136,64 @@ unfolding Joined
 joined-are tapes states i j [] p = tt
 joined-are tapes states i j (a ∷ rs) p = (p .0 .source, p .0 .target, joined-are tapes states i j rs (p .1))
 
-module _ (G : Graph (Arc ℕ)) (gs : List Edge) (i j : ℕ) where
-  relax-sweep : (old new : List ℕ) (rs : List (Arc ℕ)) → sweep (edgeGraph gs) missing (improveEdge false) old new (map (edgeOf i j) rs)
-      ≡ sweep (record { source = λ a. a .source; target = λ a. a .target; arcs = G .arcs }) missing (relax i j) old new rs
-  relax-sweep old new [] = refl
-  relax-sweep old new (a ∷ rs) = relax-sweep old _ rs
+-- a round in place over the edges is one over the arcs
+module _ (t : Automaton ℕ) (gs : List Edge) (i j : ℕ) where
+  relax-sweep : (xs : List ℕ) (rs : List (Arc ℕ))
+      → sweepInPlace (edgeGraph gs) missing (improveEdge false) xs (map (edgeOf i j) rs) ≡ sweepInPlace (graph t) missing (relax i j) xs rs
+  relax-sweep xs [] = refl
+  relax-sweep xs (a ∷ rs) = ap (λ (ys : List ℕ). visit (graph t) missing (relax i j) ys ys a) (relax-sweep xs rs)
 
-  diverge-sweep : (old new : List ℕ) (rs : List (Arc ℕ)) → sweep (edgeGraph gs) missing (improveEdge true) old new (map (edgeOf i j) rs)
-      ≡ sweep (record { source = λ a. a .source; target = λ a. a .target; arcs = G .arcs }) missing (diverge i j) old new rs
-  diverge-sweep old new [] = refl
-  diverge-sweep old new (a ∷ rs) = diverge-sweep old _ rs
+  diverge-sweep : (xs : List ℕ) (rs : List (Arc ℕ))
+      → sweepInPlace (edgeGraph gs) missing (improveEdge true) xs (map (edgeOf i j) rs) ≡ sweepInPlace (graph t) missing (diverge i j) xs rs
+  diverge-sweep xs [] = refl
+  diverge-sweep xs (a ∷ rs) = ap (λ (ys : List ℕ). visit (graph t) missing (diverge i j) ys ys a) (diverge-sweep xs rs)
 
--- the rounds are those of the definition
-pub relaxed-are : (t : Automaton ℕ) (i j n : ℕ) → roundsOf false (map (edgeOf i j) (t .arcs)) n (startDelays t) ≡ relaxed t i j n
-relaxed-are t i j n =
-    iterate-same (roundOf false (map (edgeOf i j) (t .arcs))) (round (graph t) missing (relax i j)) (λ x. relax-sweep (graph t) (map (edgeOf i j) (t .arcs)) i j x x (t .arcs)) n (startDelays t)
+-- a run of edges is one of arcs
+run-leads : (t : Automaton ℕ) (i j : ℕ) {q p up down : ℕ} → Run (map (edgeOf i j) (t .arcs)) q p up down
+    → (rs : List (Arc ℕ)) × Leads (graph t) q rs p × (lengthOn i rs ≡ up) × (lengthOn j rs ≡ down)
+run-leads t i j none = ([], ([], stop), lengthOn-nil ℕ i, lengthOn-nil ℕ j)
+run-leads t i j {q} (next {p} {up} {down} k e at from r) =
+    let (a, place, is) = place-map⁻¹ (edgeOf i j) (t .arcs) k at in
+    go a place is (run-leads t i j r)
+  where
+    go : (a : Arc ℕ) → getElem? (t .arcs) k ≡ some a → edgeOf i j a ≡ e → (rs : List (Arc ℕ)) × Leads (graph t) q rs p × (lengthOn i rs ≡ up) × (lengthOn j rs ≡ down)
+        → (rs : List (Arc ℕ)) × Leads (graph t) q rs (e .target) × (lengthOn i rs ≡ up + e .up) × (lengthOn j rs ≡ down + e .down)
+    go a place is (rs, (r′, w), u, d) = rw (← is) (
+      rs ++ (a ∷ []),
+      (r′ ++ (k ∷ []), walk-append w (step place (ap (λ (z : Edge). z .source) is ∙ from) stop)),
+      omega (arith, u, lengthOn-append i rs (a ∷ []), lengthOn-cons i a [], lengthOn-nil ℕ i),
+      omega (arith, d, lengthOn-append j rs (a ∷ []), lengthOn-cons j a [], lengthOn-nil ℕ j),
+    )
 
+-- a delay that stands for runs of edges stands for runs of arcs
+module _ (t : Automaton ℕ) (ok : Formed t) (i j : ℕ) where
+  stands-held : {q v : ℕ} → Stands (map (edgeOf i j) (t .arcs)) (startDelays t) q v → (Held t ok i j) q v
+  stands-held (own {q}) = (start-held t ok i j) q
+  stands-held (along {v} k e at l s) =
+      let (a, place, is) = place-map⁻¹ (edgeOf i j) (t .arcs) k at in
+      go a place is (stands-held s)
+    where
+      go : (a : Arc ℕ) → getElem? (t .arcs) k ≡ some a → edgeOf i j a ≡ e → (Held t ok i j) (e .target) v → (Held t ok i j) (e .source) (throughEdge (e .up) (e .down) v)
+      go a place is h = subst (λ (z : Edge). (Held t ok i j) (z .source) (throughEdge (z .up) (z .down) v)) is
+          ((arc-held t ok i j) k a place v (through i j a v) (through-cases i j a v) (subst (λ (z : Edge). (Held t ok i j) (z .target) v) (sym is) h)
+          (subst (λ (z : Edge). throughEdge (z .up) (z .down) v < missing) (sym is) l))
+  stands-held (around {q} {v} c m s) =
+      let (rs, w, u, d) = run-leads t i j (c .closed) in
+      (cycle-held t ok i j) q v rs w (omega (arith, u, d, c .less)) m (stands-held s)
+
+  -- what relaxation and divergence in place leave of lowered delays are the least ones of the definition
+  lowered-least : (ys : List ℕ) → length ys ≡ size t → Lowered (map (edgeOf i j) (t .arcs)) (size t) (startDelays t) ys
+      → roundsOf true (map (edgeOf i j) (t .arcs)) (size t) (roundsOf false (map (edgeOf i j) (t .arcs)) (size t) ys) ≡ leastDelays t i j
+  lowered-least ys all l =
+      let es = map (edgeOf i j) (t .arcs) in
+      ap (roundsOf true es (size t)) (iterate-same (roundOf false es) (roundInPlace (graph t) missing (relax i j)) (λ x. relax-sweep t es i j x (t .arcs)) (size t) ys)
+      ∙ iterate-same (roundOf true es) (roundInPlace (graph t) missing (diverge i j)) (λ x. diverge-sweep t es i j x (t .arcs)) (size t)
+      (iterate (size t) (roundInPlace (graph t) missing (relax i j)) ys)
+      ∙ (in-place-least t ok i j) ys all (λ q lt. stands-held (l .stands q lt)) (l .less)
+
+-- the least delays that the code finds are those of the definition
 pub least-are : (m : Memory) (t : Automaton ℕ) → WellFormed t → Holds m t → (i j : ℕ) → i < t .tapes → j < t .tapes
-    → leastOf (edges i j 0 (m .arcs) (m .arcBytes)) (m .states) (m .stateBytes) ≡ leastDelays t i j
-least-are m t w h i j a b =
-    let es = map (edgeOf i j) (t .arcs) in
-    rw (edges-are m t w h i j a b, starts-are m t w h, h .states)
-    (ap (roundsOf true es (size t)) (relaxed-are t i j (size t))
-    ∙ iterate-same (roundOf true es) (round (graph t) missing (diverge i j)) (λ x. diverge-sweep (graph t) es i j x x (t .arcs)) (size t) (relaxed t i j (size t)))
+    → (zs : List ℕ) → Least (edges i j 0 (m .arcs) (m .arcBytes)) (m .states) (m .stateBytes) zs → zs ≡ leastDelays t i j
+least-are m t w h i j a b zs l =
+    let e = edges-are m t w h i j a b in
+    l .rounds ∙ (rw (e, h .states) (lowered-least t (well-formed t w) i j (l .delays) (l .all ∙ h .states) (rw (e, starts-are m t w h, h .states) at (l .lowered))))

@@ -4,8 +4,8 @@ use mathlib.Core.Path.{_≡_}
 use mathlib.Core.Logic.{_⊎_}
 use mathlib.Core.List.{List, [], _∷_}
 use lib.ListN.{length, getD}
-use Rattle.memory.specs.Region.{part, splice}
-use Rattle.memory.specs.Endian.{le, toLe}
+use Rattle.memory.specs.Region.{part}
+use Rattle.memory.specs.Endian.{le}
 
 -- the numbers of n states in the column from place at
 unfoldable pub column : ℕ → ℕ → List ℕ → List ℕ
@@ -24,8 +24,3 @@ Outside at m n i = (i < at) ⊎ ((at + 64 * n ≤ i) ⊎ (m ≤ (i - at) % 64))
 pub record Frame (at m n : ℕ) (w v : List ℕ) : Type 0 where
   pub same-length : length w ≡ length v
   pub same : (i : ℕ) → Outside at m n i → getD w i 0 ≡ getD v i 0
-
--- the column two bytes behind the one at place at copied over it, state by state
-unfoldable pub settled : ℕ → ℕ → List ℕ → List ℕ
-settled at zero w = w
-settled at (suc n) w = settled (at + 64) n (splice at (toLe 2 (le (part (at + 2) 2 w))) w)

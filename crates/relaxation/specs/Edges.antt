@@ -1,15 +1,16 @@
 -- The arcs as relaxation reads them: source, target, and the lengths of the labels on two tapes.
 use Prim.Native.Nat.{ℕ, zero, suc, _+_, _-_, _*_, _<_, _≤_, min}
-use mathlib.Core.Bool.{Bool, true, false}
+use mathlib.Core.Bool.{Bool}
 use mathlib.Core.List.{List, [], _∷_}
 use lib.Dec.{eqb, ltb}
 use lib.ListN.{length, getD}
 use Rattle.memory.specs.Region.{part, splice}
 use Rattle.memory.specs.Endian.{le, toLe}
 use mathlib.Core.Path.{_≡_}
-use Rattle.automata.specs.Lists.{if, sameList}
+use Rattle.automata.specs.Lists.{if}
 use Rattle.automata.specs.Graph.{Graph}
-use Rattle.automata.specs.Rounds.{round, iterate}
+use Rattle.automata.specs.Rounds.{iterate}
+use Rattle.automata.specs.InPlace.{roundInPlace}
 use Rattle.automata.specs.Closing.{origin, endless, missing}
 use Rattle.relaxation.specs.declared.Edge.{Edge}
 use Rattle.relaxation.specs.Column.{column, Frame}
@@ -61,20 +62,21 @@ improve diverging x t = if diverging (if (ltb t x) endless x) (min x t)
 abbrev pub improveEdge : Bool → Edge → List ℕ → ℕ → ℕ
 improveEdge diverging e old x = improve diverging x (throughEdge (e .up) (e .down) (getD old (e .target) missing))
 
--- the delays of all states after a round
+-- the delays of all states after a round in place
 abbrev pub roundOf : Bool → List Edge → List ℕ → List ℕ
-roundOf diverging es = round (edgeGraph es) missing (improveEdge diverging)
+roundOf diverging es = roundInPlace (edgeGraph es) missing (improveEdge diverging)
 
--- the work space after one edge: the old delays stand in the column at place at, the new ones two bytes behind
+-- the work space after one edge: in the column at place at the delay of its source is improved by that of its target
 unfoldable pub visited : Bool → ℕ → Edge → List ℕ → List ℕ
 visited diverging at e w =
-    splice (at + 2 + 64 * e .source)
-    (toLe 2 (improve diverging (le (part (at + 2 + 64 * e .source) 2 w)) (throughEdge (e .up) (e .down) (le (part (at + 64 * e .target) 2 w))))) w
+    let x : ℕ = le (part (at + 64 * e .source) 2 w) in
+    let r : ℕ = improve diverging x (throughEdge (e .up) (e .down) (le (part (at + 64 * e .target) 2 w))) in
+    if (eqb r x) w (splice (at + 64 * e .source) (toLe 2 r) w)
 
--- and after several
+-- and after several, the last one first
 unfoldable pub swept : Bool → ℕ → List Edge → List ℕ → List ℕ
 swept diverging at [] w = w
-swept diverging at (e ∷ es) w = swept diverging at es (visited diverging at e w)
+swept diverging at (e ∷ es) w = visited diverging at e (swept diverging at es w)
 
 -- the delay that a state starts with, by its flag for a final weight
 abbrev pub startOf : ℕ → ℕ
@@ -85,30 +87,16 @@ unfoldable pub starts : ℕ → ℕ → List ℕ → List ℕ
 starts from zero bytes = []
 starts from (suc n) bytes = startOf (getD bytes (from + 5) 0) ∷ starts (from + 10) n bytes
 
--- the work space with these delays in the column at place at and in the one two bytes behind
+-- the work space with these delays in the column at place at
 unfoldable pub started : ℕ → ℕ → ℕ → List ℕ → List ℕ → List ℕ
 started at from zero bytes w = w
-started at from (suc n) bytes w =
-    let v = startOf (getD bytes (from + 5) 0) in
-    started (at + 64) (from + 10) n bytes (splice (at + 2) (toLe 2 v) (splice at (toLe 2 v) w))
+started at from (suc n) bytes w = started (at + 64) (from + 10) n bytes (splice at (toLe 2 (startOf (getD bytes (from + 5) 0))) w)
 
--- a round over the edges es took the work space from v to w; same tells whether it changed no delay
-pub record Rounded (diverging : Bool) (es : List Edge) (at n : ℕ) (same : Bool) (w v : List ℕ) : Type 0 where
-  pub old : column at n w ≡ roundOf diverging es (column at n v)
-  pub new : column (at + 2) n w ≡ roundOf diverging es (column at n v)
-  pub frame : Frame at 4 n w v
-  pub same-is : same ≡ sameList (column at n v) (roundOf diverging es (column at n v))
-
--- the columns at place at and two bytes behind it both hold the delays xs, and nothing else changed from v to w
-pub record Both (at n : ℕ) (xs w v : List ℕ) : Type 0 where
-  pub old : column at n w ≡ xs
-  pub new : column (at + 2) n w ≡ xs
-  pub frame : Frame at 4 n w v
+-- the column at place at holds the delays xs, and nothing else changed from v to w
+pub record Filled (at n : ℕ) (xs w v : List ℕ) : Type 0 where
+  pub holds : column at n w ≡ xs
+  pub frame : Frame at 2 n w v
 
 -- the delays after as many rounds as there are states
 abbrev pub roundsOf : Bool → List Edge → ℕ → List ℕ → List ℕ
 roundsOf diverging es n xs = iterate n (roundOf diverging es) xs
-
--- the least delays of n states, by their records and the edges
-abbrev pub leastOf : List Edge → ℕ → List ℕ → List ℕ
-leastOf es n bytes = roundsOf true es n (roundsOf false es n (starts 0 n bytes))

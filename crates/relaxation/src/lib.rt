@@ -1,12 +1,22 @@
-// Closing delays by relaxation over a table in memory. Two columns of the work space hold the delays before and after a round.
+// Closing delays by relaxation over a table in memory. One column of the work space holds the delays; rounds read and
+// write it in place, from the last arc to the first.
+pub mod cycles;
+pub mod listing;
+pub mod places;
+pub mod settle;
+
+use crate::places::note_arc;
+use crate::settle::settle;
 use memory::bytes::get16;
 use memory::bytes::put16;
 ghost use mathlib.Core.Path.{_≡_};
 ghost use Prim.Native.Nat.{ℕ, _+_, _*_, _≤_, _<_};
 ghost use lib.ListN.{length};
-ghost use Rattle.automata.specs.Lists.{sameList};
-ghost use Rattle.relaxation.specs.Column.{column, Room, settled};
-ghost use Rattle.relaxation.specs.Edges.{edgeAt, edges, Readable, ReadableArcs, throughEdge, improve, visited, swept, startOf, started, Rounded, Both, roundsOf, leastOf};
+ghost use Rattle.automata.specs.Lists.{and};
+ghost use Rattle.automata.specs.InPlace.{Becomes};
+ghost use Rattle.relaxation.specs.Column.{column, Room};
+ghost use Rattle.relaxation.specs.Edges.{edgeAt, edges, Readable, ReadableArcs, throughEdge, improve, visited, swept, startOf, started, Filled, roundsOf};
+ghost use Rattle.relaxation.specs.Lowered.{FillsLeast};
 
 // An arc as relaxation reads it: its states, and the lengths of its labels on two tapes.
 pub struct Edge {
@@ -64,100 +74,35 @@ fn improved(diverging: bool, x: u16, t: u32) -> u16
     t as u16
 }
 
-// One arc of a round: the new delay of its source, two bytes behind the old one, improved by the old delay of its target.
-fn visit_edge(work: &mut [u8], at: usize, e: Edge, diverging: bool)
-    requires { ⌜ (at + 64 * e .source + 4 ≤ length (now work)) × (at + 64 * e .target + 4 ≤ length (now work)) ⌝ }
-    ensures { λ _. ⌜ now (work .exit) ≡ visited diverging at e (now (work .entry)) ⌝ }
+// One arc of a round: the delay of its source is improved by that of its target. Tells whether it stayed as it was.
+fn visit_edge(work: &mut [u8], at: usize, e: Edge, diverging: bool) -> bool
+    requires { ⌜ (at + 64 * e .source + 2 ≤ length (now work)) × (at + 64 * e .target + 2 ≤ length (now work)) ⌝ }
+    ensures { λ r. ⌜ Becomes (visited diverging at e (now (work .entry))) r (now (work .exit)) (now (work .entry)) ⌝ }
 {
     let v = get16(work, at + 64 * e.target as usize);
     let t = through_edge(e.up, e.down, v);
-    let place = at + 2 + 64 * e.source as usize;
+    let place = at + 64 * e.source as usize;
     let x = get16(work, place);
-    put16(work, place, improved(diverging, x, t));
-}
-
-// The arcs of a round, in record order.
-fn sweep_arcs(
-    arcs: &[u8],
-    count: usize,
-    first: usize,
-    second: usize,
-    work: &mut [u8],
-    at: usize,
-    states: usize,
-    diverging: bool,
-)
-    requires { ⌜ ReadableArcs states (now arcs) count first second × Room at 4 states (now work) ⌝ }
-    ensures { λ _. ⌜ now (work .exit) ≡ swept diverging at (edges first second 0 count (now (arcs .entry))) (now (work .entry)) ⌝ }
-{
-    let mut left = count;
-    let mut from: usize = 0;
-    while 0 < left {
-        let e = edge_at(arcs, from, first, second);
-        visit_edge(work, at, e, diverging);
-        from += 80;
-        left -= 1;
+    let new = improved(diverging, x, t);
+    if new == x {
+        return true;
     }
+    put16(work, place, new);
+    false
 }
 
-// Whether the old and the new delays are equal.
-fn stable(work: &[u8], at: usize, states: usize) -> bool
-    requires { ⌜ Room at 4 states (now work) ⌝ }
-    ensures { λ r. ⌜ r ≡ sameList (column at states (now (work .entry))) (column (at + 2) states (now (work .entry))) ⌝ }
+// Whether both are so.
+fn both(a: bool, b: bool) -> bool
+    ensures { λ r. ⌜ r ≡ and a b ⌝ }
 {
-    let mut left = states;
-    let mut from = at;
-    while 0 < left {
-        if get16(work, from) != get16(work, from + 2) {
-            return false;
-        }
-        from += 64;
-        left -= 1;
+    if a {
+        return b;
     }
-    true
+    false
 }
 
-// The new delays copied over the old ones.
-fn settle(work: &mut [u8], at: usize, states: usize)
-    requires { ⌜ Room at 4 states (now work) ⌝ }
-    ensures { λ _. ⌜ now (work .exit) ≡ settled at states (now (work .entry)) ⌝ }
-{
-    let mut left = states;
-    let mut from = at;
-    while 0 < left {
-        let v = get16(work, from + 2);
-        put16(work, from, v);
-        from += 64;
-        left -= 1;
-    }
-}
-
-// The delay that a state starts with, by its flag for a final weight.
-fn start_delay(flag: u8) -> u16
-    ensures { λ r. ⌜ r ≡ startOf flag ⌝ }
-{
-    if flag == 0 { 65535 } else { 16384 }
-}
-
-// The delays of the empty run, old and new.
-pub fn start_delays(bytes: &[u8], states: usize, work: &mut [u8], at: usize)
-    requires { ⌜ (10 * states ≤ length (now bytes)) × Room at 4 states (now work) ⌝ }
-    ensures { λ _. ⌜ now (work .exit) ≡ started at 0 states (now (bytes .entry)) (now (work .entry)) ⌝ }
-{
-    let mut left = states;
-    let mut from: usize = 0;
-    let mut to = at;
-    while 0 < left {
-        let v = start_delay(bytes[from + 5]);
-        put16(work, to, v);
-        put16(work, to + 2, v);
-        from += 10;
-        to += 64;
-        left -= 1;
-    }
-}
-
-// A round over all arcs. Tells whether it left every delay as it was.
+// A round over all arcs, the last one first; the arcs that change a delay are noted. Tells whether it left every delay
+// as it was.
 fn round_arcs(
     arcs: &[u8],
     count: usize,
@@ -167,18 +112,51 @@ fn round_arcs(
     at: usize,
     states: usize,
     diverging: bool,
+    through: &mut [u16],
 ) -> bool
-    requires { ⌜ ReadableArcs states (now arcs) count first second × Room at 4 states (now work) × (column (at + 2) states (now work) ≡ column at states (now work)) ⌝ }
-    ensures { λ r. ⌜ Rounded diverging (edges first second 0 count (now (arcs .entry))) at states r (now (work .exit)) (now (work .entry)) ⌝ }
+    requires { ⌜ ReadableArcs states (now arcs) count first second × Room at 2 states (now work) ⌝ }
+    ensures { λ r. ⌜ Becomes (swept diverging at (edges first second 0 count (now (arcs .entry))) (now (work .entry))) r (now (work .exit)) (now (work .entry)) ⌝ }
 {
-    sweep_arcs(arcs, count, first, second, work, at, states, diverging);
-    let same = stable(work, at, states);
-    settle(work, at, states);
+    let mut left = count;
+    let mut from = 80 * count;
+    let mut same = true;
+    while 0 < left {
+        left -= 1;
+        from -= 80;
+        let e = edge_at(arcs, from, first, second);
+        let source = e.source as usize;
+        let kept = visit_edge(work, at, e, diverging);
+        note_arc(kept, through, source, left);
+        same = both(same, kept);
+    }
     same
 }
 
+// The delay that a state starts with, by its flag for a final weight.
+fn start_delay(flag: u8) -> u16
+    ensures { λ r. ⌜ r ≡ startOf flag ⌝ }
+{
+    if flag == 0 { 65535 } else { 16384 }
+}
+
+// The delays of the empty run.
+fn start_delays(bytes: &[u8], states: usize, work: &mut [u8], at: usize)
+    requires { ⌜ (10 * states ≤ length (now bytes)) × Room at 2 states (now work) ⌝ }
+    ensures { λ _. ⌜ now (work .exit) ≡ started at 0 states (now (bytes .entry)) (now (work .entry)) ⌝ }
+{
+    let mut left = states;
+    let mut from: usize = 0;
+    let mut to = at;
+    while 0 < left {
+        put16(work, to, start_delay(bytes[from + 5]));
+        from += 10;
+        to += 64;
+        left -= 1;
+    }
+}
+
 // As many rounds as there are states, or until one changes nothing.
-pub fn run_rounds(
+fn run_rounds(
     arcs: &[u8],
     count: usize,
     first: usize,
@@ -187,20 +165,33 @@ pub fn run_rounds(
     at: usize,
     states: usize,
     diverging: bool,
+    through: &mut [u16],
 )
-    requires { ⌜ ReadableArcs states (now arcs) count first second × Room at 4 states (now work) × (column (at + 2) states (now work) ≡ column at states (now work)) ⌝ }
-    ensures { λ _. ⌜ Both at states (roundsOf diverging (edges first second 0 count (now (arcs .entry))) states (column at states (now (work .entry)))) (now (work .exit)) (now (work .entry)) ⌝ }
+    requires { ⌜ ReadableArcs states (now arcs) count first second × Room at 2 states (now work) ⌝ }
+    ensures { λ _. ⌜ Filled at states (roundsOf diverging (edges first second 0 count (now (arcs .entry))) states (column at states (now (work .entry)))) (now (work .exit)) (now (work .entry)) ⌝ }
 {
     let mut left = states;
     while 0 < left {
-        if round_arcs(arcs, count, first, second, work, at, states, diverging) {
+        if round_arcs(
+            arcs,
+            count,
+            first,
+            second,
+            work,
+            at,
+            states,
+            diverging,
+            through,
+        ) {
             return;
         }
         left -= 1;
     }
 }
 
-// The least closing delays of all states on two tapes: relaxation, then what can still be improved becomes endless.
+// The least closing delays of all states on two tapes: rounds in the order of the listed arcs until the delays stay.
+// Where as many rounds as there are states do not bring that about, relaxation in place does, and then what can still
+// be improved becomes endless.
 pub fn least_delays(
     bytes: &[u8],
     states: usize,
@@ -208,13 +199,48 @@ pub fn least_delays(
     count: usize,
     first: usize,
     second: usize,
+    order: &[u16],
     work: &mut [u8],
     at: usize,
 )
-    requires { ⌜ Readable (now bytes) states (now arcs) count × (first < 8) × (second < 8) × Room at 4 states (now work) ⌝ }
-    ensures { λ _. ⌜ Both at states (leastOf (edges first second 0 count (now (arcs .entry))) states (now (bytes .entry))) (now (work .exit)) (now (work .entry)) ⌝ }
+    requires { ⌜ Readable (now bytes) states (now arcs) count × (first < 8) × (second < 8) × Room at 2 states (now work) ⌝ }
+    ensures { λ _. ⌜ FillsLeast (edges first second 0 count (now (arcs .entry))) at states (now (bytes .entry)) (now (work .exit)) (now (work .entry)) ⌝ }
 {
     start_delays(bytes, states, work, at);
-    run_rounds(arcs, count, first, second, work, at, states, false);
-    run_rounds(arcs, count, first, second, work, at, states, true);
+    let mut through = [65535u16; 1024];
+    if settle(
+        arcs,
+        count,
+        first,
+        second,
+        order,
+        work,
+        at,
+        states,
+        &mut through,
+    ) {
+        return;
+    }
+    run_rounds(
+        arcs,
+        count,
+        first,
+        second,
+        work,
+        at,
+        states,
+        false,
+        &mut through,
+    );
+    run_rounds(
+        arcs,
+        count,
+        first,
+        second,
+        work,
+        at,
+        states,
+        true,
+        &mut through,
+    );
 }

@@ -1,7 +1,5 @@
--- Laws of the search over rows, of their entry and of the records kept, and what they mean.
-pub mod Laws
+-- Laws of codes of vertices, of a search over them and of the records kept.
 pub mod Meaning
-pub mod EntryLaws
 pub mod CodeLaws
 pub mod KeptLaws
 pub mod SearchLaws

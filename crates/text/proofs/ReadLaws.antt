@@ -1,10 +1,11 @@
 -- Laws of the call `read`: what was judged and stored is the outcome of its definition.
 use mathlib.Core.Path.{_≡_, sym, ap, ap₂, subst, _∙_}
-use mathlib.Core.List.{List, [], _∷_}
-use Prim.Native.Nat.{ℕ, _+_, _*_, _/_, _≤_}
+use mathlib.Core.List.{List, [], _∷_, _++_}
+use Prim.Native.Nat.{ℕ, _+_, _*_, _/_, _%_, _≤_, _<_}
 use native.Mathlib.Omega.{arith}
-use lib.Dec.{leb}
-use lib.ListN.{length, take, drop, length-drop}
+use native.Mathlib.Nat.{mod-eq-of-lt}
+use lib.Dec.{leb, eqb}
+use lib.ListN.{length, take, drop, getD, length-drop}
 use lib.Seq.{drop-drop, length-take-le}
 use Rattle.automata.specs.Lists.{all, sameList}
 use Rattle.automata.specs.Symbols.{isSymbol}
@@ -12,9 +13,6 @@ use Rattle.automata.specs.Automaton.{State, Arc, Automaton}
 use Rattle.automata.specs.Answer.{_>>=_, Answer, ok, refused, beside, require, check}
 use Rattle.automata.specs.Refusal.{form, statesFull, arcsFull}
 use Rattle.automata.specs.Records.{writeAll}
-use Rattle.automata.specs.Format.{Format, pair, literal, copies, readCopies}
-use Rattle.automata.specs.Decimal.{decimal}
-use Rattle.automata.specs.TableFormat.{stateNumber, weightNumber, arcFormat}
 use Rattle.automata.specs.Sequence.{readFirst, readMany}
 use Rattle.automata.specs.TableText.{afterBlanks, labelColumns, isEmpty, headerLine, stateLine, arcLine, readTable}
 use Rattle.automata.specs.Memory.{labelRecord, stateRecord, arcRecord, encodeStates, encodeArcs}
@@ -25,6 +23,7 @@ use Rattle.automata.proofs.SequenceFacts.{first-ok, many-rest, many-only}
 use Rattle.automata.proofs.TextLaws.{read-only, length-writeTable, headerLine-lawful, stateLine-lawful, arcLine-lawful}
 use Rattle.automata.proofs.CallFacts.{put-ok, put-refused}
 use Rattle.memory.specs.Region.{splice}
+use Rattle.memory.specs.Endian.{toLe}
 use Rattle.memory.specs.Answers.{refusalNumber, tableAs}
 use Rattle.memory.proofs.Laws.{splice-front}
 use Rattle.memory.specs.declared.answer.Counts.{Counts}
@@ -33,7 +32,10 @@ use Rattle.memory.specs.declared.answer.TableAnswer.{TableAnswer}
 use Rattle.lines.specs.Lines.{headerAs, readCounts, readStateLine, readArcLine}
 use Rattle.lines.specs.declared.header.HeaderLine.{HeaderLine}
 use Rattle.lines.specs.declared.header.HeaderLine.the-variants as header
-use Rattle.lines.proofs.LineLaws.{drop-take}
+use Rattle.text_columns.specs.Columns.{columnsValue, readStateNumber, readPresent, readWeight, labelsRead}
+use Rattle.text_columns.proofs.ValueLaws.{state-value, present-value, weight-value}
+use Rattle.lines.proofs.LineLaws.{stateOf, stateParts, state-line-is}
+use Rattle.lines.proofs.ArcLaws.{arcOf, arcFields, line-is}
 use Rattle.text.specs.Answers.{countsAnswer}
 use Rattle.text_store.specs.Recode.{recoded}
 use Rattle.text_store.specs.Stored.{stateOfLine, labelOfColumns, numberBytes, arcOfLine}
@@ -52,7 +54,19 @@ pub record Room (t n m l s a : ℕ) : Type 0 where
 
 state-each : (y : List ℕ) (s : State ℕ) → length y ≡ 21 → stateLine .read y ≡ ok s → stateOfLine y ≡ stateRecord .write s
 unfolding stateOfLine readStateLine
-state-each y s l e = rw e
+state-each y s l r =
+    let a = readWeight (take 10 y) in
+    let b = readWeight (take 10 (drop 10 y)) in
+    let e = require (eqb (getD y 20 0) 10) form in
+    let p = bind-ok (stateParts a b e) (λ p. ok (p .0)) s (sym (state-line-is y l) ∙ r) in
+    let q = beside-ok (beside a b >>= λ p. ok (stateOf p)) e (p .0) (p .1) in
+    let v = bind-ok (beside a b) (λ p. ok (stateOf p)) (p .0 .0) (q .0) in
+    let w = beside-ok a b (v .0) (v .1) in
+    let k : stateOf (v .0) ≡ p .0 .0 = cc (v .2) in
+    let j : p .0 .0 ≡ s = cc (p .2) in
+    let c = weight-value (take 10 y) (v .0 .0) (length-take-le 10 y (omega arith)) (w .0) in
+    let d = weight-value (take 10 (drop 10 y)) (v .0 .1) (length-take-le 10 (drop 10 y) (rw (length-drop 10 y) (omega arith))) (w .1) in
+    rw (c, d) (ap (λ (z : State ℕ). stateRecord .write z) (k ∙ j))
 
 label-each : (y l : List ℕ) → length y ≡ 9 → labelColumns .read y ≡ ok l → labelOfColumns y ≡ labelRecord .write l
 unfolding labelOfColumns
@@ -63,45 +77,61 @@ label-each y l h r =
     let q : s .0 .1 ≡ l = cc (s .2) in
     ap (λ (z : List ℕ). labelRecord .write z) (check-ok (all isSymbol a) form a (s .0 .1) (t .1) .1 ∙ q)
 
-module _ (t n : ℕ) (y : List ℕ) (a : Arc ℕ) (h : length y ≡ arcLine t n .width) (r : arcLine t n .read y ≡ ok a) where
-  abbrev number : Format ℕ ℕ
-  number = stateNumber n (decimal 6)
+-- a number that fits its bytes is kept
+kept : (k n v m : ℕ) → v ≡ m → m < n → toLe k (v % n) ≡ toLe k m
+kept k n v m e h = ap (toLe k) (ap (λ (i : ℕ). i % n) e ∙ mod-eq-of-lt h)
 
-  abbrev weight : Format ℕ ℕ
-  weight = weightNumber (decimal 10)
+module _ (t n : ℕ) (few : n ≤ 1024) (y : List ℕ) (a : Arc ℕ) (h : length y ≡ arcLine t n .width) (r : arcLine t n .read y ≡ ok a) where
+  width-is : length y ≡ 23 + t * 9
+  width-is = omega arith
 
-  abbrev labels : Format ℕ (List (List ℕ))
-  labels = copies labelColumns t
+  -- the four fields that a line is read as
+  fields-read : (readStateNumber n (take 6 y) ≡ ok (a .source)) × (readStateNumber n (take 6 (drop 6 y)) ≡ ok (a .target)) × (readPresent (take 10 (drop 12 y)) ≡ ok (a .weight))
+      × (labelsRead t (take (t * 9) (drop 22 y)) ≡ ok (a .labels))
+  unfolding readArcLine
+  fields-read =
+      let S = readStateNumber n (take 6 y) in
+      let T = readStateNumber n (take 6 (drop 6 y)) in
+      let W = readPresent (take 10 (drop 12 y)) in
+      let L = labelsRead t (take (t * 9) (drop 22 y)) in
+      let e = require (eqb (getD y (22 + t * 9) 0) 10) form in
+      let s = bind-ok (arcFields S T W L e) (λ p. ok (p .0)) a (sym (line-is t n y width-is) ∙ r) in
+      let p = beside-ok (beside S (beside T (beside W L)) >>= λ p. ok (arcOf p)) e (s .0) (s .1) in
+      let v = bind-ok (beside S (beside T (beside W L))) (λ p. ok (arcOf p)) (s .0 .0) (p .0) in
+      let b = beside-ok S (beside T (beside W L)) (v .0) (v .1) in
+      let d = beside-ok T (beside W L) (v .0 .1) (b .1) in
+      let g = beside-ok W L (v .0 .1 .1) (d .1) in
+      let q : arcOf (v .0) ≡ s .0 .0 = cc (v .2) in
+      let k : s .0 .0 ≡ a = cc (s .2) in
+      let z = q ∙ k in (
+        b .0 ∙ ap (λ (z : Arc ℕ). ok (z .source)) z,
+        d .0 ∙ ap (λ (z : Arc ℕ). ok (z .target)) z,
+        g .0 ∙ ap (λ (z : Arc ℕ). ok (z .weight)) z,
+        g .1 ∙ ap (λ (z : Arc ℕ). ok (z .labels)) z,
+      )
 
-  columns-at : drop 10 (drop 6 (drop 6 (take (6 + (6 + (10 + t * 9))) y))) ≡ take (t * 9) (drop 22 y)
-  columns-at =
-      let w : 6 + (6 + (10 + t * 9)) ≡ 22 + t * 9 = omega arith in
-      rw (w, drop-drop 6 6 (take (22 + t * 9) y), drop-drop 10 12 (take (22 + t * 9) y)) (drop-take 22 (t * 9) y)
-
-  -- the labels that a line is read as
-  labels-read : readCopies labelColumns t (take (t * 9) (drop 22 y)) ≡ ok (a .labels)
-  labels-read =
-      let f = arcFormat number weight labels in
-      let u = take (f .width) y in
-      let s = bind-ok (beside (f .read u) (literal (10 ∷ []) .read (drop (f .width) y))) (λ p. ok (p .0)) a r in
-      let p = beside-ok (f .read u) (literal (10 ∷ []) .read (drop (f .width) y)) (s .0) (s .1) in
-      let v = bind-ok (pair number (pair number (pair weight labels)) .read u) (λ p. ok (record { source = p .0; target = p .1 .0; weight = p .1 .1 .0; labels = p .1 .1 .1 })) (s .0 .0) (p .0) in
-      let b = beside-ok (number .read (take 6 u)) (pair number (pair weight labels) .read (drop 6 u)) (v .0) (v .1) in
-      let d = beside-ok (number .read (take 6 (drop 6 u))) (pair weight labels .read (drop 6 (drop 6 u))) (v .0 .1) (b .1) in
-      let g = beside-ok (weight .read (take 10 (drop 6 (drop 6 u)))) (labels .read (drop 10 (drop 6 (drop 6 u)))) (v .0 .1 .1) (d .1) in
-      let q : s .0 .0 ≡ a = cc (s .2) in
-      let k : _≡_ {A = Arc ℕ} (record { source = v .0 .0; target = v .0 .1 .0; weight = v .0 .1 .1 .0; labels = v .0 .1 .1 .1 }) (s .0 .0) = cc (v .2) in
-      ap (readCopies labelColumns t) (sym columns-at) ∙ g .1 ∙ ap (λ (z : Arc ℕ). ok (z .labels)) (k ∙ q)
+  numbers-stored : numberBytes y ≡ toLe 2 (a .source) ++ (toLe 2 (a .target) ++ toLe 4 (a .weight))
+  unfolding numberBytes
+  numbers-stored =
+      let f = fields-read in
+      let w = width-is in
+      let s = state-value n (take 6 y) (a .source) (length-take-le 6 y (omega arith)) (f .0) in
+      let t = state-value n (take 6 (drop 6 y)) (a .target) (length-take-le 6 (drop 6 y) (rw (length-drop 6 y) (omega arith))) (f .1) in
+      let v = present-value (take 10 (drop 12 y)) (a .weight) (length-take-le 10 (drop 12 y) (rw (length-drop 12 y) (omega arith))) (f .2) in
+      ap₂ (λ (p q : List ℕ). p ++ q) (kept 2 65536 (columnsValue 0 (take 6 y)) (a .source) (s .0) (omega (arith, s .1)))
+      (ap₂ (λ (p q : List ℕ). p ++ q) (kept 2 65536 (columnsValue 0 (take 6 (drop 6 y))) (a .target) (t .0) (omega (arith, t .1)))
+      (kept 4 4294967296 (columnsValue 0 (take 10 (drop 12 y))) (a .weight) (v .0) (omega (arith, v .1))))
 
   labels-stored : recoded labelOfColumns 9 t (drop 22 y) ≡ writeAll (labelRecord .write) (a .labels)
+  unfolding labelsRead
   labels-stored =
       let l : length (take (t * 9) (drop 22 y)) ≡ t * 9 = length-take-le (t * 9) (drop 22 y) (rw (length-drop 22 y) (omega arith)) in
       sym (recoded-take labelOfColumns 9 t (drop 22 y))
-      ∙ recoded-copies labelColumns (labelRecord .write) labelOfColumns label-each t (take (t * 9) (drop 22 y)) (a .labels) (omega arith) labels-read
+      ∙ recoded-copies labelColumns (labelRecord .write) labelOfColumns label-each t (take (t * 9) (drop 22 y)) (a .labels) (omega arith) (fields-read .3)
 
-  arc-each : arcOfLine t n y ≡ arcRecord t n .write a
-  unfolding arcOfLine numberBytes readArcLine
-  arc-each = rw (r, labels-stored)
+  arc-each : arcOfLine t y ≡ arcRecord t n .write a
+  unfolding arcOfLine
+  arc-each = rw (numbers-stored, labels-stored)
 
 -- ---- the whole table
 
@@ -118,7 +148,7 @@ counts-refused (refused j) k e = let q : j ≡ k = cc in ap refused q
 abbrev Stored : List ℕ → Automaton ℕ → Type 0
 Stored x A =
     (recoded stateOfLine 21 (length (A .states)) (drop 16 x) ≡ encodeStates A)
-    × (recoded (arcOfLine (A .tapes) (length (A .states))) (23 + A .tapes * 9) (length (A .arcs)) (drop (16 + length (A .states) * 21) x) ≡ encodeArcs A)
+    × (recoded (arcOfLine (A .tapes)) (23 + A .tapes * 9) (length (A .arcs)) (drop (16 + length (A .states) * 21) x) ≡ encodeArcs A)
 
 module _ (x : List ℕ) (t n m : ℕ) (rest : List ℕ) (p : List (State ℕ) × List ℕ) (q : List (Arc ℕ) × List ℕ)
     (h : readFirst headerLine x ≡ ok ((t, (n, m)), rest)) (s : readMany stateLine n rest ≡ ok p) (a : readMany (arcLine t n) m (p .1) ≡ ok q) where
@@ -140,15 +170,15 @@ module _ (x : List ℕ) (t n m : ℕ) (rest : List ℕ) (p : List (State ℕ) ×
   behind : p .1 ≡ drop (16 + n * 21) x
   behind = many-rest stateLine n rest p s ∙ ap (drop (n * 21)) (front .2) ∙ drop-drop (n * 21) 16 x
 
-  arcs-stored : recoded (arcOfLine t n) (23 + t * 9) m (drop (16 + n * 21) x) ≡ writeAll (arcRecord t n .write) (q .0)
+  arcs-stored : recoded (arcOfLine t) (23 + t * 9) m (drop (16 + n * 21) x) ≡ writeAll (arcRecord t n .write) (q .0)
   arcs-stored =
       let w : arcLine t n .width ≡ 23 + t * 9 = omega arith in
-      ap₂ (λ (k : ℕ) (z : List ℕ). recoded (arcOfLine t n) k m z) (sym w) (sym behind) ∙ recoded-many (arcLine t n) (arcRecord t n .write) (arcOfLine t n) (arc-each t n) m (p .1) q a
+      ap₂ (λ (k : ℕ) (z : List ℕ). recoded (arcOfLine t) k m z) (sym w) (sym behind) ∙ recoded-many (arcLine t n) (arcRecord t n .write) (arcOfLine t) (arc-each t n few) m (p .1) q a
 
   lines-stored : Stored x (record { tapes = t; states = p .0; arcs = q .0 })
   lines-stored = (
     ap (λ (k : ℕ). recoded stateOfLine 21 k (drop 16 x)) states-many ∙ states-stored,
-    ap₂ (λ (k j : ℕ). recoded (arcOfLine t k) (23 + t * 9) j (drop (16 + k * 21) x)) states-many arcs-many ∙ arcs-stored
+    ap₂ (λ (k j : ℕ). recoded (arcOfLine t) (23 + t * 9) j (drop (16 + k * 21) x)) states-many arcs-many ∙ arcs-stored
         ∙ ap (λ (k : ℕ). writeAll (arcRecord t k .write) (q .0)) (sym states-many),
   )
 
@@ -168,7 +198,7 @@ table-stored S T x A r =
 -- the slices after the lines of A's text were stored
 made-stored : (x xs ys us vs : List ℕ) (A : Automaton ℕ) → readTable (length xs / 10) (length ys / 80) x ≡ ok A
     → us ≡ splice 0 (recoded stateOfLine 21 (length (A .states)) (drop 16 x)) xs
-    → vs ≡ splice 0 (recoded (arcOfLine (A .tapes) (length (A .states))) (23 + A .tapes * 9) (length (A .arcs)) (drop (16 + length (A .states) * 21) x)) ys
+    → vs ≡ splice 0 (recoded (arcOfLine (A .tapes)) (23 + A .tapes * 9) (length (A .arcs)) (drop (16 + length (A .states) * 21) x)) ys
     → madeOf (ok (countsOf A)) us vs ≡ readOutcome x (slicesOf xs ys)
 unfolding readOutcome readAnswer
 made-stored x xs ys us vs A r p q =
@@ -214,11 +244,11 @@ module _ (x xs ys : List ℕ) (h : HeaderLine) (e : headerAs h ≡ readCounts (l
         }
 
     pub read-stored : (us vs : List ℕ) → us ≡ splice 0 (recoded stateOfLine 21 (c .states) (drop 16 x)) xs
-        → vs ≡ splice 0 (recoded (arcOfLine (c .tapes) (c .states)) (23 + c .tapes * 9) (c .arcs) (drop (16 + c .states * 21) x)) ys
+        → vs ≡ splice 0 (recoded (arcOfLine (c .tapes)) (23 + c .tapes * 9) (c .arcs) (drop (16 + c .states * 21) x)) ys
         → madeOf (tableAs a) us vs ≡ readOutcome x (slicesOf xs ys)
     read-stored us vs p q =
         let t = table-read in
-        let F : ℕ → ℕ → ℕ → List ℕ = λ k j i. splice 0 (recoded (arcOfLine k j) (23 + k * 9) i (drop (16 + j * 21) x)) ys in
+        let F : ℕ → ℕ → ℕ → List ℕ = λ k j i. splice 0 (recoded (arcOfLine k) (23 + k * 9) i (drop (16 + j * 21) x)) ys in
         let e : tableAs a ≡ ok (record { tapes = c .tapes; states = c .states; arcs = c .arcs }) = b ∙ ap (λ (z : HeaderLine). countsAnswer (headerAs z)) f in
         let g : _≡_ {A = Answer TableCounts} (ok (record { tapes = c .tapes; states = c .states; arcs = c .arcs })) (ok (countsOf (t .0))) =
         sym (ap₂ (λ (k : ℕ) (l : ℕ × ℕ). ok (record { tapes = k; states = l .0; arcs = l .1 })) (t .2) (ap₂ {C = ℕ × ℕ} (λ (k j : ℕ). (k, j)) (t .3) (t .4))) in

@@ -39,7 +39,7 @@ pub fn read(text: &[u8], states: &mut [u8], arcs: &mut [u8]) -> TableAnswer
         return answer;
     };
     store_states(text, 16, c.states, states);
-    store_arcs(text, 16 + c.states * 21, c.arcs, c.tapes, c.states, arcs);
+    store_arcs(text, 16 + c.states * 21, c.arcs, c.tapes, arcs);
     answer
 }
 

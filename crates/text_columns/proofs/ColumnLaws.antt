@@ -2,10 +2,10 @@
 use mathlib.Core.Path.{_≡_, refl, sym, ap, _∙_}
 use mathlib.Core.Bool.{Bool, true, false}
 use mathlib.Core.List.{List, [], _∷_, _++_}
-use Prim.Native.Nat.{ℕ, zero, suc, _+_, _-_, _^_, _≤_, _<_}
+use Prim.Native.Nat.{ℕ, zero, suc, _+_, _-_, _*_, _%_, _^_, _≤_, _<_}
 use native.Mathlib.Omega.{arith}
 use native.Mathlib.Numerals.{add-one}
-use native.Mathlib.Nat.{pow-le-pow-right}
+use native.Mathlib.Nat.{pow-suc, pow-le-pow-right}
 use lib.Dec.{leb, eqb, lit<}
 use lib.ListN.{length, take, drop, getD, drop-of-length-le}
 use lib.Seq.{drop-cons, take-suc, take-all, length-take-le}
@@ -20,15 +20,7 @@ use Rattle.automata.proofs.NumberLaws.{leadingColumn-only}
 use Rattle.memory.specs.declared.answer.Refusal.{Refusal}
 use Rattle.text_columns.specs.declared.decimal.Number.{Number}
 use Rattle.text_columns.specs.declared.decimal.Number.the-variants.{Value, Refused}
-use Rattle.text_columns.specs.Columns.{numberAs, numberOf, lastColumn, readDecimal}
-
--- what is refused counts as 0
-pub refused-low : (r : Number) (k : Refusal) (n : ℕ) → r ≡ Refused k → numberOf r ≤ n
-refused-low r k n e = rw e (omega arith)
-
--- a bound of the number that was read
-pub value-low : (r : Number) (n m : ℕ) → r ≡ Value n → numberOf r ≤ m → n ≤ m
-value-low r n m e h = rw e at h
+use Rattle.text_columns.specs.Columns.{numberAs, lastColumn, readDecimal, columnsValue}
 
 -- ---- one column
 
@@ -154,3 +146,20 @@ column-bound i n c m h e = rw (add-one i) (leadingColumn-only i (n, c) m h (sym 
 
 pub nine-digits : (i n : ℕ) → n < 10 ^ i → i ≤ 9 → n < 1000000000
 nine-digits i n h k = let p : 10 ^ i ≤ 10 ^ 9 = pow-le-pow-right (lit< tt) k in omega arith
+
+-- ---- columns that were judged, in a loop
+module _ (x : List ℕ) (i n : ℕ) where
+  pub value-turn : i < length x → columnsValue (n * 10 + getD x i 0 % 16) (drop (i + 1) x) ≡ columnsValue n (drop i x)
+  unfolding columnsValue
+  value-turn h = rw (drop-cons x i 0 h, add-one i)
+
+  pub value-end : length x ≤ i → n ≡ columnsValue n (drop i x)
+  unfolding columnsValue
+  value-end h = let d : drop i x ≡ [] = drop-of-length-le x h in rw d
+
+-- what i columns come to
+pub value-bound : (i n d : ℕ) → n < 16 ^ i → d < 16 → n * 10 + d < 16 ^ (i + 1)
+value-bound i n d h k = rw (add-one i, pow-suc) (omega arith)
+
+pub value-fits : (i n : ℕ) → n < 16 ^ i → i ≤ 10 → n < 1099511627776
+value-fits i n h k = let p : 16 ^ i ≤ 16 ^ 10 = pow-le-pow-right (lit< tt) k in omega arith

@@ -3,3 +3,4 @@ pub mod ColumnLaws
 pub mod WriteLaws
 pub mod WeightLaws
 pub mod LabelLaws
+pub mod ValueLaws

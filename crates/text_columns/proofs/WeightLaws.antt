@@ -10,31 +10,42 @@ use lib.Dec.{leb, eqb}
 use lib.ListN.{length, take, drop, getD, replicate, drop-of-length-le}
 use lib.Seq.{drop-cons}
 use borrow.Author.Tests.{eq-eqb, ne-eqb, le-leb, lt-leb, eqb-true}
-use Rattle.automata.specs.Lists.{if, sameList}
-use Rattle.automata.specs.Answer.{_>>=_, ok, refused, check}
+use Rattle.automata.specs.Lists.{if, and, sameList}
+use Rattle.automata.specs.Answer.{_>>=_, Answer, ok, refused, check, forget}
 use Rattle.automata.specs.Decimal.{decimal}
 use Rattle.automata.specs.TableText.{absent}
 use Rattle.automata.proofs.TestFacts.{T-false, sameList→eq}
-use Rattle.memory.specs.Answers.{refusalNumber}
+use Rattle.automata.proofs.AnswerFacts.{forget-map}
 use Rattle.memory.specs.declared.answer.Refusal.{Refusal}
 use Rattle.text_columns.specs.declared.decimal.Number.{Number}
 use Rattle.text_columns.specs.declared.decimal.Number.the-variants.{Value, Refused}
-use Rattle.text_columns.specs.Columns.{numberAs, readDecimal, blankCount, absentMark, readPresent, readWeight}
+use Rattle.text_columns.specs.Columns.{numberAs, readDecimal, oneIf, blankCount, absentMark, readPresent, readWeight}
 use Rattle.text_columns.proofs.ColumnLaws.{snoc-of}
 
 -- ---- blanks, counted from the left
-module _ (x : List ℕ) (i : ℕ) where
-  pub blanks-turn : i < length x → getD x i 0 ≡ 32 → i + 1 + blankCount (drop (i + 1) x) ≡ i + blankCount (drop i x)
-  unfolding blankCount
-  blanks-turn h e = rw (drop-cons x i 0 h, eq-eqb _ _ e, add-one i) (omega arith)
 
-  pub blanks-stop : i < length x → (getD x i 0 ≡ 32 → ⊥) → i ≡ i + blankCount (drop i x)
-  unfolding blankCount
-  blanks-stop h e = rw (drop-cons x i 0 h, ne-eqb _ _ e) (omega arith)
+-- the blanks from place i on, where there were only blanks before
+abbrev pub blanksFrom : Bool → ℕ → List ℕ → ℕ
+blanksFrom blank i x = if blank (blankCount (drop i x)) 0
 
-  pub blanks-end : length x ≤ i → i ≡ i + blankCount (drop i x)
+module _ (x : List ℕ) (i n : ℕ) where
+  -- one column more
+  pub blanks-turn : (b : Bool) (m : ℕ) → i < length x → m ≡ oneIf (and b (eqb (getD x i 0) 32)) → n + m + blanksFrom (and b (eqb (getD x i 0) 32)) (i + 1) x ≡ n + blanksFrom b i x
   unfolding blankCount
-  blanks-end h = let d : drop i x ≡ [] = drop-of-length-le x h in rw d (omega arith)
+  blanks-turn b m h f = rw (f, drop-cons x i 0 h, add-one i) (go b (eqb (getD x i 0) 32))
+    where
+      go : (b e : Bool) → n + oneIf (and b e) + if (and b e) (blankCount (drop (suc i) x)) 0 ≡ n + if b (if e (suc (blankCount (drop (suc i) x))) 0) 0
+      go true true = omega arith
+      go true false = omega arith
+      go false e = omega arith
+
+  pub blanks-end : (b : Bool) → length x ≤ i → n ≡ n + blanksFrom b i x
+  unfolding blankCount
+  blanks-end b h = let d : drop i x ≡ [] = drop-of-length-le x h in rw d (go b)
+    where
+      go : (b : Bool) → n ≡ n + if b 0 0
+      go true = omega arith
+      go false = omega arith
 
 -- as many blanks as were counted stand at the front
 pub take-blanks : (x : List ℕ) → take (blankCount x) x ≡ replicate (blankCount x) 32
@@ -65,7 +76,7 @@ module _ (x : List ℕ) (l : length x ≡ 10) where
 
 -- ---- a weight that is there
 module _ (x : List ℕ) (l : length x ≡ 10) where
-  present-is : readPresent x ≡ (readDecimal x >>= λ a. check (leb a 999999999) 3 a)
+  pub present-is : readPresent x ≡ (readDecimal x >>= λ a. check (leb a 999999999) 3 a)
   unfolding readPresent readDecimal
   present-is = sym (ap (λ (k : ℕ). decimal k .read x >>= λ a. check (leb a 999999999) 3 a) l)
 
@@ -80,15 +91,12 @@ module _ (x : List ℕ) (l : length x ≡ 10) where
 
 -- ---- a weight that may be absent
 module _ (x : List ℕ) where
-  weight-is : readWeight x ≡ if (absentMark x) (ok none) (readPresent x >>= λ a. ok (some a))
+  pub weight-is : readWeight x ≡ if (absentMark x) (ok none) (readPresent x >>= λ a. ok (some a))
   unfolding readWeight absentMark readPresent
   weight-is = refl
 
-  pub weight-absent : absentMark x ≡ true → ok none ≡ readWeight x
-  weight-absent e = sym (weight-is ∙ rw e)
+  pub weight-absent : absentMark x ≡ true → ok tt ≡ forget (readWeight x)
+  weight-absent e = sym (ap forget weight-is ∙ rw e)
 
-  pub weight-present : (r : Number) (n : ℕ) → absentMark x ≡ false → numberAs r ≡ readPresent x → r ≡ Value n → ok (some n) ≡ readWeight x
-  weight-present r n e f g = sym (weight-is ∙ rw (e, ← f, g))
-
-  pub weight-refused : (r : Number) (k : Refusal) → absentMark x ≡ false → numberAs r ≡ readPresent x → r ≡ Refused k → refused (refusalNumber k) ≡ readWeight x
-  weight-refused r k e f g = sym (weight-is ∙ rw (e, ← f, g))
+  pub weight-judged : (r : Number) (j : Answer (Unit {0})) → absentMark x ≡ false → numberAs r ≡ readPresent x → j ≡ forget (numberAs r) → j ≡ forget (readWeight x)
+  weight-judged r j e f g = g ∙ rw f (sym (ap forget weight-is ∙ rw e (forget-map (readPresent x) some)))

@@ -1,26 +1,21 @@
 -- What the answers of a column stand for, and what a list holds that is a column.
-use mathlib.Core.Bool.{Bool}
-use mathlib.Core.Option.{Option}
+use mathlib.Core.Bool.{Bool, true}
+use mathlib.Core.Option.{Option, none, some}
 use mathlib.Core.List.{List, [], _∷_}
-use Prim.Native.Nat.{ℕ, suc, _+_, _%_}
+use Prim.Native.Nat.{ℕ, suc, _+_, _*_, _%_}
 use lib.Dec.{eqb}
-use lib.ListN.{length}
-use Rattle.automata.specs.Lists.{if, sameList}
+use lib.ListN.{length, drop, getD}
+use Rattle.automata.specs.Lists.{if, and, or, sameList}
 use Rattle.automata.specs.Answer.{Answer, ok, refused, check}
 use Rattle.automata.specs.Refusal.{form}
 use Rattle.automata.specs.Format.{readCopies}
-use Rattle.automata.specs.Symbols.{isDigit}
+use Rattle.automata.specs.Symbols.{isDigit, isSymbol}
 use Rattle.automata.specs.Decimal.{blank, withDigit, decimal, leading}
 use Rattle.automata.specs.TableFormat.{weightNumber, stateNumber}
 use Rattle.automata.specs.TableText.{absent, weightColumns, labelColumns}
 use Rattle.memory.specs.Answers.{refusalNumber}
-use Rattle.memory.specs.Records.{optionOf}
-use Rattle.memory.specs.declared.record.Weight as WeightD
-use Rattle.memory.specs.declared.record.Weight.the-variants as weight
 use Rattle.text_columns.specs.declared.decimal.Number.{Number}
 use Rattle.text_columns.specs.declared.decimal.Number.the-variants.{Value, Refused}
-use Rattle.text_columns.specs.declared.weight.WeightColumn.{WeightColumn}
-use Rattle.text_columns.specs.declared.weight.WeightColumn.the-variants as column
 
 -- ---- decimal numbers
 
@@ -46,6 +41,12 @@ readDecimal x = decimal (length x) .read x
 unfoldable pub readStateNumber : ℕ → List ℕ → Answer ℕ
 readStateNumber states x = stateNumber states (decimal 6) .read x
 
+-- what columns come to behind the number n where they were judged: of each byte its last four bits, which are a digit's
+-- value, and 0 for a blank
+unfoldable pub columnsValue : ℕ → List ℕ → ℕ
+columnsValue n [] = n
+columnsValue n (c ∷ x) = columnsValue (n * 10 + c % 16) x
+
 -- the bytes of a decimal number in w columns, and of what stands before its last digit
 unfoldable pub decimalText : ℕ → ℕ → List ℕ
 decimalText w n = decimal w .write n
@@ -58,6 +59,10 @@ abbrev pub leadingByte : ℕ → ℕ
 leadingByte n = if (eqb n 0) blank (48 + n % 10)
 
 -- ---- weights
+
+-- a test as a number
+abbrev pub oneIf : Bool → ℕ
+oneIf b = if b 1 0
 
 -- how many blanks a list starts with
 unfoldable pub blankCount : List ℕ → ℕ
@@ -75,17 +80,24 @@ readPresent x = weightNumber (decimal 10) .read x
 unfoldable pub readWeight : List ℕ → Answer (Option ℕ)
 readWeight x = weightColumns .read x
 
--- a weight that may be absent, or a refusal
-abbrev pub weightAs : WeightColumn → Answer (Option ℕ)
-weightAs (column.Weight w) = ok (optionOf w)
-weightAs (column.Refused r) = refused (refusalNumber r)
-
--- the weight alone, absent where it is refused
-abbrev pub weightOf : WeightColumn → WeightD.Weight
-weightOf (column.Weight w) = w
-weightOf (column.Refused r) = weight.Absent
+-- the weight in ten places that were judged, in four bytes
+unfoldable pub columnsWeight : List ℕ → Option ℕ
+columnsWeight x = if (eqb (getD x 9 0) 45) none (some (columnsValue 0 x % 4294967296))
 
 -- ---- labels
+
+-- a column of a label may follow another: a symbol, or a blank behind a blank
+abbrev pub mayFollow : ℕ → ℕ → Bool
+mayFollow before c = or (isSymbol c) (and (eqb before blank) (eqb c blank))
+
+-- each may follow the one before it
+unfoldable pub followFrom : ℕ → List ℕ → Bool
+followFrom before [] = true
+followFrom before (c ∷ x) = and (mayFollow before c) (followFrom c x)
+
+-- a list is a label: a blank, and columns that may follow
+unfoldable pub labelFits : List ℕ → Bool
+labelFits x = and (eqb (getD x 0 0) blank) (followFrom (getD x 0 0) (drop 1 x))
 
 -- a label in the nine places of a list, and so many of them
 unfoldable pub readLabel : List ℕ → Answer (List ℕ)

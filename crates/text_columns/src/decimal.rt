@@ -9,7 +9,7 @@ ghost use Rattle.automata.specs.Symbols.{isDigit};
 ghost use Rattle.automata.specs.Decimal.{withDigit, leadingColumn};
 ghost use Rattle.memory.specs.Region.{splice};
 ghost use Rattle.memory.specs.Answers.{judgedAs};
-ghost use Rattle.text_columns.specs.Columns.{numberAs, numberOf, lastColumn, readDecimal, readStateNumber, leadingText, decimalText, leadingByte};
+ghost use Rattle.text_columns.specs.Columns.{numberAs, numberOf, lastColumn, readDecimal, readStateNumber, columnsValue, leadingText, decimalText, leadingByte};
 
 // A number read from its columns, or a refusal.
 pub enum Number {
@@ -116,7 +116,7 @@ pub fn number_of(n: Number) -> usize
 // The number of a state, of so many.
 pub fn read_state_number(column: &[u8], states: usize) -> Number
     requires { ⌜ length (now column) ≡ 6 ⌝ }
-    ensures { λ r. ⌜ (numberAs r ≡ readStateNumber states (now (column .entry))) × (numberOf r ≤ states) ⌝ }
+    ensures { λ r. ⌜ numberAs r ≡ readStateNumber states (now (column .entry)) ⌝ }
 {
     let read = read_decimal(column);
     let Number::Value(n) = read else {
@@ -126,6 +126,18 @@ pub fn read_state_number(column: &[u8], states: usize) -> Number
         return Number::Refused(Refusal::State);
     }
     Number::Value(n)
+}
+
+// The number in columns that were judged: of each byte its last four bits, the value of a digit and 0 for a blank.
+pub fn columns_value(column: &[u8]) -> usize
+    requires { ⌜ length (now column) ≤ 10 ⌝ }
+    ensures { λ r. ⌜ r ≡ columnsValue 0 (now (column .entry)) ⌝ }
+{
+    let mut n: usize = 0;
+    for i in 0..column.len() {
+        n = n * 10 + wide(column[i] % 16);
+    }
+    n
 }
 
 // The byte of the last digit, or a blank where nothing is left of a number.

@@ -1,9 +1,8 @@
 // Labels in nine columns, the first of them blank: blanks, then up to eight symbols.
-use crate::weight::leading_blanks;
 use memory::answer::Judged;
 use memory::answer::Refusal;
 use memory::answer::both;
-use memory::judge::all_symbols;
+use memory::symbol::is_symbol;
 ghost use mathlib.Core.Path.{_≡_};
 ghost use Prim.Native.Nat.{_*_};
 ghost use lib.ListN.{length};
@@ -11,18 +10,33 @@ ghost use lib.Dec.{eqb};
 ghost use Rattle.automata.specs.Answer.{forget, require};
 ghost use Rattle.automata.specs.Refusal.{form};
 ghost use Rattle.memory.specs.Answers.{judgedAs};
-ghost use Rattle.text_columns.specs.Columns.{readLabel, labelsRead};
+ghost use Rattle.text_columns.specs.Columns.{mayFollow, labelFits, readLabel, labelsRead};
 
-// The columns of a label: a blank, blanks, symbols.
+// Whether a column of a label may follow another: a symbol, or a blank behind a blank.
+fn may_follow(before: u8, c: u8) -> bool
+    ensures { λ r. ⌜ r ≡ mayFollow before c ⌝ }
+{
+    is_symbol(c) | ((before == 32) & (c == 32))
+}
+
+// Whether nine columns hold a label: a blank, blanks, symbols. All of them are looked at, without a branch.
+fn label_fits(column: &[u8]) -> bool
+    requires { ⌜ length (now column) ≡ 9 ⌝ }
+    ensures { λ r. ⌜ r ≡ labelFits (now (column .entry)) ⌝ }
+{
+    let mut fits = column[0] == 32;
+    for i in 1..9 {
+        fits = fits & may_follow(column[i - 1], column[i]);
+    }
+    fits
+}
+
+// The columns of a label, judged.
 fn judge_label(column: &[u8]) -> Judged
     requires { ⌜ length (now column) ≡ 9 ⌝ }
     ensures { λ r. ⌜ judgedAs r ≡ forget (readLabel (now (column .entry))) ⌝ }
 {
-    if column[0] != 32 {
-        return Judged::Refused(Refusal::Form);
-    }
-    let blanks = leading_blanks(column);
-    if all_symbols(&column[blanks..]) {
+    if label_fits(column) {
         return Judged::Fine;
     }
     Judged::Refused(Refusal::Form)

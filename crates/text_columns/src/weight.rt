@@ -1,5 +1,7 @@
 // Weights in ten columns: a number of at most 999,999,999, or nine blanks and a minus sign.
 use crate::decimal::Number;
+use crate::decimal::columns_value;
+use crate::decimal::judge_number;
 use crate::decimal::read_decimal;
 use memory::answer::Judged;
 use memory::answer::Refusal;
@@ -9,20 +11,27 @@ ghost use Prim.Native.Nat.{_≤_};
 ghost use lib.ListN.{length};
 ghost use Rattle.automata.specs.Answer.{forget};
 ghost use Rattle.memory.specs.Answers.{judgedAs};
-ghost use Rattle.text_columns.specs.Columns.{numberAs, numberOf, blankCount, absentMark, weightAs, weightOf, readPresent, readWeight};
+ghost use Rattle.memory.specs.Records.{optionOf};
+ghost use Rattle.text_columns.specs.Columns.{numberAs, oneIf, blankCount, absentMark, readPresent, readWeight, columnsWeight};
 
-// How many blanks a column starts with.
+// A test as a number: 1 where it passes.
+fn one_if(passes: bool) -> usize
+    ensures { λ r. ⌜ (r ≡ oneIf passes) × (r ≤ 1) ⌝ }
+{
+    passes as usize
+}
+
+// How many blanks a column starts with. All of it is looked at, without a branch.
 pub fn leading_blanks(column: &[u8]) -> usize
     ensures { λ r. ⌜ (r ≡ blankCount (now (column .entry))) × (r ≤ length (now (column .entry))) ⌝ }
 {
-    let mut i = 0;
-    while i < column.len() {
-        if column[i] != 32 {
-            return i;
-        }
-        i += 1;
+    let mut blank = true;
+    let mut n: usize = 0;
+    for i in 0..column.len() {
+        blank = blank & (column[i] == 32);
+        n += one_if(blank);
     }
-    i
+    n
 }
 
 // Whether ten columns hold the mark of an absent weight.
@@ -39,7 +48,7 @@ fn is_absent(column: &[u8]) -> bool
 // A weight that is there, at most 999,999,999.
 pub fn read_present(column: &[u8]) -> Number
     requires { ⌜ length (now column) ≡ 10 ⌝ }
-    ensures { λ r. ⌜ (numberAs r ≡ readPresent (now (column .entry))) × (numberOf r ≤ 999999999) ⌝ }
+    ensures { λ r. ⌜ numberAs r ≡ readPresent (now (column .entry)) ⌝ }
 {
     let read = read_decimal(column);
     let Number::Value(n) = read else {
@@ -51,43 +60,24 @@ pub fn read_present(column: &[u8]) -> Number
     Number::Value(n)
 }
 
-// A weight of a state, read from its columns, or a refusal.
-pub enum WeightColumn {
-    Weight(Weight),
-    Refused(Refusal),
-}
-
-// A weight that may be absent.
-pub fn read_weight(column: &[u8]) -> WeightColumn
+// A weight that may be absent, judged.
+pub fn judge_weight(column: &[u8]) -> Judged
     requires { ⌜ length (now column) ≡ 10 ⌝ }
-    ensures { λ r. ⌜ weightAs r ≡ readWeight (now (column .entry)) ⌝ }
+    ensures { λ r. ⌜ judgedAs r ≡ forget (readWeight (now (column .entry))) ⌝ }
 {
     if is_absent(column) {
-        return WeightColumn::Weight(Weight::Absent);
+        return Judged::Fine;
     }
-    let read = read_present(column);
-    match read {
-        Number::Value(n) => WeightColumn::Weight(Weight::Present(n as u32)),
-        Number::Refused(k) => WeightColumn::Refused(k),
-    }
+    judge_number(read_present(column))
 }
 
-// The refusal of a weight, if it is refused.
-pub fn judge_weight(w: WeightColumn) -> Judged
-    ensures { λ r. ⌜ judgedAs r ≡ forget (weightAs w) ⌝ }
+// The weight in columns that were judged: absent where they end with a minus sign.
+pub fn columns_weight(column: &[u8]) -> Weight
+    requires { ⌜ length (now column) ≡ 10 ⌝ }
+    ensures { λ r. ⌜ optionOf r ≡ columnsWeight (now (column .entry)) ⌝ }
 {
-    match w {
-        WeightColumn::Weight(_) => Judged::Fine,
-        WeightColumn::Refused(k) => Judged::Refused(k),
+    if column[9] == 45 {
+        return Weight::Absent;
     }
-}
-
-// The weight that was read; absent where it is refused.
-pub fn weight_of(w: WeightColumn) -> Weight
-    ensures { λ r. ⌜ r ≡ weightOf w ⌝ }
-{
-    match w {
-        WeightColumn::Weight(v) => v,
-        WeightColumn::Refused(_) => Weight::Absent,
-    }
+    Weight::Present((columns_value(column) % 4294967296) as u32)
 }

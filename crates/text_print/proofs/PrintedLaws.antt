@@ -2,25 +2,26 @@
 use mathlib.Core.Path.{_≡_, refl, sym, ap, ap₂, _∙_}
 use mathlib.Core.Bool.{Bool}
 use mathlib.Core.Option.{Option, none, some}
-use mathlib.Core.List.{List, [], _∷_, _++_, append-assoc, append-nil}
+use mathlib.Core.List.{List, [], _∷_, _++_, append-assoc}
 use Prim.Native.Nat.{ℕ, zero, suc, _+_, _-_, _*_, _≤_, _<_, min}
 use native.Mathlib.Omega.{arith}
 use native.Mathlib.Nat.{zero-min, min-zero, suc-min-suc}
 use lib.Dec.{eqb}
 use lib.ListN.{length, take, drop, getD, set, replicate, length-append, length-drop, length-take, length-replicate}
-use lib.Seq.{take-all, length-take-le}
+use lib.Seq.{take-all, take-take, length-take-le}
 use borrow.Author.Tests.{eq-eqb, ne-eqb}
 use Rattle.automata.specs.Lists.{if}
 use Rattle.automata.specs.TableText.{absent, blanks, labelColumns, weightColumns, headerLine}
 use Rattle.memory.specs.Region.{part, splice}
 use Rattle.memory.specs.Endian.{le}
 use Rattle.memory.specs.declared.answer.Counts.{Counts}
-use Rattle.memory.proofs.Laws.{splice-behind, splice-snoc}
+use Rattle.memory.proofs.Laws.{splice-behind, splice-snoc, take-splice-in}
 use Rattle.text_columns.specs.Columns.{decimalText}
 use Rattle.text_columns.proofs.WriteLaws.{length-decimal}
 use Rattle.text_store.specs.Recode.{recoded}
 use Rattle.text_print.specs.Printed.{weightOfRecord, lineOfState, columnsOfLabel, numbersOfRecord, lineOfArc, headerOf}
 use Rattle.text_store.proofs.RecodeLaws.{length-recoded}
+use Rattle.text_store.proofs.StoredLaws.{take-replicate}
 
 -- ---- a weight
 
@@ -86,18 +87,6 @@ take-min zero y = ap (λ (k : ℕ). take k y) (zero-min (length y))
 take-min (suc b) [] = ap (λ (k : ℕ). take {A = ℕ} k []) (min-zero (suc b))
 take-min (suc b) (c ∷ y) = ap (λ (k : ℕ). take k (c ∷ y)) (suc-min-suc b (length y)) ∙ ap (λ (l : List ℕ). c ∷ l) (take-min b y)
 
-take-blanks : (k n : ℕ) → k ≤ n → take k (blanks n) ≡ blanks k
-take-blanks zero n h = refl
-take-blanks (suc k) zero h = absurd (omega arith)
-take-blanks (suc k) (suc n) h = ap (λ (l : List ℕ). 32 ∷ l) (take-blanks k n (omega arith))
-
--- symbols at the end of nine blanks
-at-end : (n : ℕ) (l : List ℕ) → length l ≡ n → n ≤ 9 → splice (9 - n) l (replicate 9 32) ≡ blanks (9 - n) ++ l
-unfolding splice
-at-end n l e h =
-    let k : 9 - n + length l ≡ 9 = omega arith in
-    ap₂ (λ (p : List ℕ) (i : ℕ). p ++ (l ++ drop i (blanks 9))) (take-blanks (9 - n) 9 (omega arith)) k ∙ ap (λ (z : List ℕ). blanks (9 - n) ++ z) (append-nil l)
-
 module _ (x : List ℕ) (h : length x ≡ 9) where
   symbols-eight : length (drop 1 x) ≡ 8
   symbols-eight = length-drop 1 x ∙ omega arith
@@ -109,18 +98,26 @@ module _ (x : List ℕ) (h : length x ≡ 9) where
   unfolding columnsOfLabel
   label-sized = label-nine (take (getD x 0 0) (drop 1 x)) (omega (arith, label-symbols))
 
-  pub label-printed : (n : ℕ) (r : List ℕ) → n ≡ min (getD x 0 0) 8 → n ≤ 8 → r ≡ splice (9 - n) (take (1 + n - 1) (drop 1 x)) (replicate 9 32) → r ≡ columnsOfLabel x
+  -- the first nine of seventeen columns: blanks, and as many of the eight bytes behind the length as have room
+  label-front : (n : ℕ) (z : List ℕ) → n ≤ 8 → z ≡ splice (9 - n) (take 8 (drop 1 x)) (replicate 17 32) → take 9 z ≡ blanks (9 - n) ++ take n (drop 1 x)
+  label-front n z k f =
+      let y = drop 1 x in
+      let o : 9 ≡ 9 - n + n = omega arith in
+      let ly : length (take 8 y) ≡ 8 = length-take-le 8 y (omega (arith, symbols-eight)) in
+      ap₂ (λ (i : ℕ) (c : List ℕ). take i c) o f ∙ take-splice-in (9 - n) n (take 8 y) (replicate 17 32) (omega arith) (omega arith)
+      ∙ ap₂ (λ (p q : List ℕ). p ++ q) (take-replicate (9 - n) 17 32 (omega arith)) (take-take n 8 y k)
+
+  pub label-printed : (n at : ℕ) (z xs ws : List ℕ) → n ≡ min (getD x 0 0) 8 → n ≤ 8 → z ≡ splice (9 - n) (take 8 (drop 1 x)) (replicate 17 32)
+      → ws ≡ splice at (take 9 z) xs → ws ≡ splice at (columnsOfLabel x) xs
   unfolding columnsOfLabel
-  label-printed n r e k f =
+  label-printed n at z xs ws e k f g =
       let b = getD x 0 0 in
       let y = drop 1 x in
-      let o : 1 + n - 1 ≡ n = omega arith in
       let ly = symbols-eight in
       let t : take n y ≡ take b y = ap (λ (i : ℕ). take i y) (e ∙ ap (min b) (sym ly)) ∙ take-min b y in
       let ln : length (take n y) ≡ n = length-take-le n y (omega arith) in
       let m : 9 - n ≡ suc (8 - length (take n y)) = omega arith in
-      f ∙ ap (λ (i : ℕ). splice (9 - n) (take i y) (replicate 9 32)) o ∙ at-end n (take n y) ln (omega arith)
-      ∙ ap (λ (i : ℕ). blanks i ++ take n y) m ∙ ap (λ (l : List ℕ). labelColumns .write l) t
+      g ∙ ap (λ (c : List ℕ). splice at c xs) (label-front n z k f ∙ ap (λ (i : ℕ). blanks i ++ take n y) m ∙ ap (λ (l : List ℕ). labelColumns .write l) t)
 
 -- ---- an arc
 

@@ -64,15 +64,16 @@ fn label_length(length: u8) -> usize
     length as usize
 }
 
-// The columns of the label in a record.
-fn label_columns(bytes: &[u8]) -> [u8; 9]
-    requires { ⌜ length (now bytes) ≡ 9 ⌝ }
-    ensures { λ r. ⌜ r ≡ columnsOfLabel (now (bytes .entry)) ⌝ }
+// The columns of the label in a record: all eight bytes are copied, and those past its length fall behind the nine
+// columns.
+fn print_label(bytes: &[u8], out: &mut [u8], at: usize)
+    requires { ⌜ (length (now bytes) ≡ 9) × (at + 9 ≤ length (now out)) ⌝ }
+    ensures { λ _. ⌜ now (out .exit) ≡ splice at (columnsOfLabel (now (bytes .entry))) (now (out .entry)) ⌝ }
 {
     let n = label_length(bytes[0]);
-    let mut columns = [32u8; 9];
-    copy_into(&mut columns, 9 - n, &bytes[1..1 + n]);
-    columns
+    let mut columns = [32u8; 17];
+    copy_into(&mut columns, 9 - n, &bytes[1..9]);
+    copy_into(out, at, &columns[0..9]);
 }
 
 // The columns of the labels on so many tapes.
@@ -84,8 +85,7 @@ fn print_labels(records: &[u8], tapes: usize, out: &mut [u8], start: usize)
     let mut at = 0;
     let mut to = start;
     while 0 < left {
-        let columns = label_columns(&records[at..at + 9]);
-        copy_into(out, to, &columns);
+        print_label(&records[at..at + 9], out, to);
         left -= 1;
         at += 9;
         to += 9;

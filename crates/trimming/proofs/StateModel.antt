@@ -63,11 +63,6 @@ pub state-model : (c : Config) (row : List ℕ) → RowOf c row → c .state < 6
 unfolding rowState
 state-model c row r h = ap le (r .state) ∙ le-toLe 2 (c .state) h
 
--- rows that are the codes of configurations
-pub rows-of-codes : (n : ℕ) (code : Config → List ℕ) (cs : List Config) → All (λ c. RowOf c (code c) × (c .state < n)) cs → RowsOf n cs (map code cs)
-rows-of-codes n code [] a = tt
-rows-of-codes n code (c ∷ cs) a = (a .0, rows-of-codes n code cs (a .1))
-
 -- ---- the record of a state
 
 -- its flag of the final weight

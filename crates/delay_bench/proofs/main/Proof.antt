@@ -34,7 +34,7 @@ slice-aggregate-run-2 : tie.Need-slice-aggregate-run-2
 slice-aggregate-run-2 c = search needs
 
 run-requires : tie.Need-run-requires
-run-requires c κs = (simp length-set (omega (arith, c .before .before .before .before .before .before .state-space .ensures)), search needs)
+run-requires c κs = (simp length-set (omega (arith, c .before .before .before .before .before .before .state-space .ensures)), search needs, search needs)
 
 slice-aggregate-put-arc : tie.Need-slice-aggregate-put-arc
 slice-aggregate-put-arc c = search needs
@@ -55,7 +55,7 @@ slice-aggregate-run-4 : tie.Need-slice-aggregate-run-4
 slice-aggregate-run-4 c = search needs
 
 run-requires-2 : tie.Need-run-requires-2
-run-requires-2 c κs = (simp length-set (omega (arith, c .before .before .before .before .before .before .before .before .before .before .before .before .before .before .before .state-space .ensures)), search needs)
+run-requires-2 c κs = (simp length-set (omega (arith, c .before .before .before .before .before .before .before .before .before .before .before .before .before .before .before .state-space .ensures)), search needs, search needs)
 
 returns : tie.Need-returns
 returns c = search needs

@@ -1,16 +1,9 @@
 -- `delays::close_pairs` meets its contract. Assumes nothing.
-use Rattle.relaxation.proofs.SweepLaws.{frame-wider}
-use Rattle.delays.proofs.PairLaws.{pairs-turn}
-use Rattle.relaxation.proofs.ColumnLaws.{frame-refl}
-use Rattle.delays.specs.ClosingRegion.{PairClosed}
-use Rattle.memory.specs.Pairs.{noPair}
-use Rattle.relaxation.specs.Column.{Frame}
-use lib.ListN.{getD}
-use Prim.Native.Nat.{ℕ, _<_}
-use lib.ListN.{length}
+use Rattle.delays.proofs.PairLaws.{pairs-start, pairs-turn, pairs-end}
+use Rattle.delays.specs.ClosingRegion.{ClosesPairs}
 use native.Mathlib.Omega.{arith}
-use Prim.Native.Nat.{_+_, _-_, _*_, _≤_}
-use mathlib.Core.Path.{_≡_, refl, sym, _∙_}
+use Prim.Native.Nat.{_-_, _≤_}
+use mathlib.Core.Path.{refl}
 use borrow.Author.Needs.{needs}
 use Rattle.delays.proofs.close_pairs.Statement.{statement}
 use Rattle.delays.proofs.close_pairs.Tie as tie
@@ -19,15 +12,14 @@ use Rattle.delays.proofs.close_pairs.Lts as lts
 use Rattle.delays.proofs.close_pair.Reads as close-pair-reads
 
 abbrev Inv-loop : tie.InvT-loop
-Inv-loop bytes states arcs count used work₀ base pairs h₀ work h =
-    (h ≤ used) × (length work ≡ length work₀) × ((k : ℕ) → k < h → PairClosed bytes states arcs count (getD pairs k noPair) (base + 8 * k) work)
-    × Frame base (8 * h) states work work₀
+Inv-loop bytes states arcs count order used work₀ base pairs h₀ work h =
+    (h ≤ used) × ClosesPairs bytes states arcs count pairs h base work work₀
 
 abbrev μ-loop : tie.MeasureT-loop
-μ-loop bytes states arcs count used work₀ base pairs h₀ work h = used - h
+μ-loop bytes states arcs count order used work₀ base pairs h₀ work h = used - h
 
 loop-holds : tie.Need-loop-holds Inv-loop μ-loop
-loop-holds c = (search needs, refl, λ k l. absurd (omega arith), frame-refl _ _ _ _)
+loop-holds c = (search needs, pairs-start _ _ _ _ _ _ _)
 
 mul-p : tie.Need-mul-p Inv-loop μ-loop
 mul-p c = search needs
@@ -39,10 +31,10 @@ mul-close-pair : tie.Need-mul-close-pair Inv-loop μ-loop
 mul-close-pair c = search needs
 
 add-close-pair : tie.Need-add-close-pair Inv-loop μ-loop
-add-close-pair c = let s = c .before .before .before .before .before .before .before .pre in omega (arith, s .3, s .1, c .before .before .loop-test .taken)
+add-close-pair c = let s = c .before .before .before .before .before .before .before .before .pre in omega (arith, s .3, s .1, c .before .before .loop-test .taken)
 
 close-pair-requires : tie.Need-close-pair-requires Inv-loop μ-loop
-close-pair-requires c κs = let s = c .before .before .before .before .before .before .before .pre in let l = c .before .before .before .loop in (s .0, s .2 _ (c .before .before .loop-test .taken), omega (arith, s .3, s .1, l .inv .1, c .before .before .loop-test .taken))
+close-pair-requires c κs = let s = c .before .before .before .before .before .before .before .before .pre in let l = c .before .before .before .loop in (s .0, s .2 _ (c .before .before .loop-test .taken), omega (arith, s .3, s .1, l .inv .1 .same-length, c .before .before .loop-test .taken))
 
 add-h : tie.Need-add-h Inv-loop μ-loop
 add-h c = search needs
@@ -52,24 +44,17 @@ loop-less c = search needs
 
 loop-again : tie.Need-loop-again Inv-loop μ-loop
 loop-again c =
-    let s = c .before .before .before .before .before .before .before .before .before .before .pre in
+    let s = c .before .before .before .before .before .before .before .before .before .before .before .pre in
     let l = c .before .before .before .before .before .before .loop in
     let t = c .before .before .before .before .before .loop-test .taken in
-    let a = c .before .before .close-pair .ensures in
-    let z = pairs-turn _ _ _ _ (c .before .before .before .before .before .before .before .before .before .before .args .t5) _ _ (l .h) _ _ _ (omega (arith, t, s .1)) (omega (arith, s .3, l .inv .1)) (l .inv .2) (l .inv .3) refl a in (
-      omega (arith, t),
-      a .frame .same-length ∙ l .inv .1,
-      z .0,
-      z .1,
-    )
+    (omega (arith, t), pairs-turn _ _ _ _ (c .before .before .before .before .before .before .before .before .before .before .before .args .t6) _ _ (l .h) _ _ _ (omega (arith, t, s .1)) (omega (arith, s .3, l .inv .1 .same-length)) (l .inv .1) refl (c .before .before .close-pair .ensures))
 
 same-length : tie.Need-same-length Inv-loop μ-loop
 same-length c = search needs
 
 returns : tie.Need-returns Inv-loop μ-loop
 returns c =
-    let l = c .before .loop in
-    record { closed = λ k m. l .inv .2 k (omega (arith, m, c .loop-test .left)); frame = frame-wider _ _ _ _ _ _ _ (l .inv .3) (omega arith) (omega (arith, l .inv .0)) (omega (arith, c .before .before .before .before .before .pre .1)) }
+    let l = c .before .loop in pairs-end _ _ _ _ _ (l .h) _ _ _ _ (l .inv .0) (omega (arith, c .loop-test .left)) (l .inv .1)
 
 pub close-pairs-spec : {M : Type 1} → statement M
 close-pairs-spec =

@@ -5,18 +5,18 @@ use Rattle.relaxation.specs.Edges.{started}
 use lib.ListN.{length}
 use native.Mathlib.Omega.{arith}
 use Prim.Native.Nat.{_+_, _-_, _*_, _≤_}
-use mathlib.Core.Path.{_≡_, refl, sym, _∙_}
+use mathlib.Core.Path.{_≡_, refl, _∙_}
 use borrow.Author.Needs.{needs}
 use Rattle.relaxation.proofs.start_delays.Statement.{statement}
 use Rattle.relaxation.proofs.start_delays.Tie as tie
 use Rattle.relaxation.proofs.start_delays.Reads as reads
 use Rattle.relaxation.proofs.start_delays.Lts as lts
-use Rattle.relaxation.proofs.start_delay.Reads as start-delay-reads
 use Rattle.memory.proofs.bytes.put16.Reads as put16-reads
+use Rattle.relaxation.proofs.start_delay.Reads as start-delay-reads
 
 abbrev Inv-loop : tie.InvT-loop
 Inv-loop bytes states work₀ at left₀ from₀ to₀ work left from to =
-    (from + 10 * left ≤ length bytes) × (Room to 4 left work) × (length work ≡ length work₀)
+    (from + 10 * left ≤ length bytes) × (Room to 2 left work) × (length work ≡ length work₀)
     × (started to from left bytes work ≡ started at 0 states bytes work₀)
 
 abbrev μ-loop : tie.MeasureT-loop
@@ -37,12 +37,6 @@ start-delay-requires c κs = search needs
 put16-requires : tie.Need-put16-requires Inv-loop μ-loop
 put16-requires c κs = search needs
 
-add-put16 : tie.Need-add-put16 Inv-loop μ-loop
-add-put16 c = search needs
-
-put16-requires-2 : tie.Need-put16-requires-2 Inv-loop μ-loop
-put16-requires-2 c κs = search needs
-
 add-from : tie.Need-add-from Inv-loop μ-loop
 add-from c = search needs
 
@@ -57,13 +51,13 @@ loop-less c = search needs
 
 loop-again : tie.Need-loop-again Inv-loop μ-loop
 loop-again c =
-    let l = c .before .before .before .before .before .before .before .before .before .before .before .loop in
-    let p = c .before .before .before .before .before .before .put16 in
-    let q = c .before .before .put162 in (
-      omega (arith, l .inv .0, c .before .before .before .before .before .before .before .before .before .before .loop-test .taken),
-      omega (arith, l .inv .1, p .kept .0, q .kept .0, c .before .before .before .before .before .before .before .before .before .before .loop-test .taken),
-      q .kept .0 ∙ p .kept .0 ∙ l .inv .2,
-      started-turn _ _ (l .left) (l .left - 1) _ _ _ _ _ (omega (arith, c .before .before .before .before .before .before .before .before .before .before .loop-test .taken)) (c .before .before .before .before .before .before .before .before .start-delay .ensures) (p .ensures) (q .ensures) ∙ l .inv .3,
+    let l = c .before .before .before .before .before .before .before .loop in
+    let t = c .before .before .before .before .before .before .loop-test .taken in
+    let p = c .before .before .put16 in (
+      omega (arith, l .inv .0, t),
+      omega (arith, l .inv .1, p .kept .0, t),
+      p .kept .0 ∙ l .inv .2,
+      started-turn _ _ (l .left) (l .left - 1) _ _ _ _ (omega (arith, t)) (c .before .before .before .start-delay .ensures) (p .ensures) ∙ l .inv .3,
     )
 
 same-length : tie.Need-same-length Inv-loop μ-loop
@@ -83,8 +77,6 @@ start-delays-spec =
     shared-slice-read-start-delay
     start-delay-requires
     put16-requires
-    add-put16
-    put16-requires-2
     add-from
     add-to
     sub-left

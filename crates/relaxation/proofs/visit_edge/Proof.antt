@@ -1,14 +1,14 @@
 -- `relaxation::visit_edge` meets its contract. Assumes nothing.
-use Rattle.relaxation.proofs.RunLaws.{visit-step}
+use Rattle.relaxation.proofs.RunLaws.{visit-kept, visit-stored}
 use borrow.Author.Needs.{needs}
 use Rattle.relaxation.proofs.visit_edge.Statement.{statement}
 use Rattle.relaxation.proofs.visit_edge.Tie as tie
 use Rattle.relaxation.proofs.visit_edge.Reads as reads
 use Rattle.relaxation.proofs.visit_edge.Lts as lts
-use Rattle.relaxation.proofs.improved.Reads as improved-reads
-use Rattle.relaxation.proofs.through_edge.Reads as through-edge-reads
 use Rattle.memory.proofs.bytes.get16.Reads as get16-reads
 use Rattle.memory.proofs.bytes.put16.Reads as put16-reads
+use Rattle.relaxation.proofs.improved.Reads as improved-reads
+use Rattle.relaxation.proofs.through_edge.Reads as through-edge-reads
 
 cast-get16 : tie.Need-cast-get16
 cast-get16 c = search needs
@@ -25,17 +25,14 @@ get16-requires c κs = search needs
 through-edge-requires : tie.Need-through-edge-requires
 through-edge-requires c κs = search needs
 
-add-place : tie.Need-add-place
-add-place c = search needs
-
 cast-place : tie.Need-cast-place
 cast-place c = search needs
 
 mul-place : tie.Need-mul-place
 mul-place c = search needs
 
-add-place-2 : tie.Need-add-place-2
-add-place-2 c = search needs
+add-place : tie.Need-add-place
+add-place c = search needs
 
 get16-requires-2 : tie.Need-get16-requires-2
 get16-requires-2 c κs = search needs
@@ -43,14 +40,23 @@ get16-requires-2 c κs = search needs
 improved-requires : tie.Need-improved-requires
 improved-requires c κs = search needs
 
-put16-requires : tie.Need-put16-requires
-put16-requires c κs = search needs
-
 same-length : tie.Need-same-length
 same-length c = search needs
 
 returns : tie.Need-returns
-returns c = visit-step _ _ _ _ _ _ _ _ _ (c .before .before .before .before .before .before .before .before .before .get16 .ensures) (c .before .before .before .before .before .before .before .before .through-edge .ensures) (c .before .before .before .before .before .get162 .ensures) (c .before .before .before .improved .ensures) (c .before .before .put16 .ensures)
+returns c =
+    visit-kept _ _ _ _ _ _ _ _ (c .before .before .before .before .before .before .get16 .ensures) (c .before .before .before .before .before .through-edge .ensures) (c .before .before .get162 .ensures) (c .before .improved .ensures) (c .if1 .taken)
+
+put16-requires : tie.Need-put16-requires
+put16-requires c κs = search needs
+
+same-length-2 : tie.Need-same-length-2
+same-length-2 c = search needs
+
+returns-2 : tie.Need-returns-2
+returns-2 c =
+    visit-stored _ _ _ _ _ _ _ _ (c .before .before .before .before .before .before .before .before .before .before .get16 .ensures) (c .before .before .before .before .before .before .before .before .before .through-edge .ensures) (c .before .before .before .before .before .before .get162 .ensures) (c .before .before .before .before .before .improved .ensures) _ (c .before .before .before .before .if1 .left)
+    (c .before .before .put16 .ensures)
 
 pub visit-edge-spec : {M : Type 1} → statement M
 visit-edge-spec =
@@ -61,12 +67,13 @@ visit-edge-spec =
     add-get16
     get16-requires
     through-edge-requires
-    add-place
     cast-place
     mul-place
-    add-place-2
+    add-place
     get16-requires-2
     improved-requires
-    put16-requires
     same-length
-    returns)
+    returns
+    put16-requires
+    same-length-2
+    returns-2)

@@ -52,7 +52,7 @@ store-arcs-requires : tie.Need-store-arcs-requires
 store-arcs-requires c κs = let s = c .before .before .before .before .before .before .before .before .before .before .before .before .before .before in
     let j = c .before .before .before .before .before .before .before .before .before .before .judge-text in
     let w = c .before .before .before .before .before .before .before .before .before .answer-of in
-    let m = read-room (now (s .args .text)) (now (s .args .states)) (now (s .args .arcs)) (j .result) (j .ensures) (w .result) (w .ensures) _ (c .before .before .before .before .before .before .before .judged .given .1) in ((omega (arith, m .text), m .states), (m .tapes, omega (arith, m .arcSpace)))
+    let m = read-room (now (s .args .text)) (now (s .args .states)) (now (s .args .arcs)) (j .result) (j .ensures) (w .result) (w .ensures) _ (c .before .before .before .before .before .before .before .judged .given .1) in (omega (arith, m .text), (m .tapes, omega (arith, m .arcSpace)))
 
 same-length : tie.Need-same-length
 same-length c = search needs

@@ -3,10 +3,11 @@
 
 use std::time::Instant;
 use tomchoen_library_tests::calls;
-use tomchoen_tests::automaton::{Arc, Automaton, State};
-use tomchoen_tests::calls::{intersect_work, lookup_work, ResultSpace};
+use tomchoen_tests::automaton::{Arc, Automaton, Room, State};
+use tomchoen_tests::calls::{intersect_work, join_work, lookup_work, product_work, JoinRequest, ResultSpace};
 use tomchoen_tests::memory::{encode, ARC_BYTES, STATE_BYTES};
 use tomchoen_tests::requests::{self, Request};
+use tomchoen_tests::text::write;
 
 /// The least seconds of several runs.
 fn least<T>(runs: usize, mut run: impl FnMut() -> T) -> (T, f64) {
@@ -55,25 +56,103 @@ fn lookup(automaton: &Automaton, lengths: &[usize]) -> Request {
     Request::Lookup { table: encode(automaton), tuple, work }
 }
 
-/// A build on the pair 1 = 2 into space for as many states and arcs.
-fn build(automaton: &Automaton) -> Request {
-    let (states, arcs) = (automaton.states.len(), automaton.arcs.len());
-    let result = ResultSpace { states: vec![1; states * STATE_BYTES], arcs: vec![1; arcs * ARC_BYTES] };
-    let work = vec![1; intersect_work(result.room(), states as u64) as usize];
-    Request::Intersect { table: encode(automaton), pairs: vec![(1, 2)], limit: 0, result, work }
+/// Space for so many states and arcs.
+fn space(states: usize, arcs: usize) -> ResultSpace {
+    ResultSpace { states: vec![1; states * STATE_BYTES], arcs: vec![1; arcs * ARC_BYTES] }
+}
+
+/// A build on so many pairs, 1 = 2, 3 = 4 and so on, into space for as many states and arcs.
+fn build(automaton: &Automaton, pairs: u64) -> Request {
+    let result = space(automaton.states.len(), automaton.arcs.len());
+    let work = vec![1; intersect_work(result.room(), automaton.states.len() as u64) as usize];
+    let pairs = (0..pairs).map(|pair| (2 * pair + 1, 2 * pair + 2)).collect();
+    Request::Intersect { table: encode(automaton), pairs, limit: 0, result, work }
+}
+
+/// The chain with one state apart whose loop makes its closing delay endless.
+fn endless(states: usize) -> Automaton {
+    let mut automaton = chain(2, states - 1, 8 * (states - 1), |_, _| b"A".to_vec());
+    automaton.states.push(State { initial: None, final_weight: None });
+    let apart = states - 1;
+    let labels = vec![Vec::new(), b"A".to_vec()];
+    automaton.arcs.push(Arc { source: apart, target: apart, weight: 1, labels: labels.clone() });
+    automaton.arcs.push(Arc { source: apart, target: 0, weight: 1, labels });
+    automaton
+}
+
+/// A wheel: an arc for each of `degree` symbols from every state, to the states that follow; `turn` takes them in the other order.
+fn wheel(states: usize, degree: usize, turn: bool) -> Automaton {
+    let arc = |number: usize| {
+        let (source, symbol) = (number / degree, number % degree);
+        let ahead = if turn { degree - symbol } else { symbol + 1 };
+        Arc { source, target: (source + ahead) % states, weight: 1, labels: vec![vec![b'A' + (symbol % 26) as u8]] }
+    };
+    let mut records = vec![State { initial: None, final_weight: None }; states];
+    records[0].initial = Some(0);
+    records[states - 1].final_weight = Some(0);
+    Automaton { tapes: 1, states: records, arcs: (0..states * degree).map(arc).collect() }
+}
+
+/// The product of two wheels.
+fn product(states: usize, degree: usize) -> Request {
+    let result = space(1_024, 8_192);
+    let work = vec![1; product_work(result.room()) as usize];
+    Request::Product { first: encode(&wheel(states, degree, false)), second: encode(&wheel(states, degree, true)), result, work }
+}
+
+/// Their join on their only tapes.
+fn join(states: usize) -> Request {
+    let work = vec![1; join_work(Room::AMPLE, Room::AMPLE) as usize];
+    let request = JoinRequest { pairs: vec![(1, 1)], limit: 0, product: space(1_024, 8_192), result: space(1_024, 8_192), work };
+    Request::Join { first: encode(&wheel(states, 2, false)), second: encode(&wheel(states, 2, true)), request }
+}
+
+/// A chain of arcs without a symbol to a loop with one, its states numbered from its start or from its end.
+fn empty_chain(states: usize, backwards: bool) -> Automaton {
+    let number = |place: usize| if backwards { states - 1 - place } else { place };
+    let mut records = vec![State { initial: None, final_weight: None }; states];
+    records[number(0)].initial = Some(0);
+    records[number(states - 1)].final_weight = Some(0);
+    let step = |place: usize| Arc { source: number(place), target: number(place + 1), weight: 1, labels: vec![Vec::new()] };
+    let last = number(states - 1);
+    let mut arcs: Vec<Arc> = (0..states - 1).map(step).collect();
+    arcs.push(Arc { source: last, target: last, weight: 1, labels: vec![b"A".to_vec()] });
+    Automaton { tapes: 1, states: records, arcs }
+}
+
+/// Times a request at growing sizes.
+fn growing(name: &str, sizes: &[usize], request: impl Fn(usize) -> Request) {
+    let mut before = None;
+    for &size in sizes {
+        before = Some(time(&format!("{name}, {size}"), &request(size), before));
+    }
 }
 
 fn main() {
     println!("{:<58} {:>10} {:>14} {:>7} {:>7}", "call", "library us", "second impl us", "ratio", "growth");
     let both = |_: usize, _: usize| b"A".to_vec();
-    let mut before = None;
-    for states in [64, 128, 256, 512, 1_024] {
-        before = Some(time(&format!("build, {states} states, {} arcs, limit 0", 8 * states), &build(&chain(2, states, 8 * states, both)), before));
-    }
+    let sizes = [64, 128, 256, 512, 1_024];
+    growing("build, one pair, 8 arcs a state, states", &sizes, |n| build(&chain(2, n, 8 * n, both), 1));
+    growing("build, four pairs, 8 arcs a state, states", &sizes, |n| build(&chain(8, n, 8 * n, both), 4));
+    growing("build, no pairs, 8 arcs a state, states", &sizes, |n| build(&chain(2, n, 8 * n, both), 0));
+    growing("build, one pair, an endless delay, states", &[64, 128, 256, 512, 1_000], |n| build(&endless(n), 1));
+    growing("product of wheels, states a side", &[4, 8, 16, 31], |n| product(n, 2));
+    growing("product refused by 9, arcs a side from one state", &[1_024, 2_048, 4_096, 8_192], |n| product(1, n));
+    growing("join of wheels, states a side", &[4, 8, 16, 31], join);
     let one = chain(1, 1_024, 8_192, |number, _| if number % 8 == 7 { Vec::new() } else { b"A".to_vec() });
-    let half = time("lookup, 1,024 states, 8,192 arcs, one tape of 31", &lookup(&one, &[31]), None);
-    time("lookup, 1,024 states, 8,192 arcs, one tape of 64", &lookup(&one, &[64]), Some(half));
+    growing("lookup, 8,192 arcs, one tape, symbols", &[16, 32, 64], |n| lookup(&one, &[n]));
     let three = chain(3, 1_024, 8_192, |number, tape| if number % 4 == tape { Vec::new() } else { b"A".to_vec() });
-    let six = time("lookup, 1,024 states, 8,192 arcs, three tapes of 6", &lookup(&three, &[6, 6, 6]), None);
-    time("lookup, 1,024 states, 8,192 arcs, three tapes of 12", &lookup(&three, &[12, 12, 12]), Some(six));
+    growing("lookup, 8,192 arcs, three tapes, symbols each", &[3, 6, 12], |n| lookup(&three, &[n, n, n]));
+    growing("lookup, arcs without a symbol, 64 symbols, states", &[256, 512, 1_024], |n| lookup(&empty_chain(n, false), &[64]));
+    growing("the same, numbered backwards, states", &[256, 512, 1_024], |n| lookup(&empty_chain(n, true), &[64]));
+    let labels = |number: usize, tape: usize| vec![b'A' + (number % 26) as u8; (number + tape) % 9];
+    let large = |n: usize| chain(8, n, 8 * n, labels);
+    growing("read, 8 tapes, 8 arcs a state, states", &sizes, |n| Request::Read {
+        text: write(&large(n)),
+        result: space(n, 8 * n),
+    });
+    growing("write, 8 tapes, 8 arcs a state, states", &sizes, |n| Request::Write {
+        table: encode(&large(n)),
+        output: vec![1; write(&large(n)).len()],
+    });
 }

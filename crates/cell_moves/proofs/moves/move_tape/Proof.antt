@@ -21,6 +21,9 @@ returns c = move-long _ _ _ _ _ _ (c .if1 .taken)
 add-same-bytes : tie.Need-add-same-bytes
 add-same-bytes c = search needs
 
+sub-same-bytes : tie.Need-sub-same-bytes
+sub-same-bytes c = search needs
+
 same-bytes-requires : tie.Need-same-bytes-requires
 same-bytes-requires c κs = search needs
 
@@ -30,7 +33,7 @@ returns-2 c = move-differs _ _ _ _ _ _ (omega (arith, c .before .before .if1 .le
 mul-t11 : tie.Need-mul-t11
 mul-t11 c =
     let s = c .before .before .before .before .before .before in
-    omega (arith, mul-le-mul (s .pre .1) (s .pre .3))
+    omega (arith, mul-le-mul (s .pre .1) (s .pre .4))
 
 returns-3 : tie.Need-returns-3
 returns-3 c = move-same _ _ _ _ _ _ (omega (arith, c .before .before .if1 .left)) _ (c .before .same-bytes .ensures) (c .if2 .left)
@@ -43,6 +46,7 @@ move-tape-spec =
     cast-n
     returns
     add-same-bytes
+    sub-same-bytes
     same-bytes-requires
     returns-2
     mul-t11

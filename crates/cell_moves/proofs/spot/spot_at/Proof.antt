@@ -5,17 +5,17 @@ use Rattle.cell_moves.proofs.spot.spot_at.Statement.{statement}
 use Rattle.cell_moves.proofs.spot.spot_at.Tie as tie
 use Rattle.cell_moves.proofs.spot.spot_at.Reads as reads
 use Rattle.cell_moves.proofs.spot.spot_at.Lts as lts
-use Rattle.cell_moves.proofs.spot.lengths_at.Reads as lengths-at-reads
+use Rattle.cell_moves.proofs.spot.positions_at.Reads as positions-at-reads
 use Rattle.cell_moves.proofs.spot.starts_at.Reads as starts-at-reads
 
 starts-at-requires : tie.Need-starts-at-requires
 starts-at-requires c κs = search needs
 
-lengths-at-requires : tie.Need-lengths-at-requires
-lengths-at-requires c κs = search needs
+positions-at-requires : tie.Need-positions-at-requires
+positions-at-requires c κs = search needs
 
 returns : tie.Need-returns
-returns c = spot-is _ _ _ _ _ (c .before .before .starts-at .ensures) (c .before .lengths-at .ensures)
+returns c = spot-is _ _ _ _ _ (c .before .before .starts-at .ensures) (c .before .positions-at .ensures)
 
 pub spot-at-spec : {M : Type 1} → statement M
-spot-at-spec = tie.close (tie.spec starts-at-requires lengths-at-requires returns)
+spot-at-spec = tie.close (tie.spec starts-at-requires positions-at-requires returns)

@@ -1,113 +1,56 @@
 -- `cells::fill::least_weight` meets its contract. Assumes nothing.
-use Rattle.cells.proofs.FillLaws.{Filling, fillable-kept, placed, stated, positive, fill-start, fill-below, fill-stated, fill-requires, fill-turn, fill-end}
-use Prim.Native.Nat.{_-_, _<_}
-use lib.ListN.{length}
-use denote.Ref.{now}
-use Rattle.distances.proofs.StartMeaning.{sixteens}
-use mathlib.Core.Path.{sym, ap, _∙_}
-use native.Mathlib.Omega.{arith}
+use Rattle.cells.proofs.FillLaws.{chains-ask}
+use Rattle.distances.proofs.QueueLaws.{queue-none}
 use borrow.Author.Needs.{needs}
 use Rattle.cells.proofs.fill.least_weight.Statement.{statement}
 use Rattle.cells.proofs.fill.least_weight.Tie as tie
 use Rattle.cells.proofs.fill.least_weight.Reads as reads
 use Rattle.cells.proofs.fill.least_weight.Lts as lts
-use Rattle.cell_moves.proofs.cell.clear_cells.Reads as clear-cells-reads
-use Rattle.cells.proofs.ends.least_from.Reads as least-from-reads
-use Rattle.cells.proofs.ends.start_states.Reads as start-states-reads
-use Rattle.cells.proofs.relax.settle.Reads as settle-reads
-use Rattle.cell_moves.proofs.spot.spans_of.Reads as spans-of-reads
-use Rattle.cell_moves.proofs.spot.spot_at.Reads as spot-at-reads
+use Rattle.cells.proofs.chain.chain_arcs.Reads as chain-arcs-reads
+use Rattle.cells.proofs.chain.no_chains.Reads as no-chains-reads
+use Rattle.cells.proofs.fill.fill.Reads as fill-reads
+use Rattle.cells.proofs.queue.no_states.Reads as no-states-reads
 
-abbrev Inv-loop : tie.InvT-loop
-Inv-loop counts states arcs text strings work₀ spans left₀ work left = Filling counts states arcs text strings spans (length work₀) left work
+no-chains-requires : tie.Need-no-chains-requires
+no-chains-requires c κs = search needs
 
-abbrev μ-loop : tie.MeasureT-loop
-μ-loop counts states arcs text strings work₀ spans left₀ work left = left
+slice-aggregate-chain-arcs : tie.Need-slice-aggregate-chain-arcs
+slice-aggregate-chain-arcs c = search needs
 
-spans-of-requires : tie.Need-spans-of-requires Inv-loop μ-loop
-spans-of-requires c κs =
-    let s = c .before .before .before .before in
-    let k : length (now (s .args .text)) < 18446744073709551616 = search needs in
-    placed _ _ _ _ _ _ (s .pre) k
+chain-arcs-requires : tie.Need-chain-arcs-requires
+chain-arcs-requires c κs =
+    let k = chains-ask _ _ _ _ _ _ (c .before .before .before .before .before .before .pre) in
+    (k .0, k .1, k .2, c .before .no-chains .ensures)
 
-clear-cells-requires : tie.Need-clear-cells-requires Inv-loop μ-loop
-clear-cells-requires c κs = search needs
+no-states-requires : tie.Need-no-states-requires
+no-states-requires c κs = search needs
 
-start-states-requires : tie.Need-start-states-requires Inv-loop μ-loop
-start-states-requires c κs =
-    let s = c .before .before .before .before .before .before .before .before .before .before in
-    stated _ _ _ _ _ _ (s .pre) _ (c .before .before .before .before .before .spans-of .ensures) _ (c .before .before .before .clear-cells .kept .0)
+slice-aggregate-fill : tie.Need-slice-aggregate-fill
+slice-aggregate-fill c = search needs
 
-loop-holds : tie.Need-loop-holds Inv-loop μ-loop
-loop-holds c =
-    let s = c .before .before .before .before .before .before .before .before .before .before .before .before .before in
-    let n = c .before .before .start-states .ensures .same-length ∙ c .before .before .before .before .before .before .clear-cells .kept .0 in
-    let f = fillable-kept _ _ _ _ _ n (s .pre) in
-    fill-start _ _ _ _ _ _ f _ (c .before .before .before .before .before .before .before .before .spans-of .ensures) _ _ (c .before .before .before .before .before .before .clear-cells .ensures ∙ ap sixteens (sym n)) (c .before .before .start-states .ensures)
+slice-aggregate-fill-2 : tie.Need-slice-aggregate-fill-2
+slice-aggregate-fill-2 c = search needs
 
-sub-left : tie.Need-sub-left Inv-loop μ-loop
-sub-left c = search needs
+fill-requires : tie.Need-fill-requires
+fill-requires c κs =
+    (c .before .before .before .before .before .before .before .before .before .before .before .before .pre, record { chained = c .before .before .before .before .before .chain-arcs .ensures; lined = queue-none _ (c .before .before .before .no-states .ensures) })
 
-spot-at-requires : tie.Need-spot-at-requires Inv-loop μ-loop
-spot-at-requires c κs =
-    let s = c .before .before .before .before .before .before .before .before .before .before .before .before .before .before .before in
-    let l = c .before .loop in
-    let k : length (now (s .args .text)) < 18446744073709551616 = search needs in
-    (placed _ _ _ _ _ _ (s .pre) k, positive _ _ _ _ _ _ (s .pre) _ (l .inv .spanned))
+same-length : tie.Need-same-length
+same-length c = search needs
 
-settle-requires : tie.Need-settle-requires Inv-loop μ-loop
-settle-requires c κs =
-    let s = c .before .before .before .before .before .before .before .before .before .before .before .before .before .before .before .before .before in
-    let n = c .before .before .before .before .before .before .start-states .ensures .same-length ∙ c .before .before .before .before .before .before .before .before .before .before .clear-cells .kept .0 in
-    let f = fillable-kept _ _ _ _ _ n (s .pre) in
-    let l = c .before .before .before .loop in
-    fill-requires _ _ _ _ _ _ f _ (l .left) (l .left - 1) _ (l .inv) (omega (arith, c .before .before .loop-test .taken)) _ (c .before .spot-at .ensures)
-
-loop-less : tie.Need-loop-less Inv-loop μ-loop
-loop-less c = search needs
-
-loop-again : tie.Need-loop-again Inv-loop μ-loop
-loop-again c =
-    let s = c .before .before .before .before .before .before .before .before .before .before .before .before .before .before .before .before .before .before .before .before in
-    let n = c .before .before .before .before .before .before .before .before .before .start-states .ensures .same-length ∙ c .before .before .before .before .before .before .before .before .before .before .before .before .before .clear-cells .kept .0 in
-    let f = fillable-kept _ _ _ _ _ n (s .pre) in
-    let l = c .before .before .before .before .before .before .loop in
-    fill-turn _ _ _ _ _ _ f _ (l .left) (l .left - 1) _ (l .inv) (omega (arith, c .before .before .before .before .before .loop-test .taken)) _ (c .before .before .before .before .spot-at .ensures) _ (c .before .before .settle .ensures)
-
-least-from-requires : tie.Need-least-from-requires Inv-loop μ-loop
-least-from-requires c κs =
-    let s = c .before .before .before .before .before .before .before .before .before .before .before .before .before .before .before .before in
-    let n = c .before .before .before .before .before .start-states .ensures .same-length ∙ c .before .before .before .before .before .before .before .before .before .clear-cells .kept .0 in
-    let f = fillable-kept _ _ _ _ _ n (s .pre) in
-    let l = c .before .before .loop in
-    (fill-stated _ _ _ _ _ _ f _ (l .left) (l .left) _ (l .inv), fill-below _ _ _ _ _ _ f _ (l .left) (l .left) _ (l .inv))
-
-same-length : tie.Need-same-length Inv-loop μ-loop
-same-length c = c .before .before .before .loop .inv .same-length ∙ c .before .before .before .before .before .before .start-states .ensures .same-length ∙ c .before .before .before .before .before .before .before .before .before .before .clear-cells .kept .0
-
-returns : tie.Need-returns Inv-loop μ-loop
-returns c =
-    let s = c .before .before .before .before .before .before .before .before .before .before .before .before .before .before .before .before .before in
-    let n = c .before .before .before .before .before .before .start-states .ensures .same-length ∙ c .before .before .before .before .before .before .before .before .before .before .clear-cells .kept .0 in
-    let f = fillable-kept _ _ _ _ _ n (s .pre) in
-    let l = c .before .before .before .loop in
-    fill-end _ _ _ _ _ _ f _ (l .left) (l .left) _ (l .inv) (omega (arith, c .before .before .loop-test .left)) _ (c .least-from .ensures)
+returns : tie.Need-returns
+returns c = c .before .before .before .fill .ensures
 
 pub least-weight-spec : {M : Type 1} → statement M
 least-weight-spec =
     tie.close
     (tie.spec
-    Inv-loop
-    μ-loop
-    spans-of-requires
-    clear-cells-requires
-    start-states-requires
-    loop-holds
-    sub-left
-    spot-at-requires
-    settle-requires
-    loop-less
-    loop-again
-    least-from-requires
+    no-chains-requires
+    slice-aggregate-chain-arcs
+    chain-arcs-requires
+    no-states-requires
+    slice-aggregate-fill
+    slice-aggregate-fill-2
+    fill-requires
     same-length
     returns)

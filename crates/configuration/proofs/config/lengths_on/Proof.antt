@@ -1,49 +1,44 @@
 -- `configuration::config::lengths_on` meets its contract. Assumes nothing.
+use mathlib.Core.Path.{sym, ap, _∙_}
 use native.Mathlib.Omega.{arith}
-use Rattle.configuration.proofs.TestLaws.{good-at, four-lengths}
-use borrow.Author.Needs.{needs}
+use denote.Ref.{now}
+use lib.ListN.{length}
+use Rattle.configuration.specs.declared.leftover.Leftover.{Leftover}
+use Rattle.configuration.specs.Leftovers.{onTape, leftoverAs}
+use Rattle.configuration.specs.Configs.{configAt}
+use Rattle.configuration.proofs.TestLaws.{four-lengths}
+use Rattle.configuration.proofs.RowLaws.{leftover-in-slot, four-in, good-in-slot}
 use Rattle.configuration.proofs.config.lengths_on.Statement.{statement}
 use Rattle.configuration.proofs.config.lengths_on.Tie as tie
 use Rattle.configuration.proofs.config.lengths_on.Reads as reads
 use Rattle.configuration.proofs.config.lengths_on.Lts as lts
-use Rattle.configuration.proofs.leftover.length_on.Reads as length-on-reads
-
-element-copy-out-p : tie.Need-element-copy-out-p
-element-copy-out-p c = search needs
-
-element-copy-out-q : tie.Need-element-copy-out-q
-element-copy-out-q c = search needs
-
-element-copy-out-r : tie.Need-element-copy-out-r
-element-copy-out-r c = search needs
-
-element-copy-out-s : tie.Need-element-copy-out-s
-element-copy-out-s c = search needs
+use Rattle.configuration.proofs.config.length_on.Reads as length-on-reads
 
 length-on-requires : tie.Need-length-on-requires
-length-on-requires c κs = good-at 0 (c .before .before .before .before .args .t2) (c .before .before .before .before .pre) (omega arith)
+length-on-requires c κs = let s = c .before in (omega (arith, s .pre .0), good-in-slot 0 _ (s .pre .1) (omega arith))
 
 length-on-requires-2 : tie.Need-length-on-requires-2
-length-on-requires-2 c κs = good-at 1 (c .before .before .before .before .before .args .t2) (c .before .before .before .before .before .pre) (omega arith)
+length-on-requires-2 c κs = let s = c .before .before in (omega (arith, s .pre .0), good-in-slot 1 _ (s .pre .1) (omega arith))
 
 length-on-requires-3 : tie.Need-length-on-requires-3
-length-on-requires-3 c κs = good-at 2 (c .before .before .before .before .before .before .args .t2) (c .before .before .before .before .before .before .pre) (omega arith)
+length-on-requires-3 c κs = let s = c .before .before .before in (omega (arith, s .pre .0), good-in-slot 2 _ (s .pre .1) (omega arith))
 
 length-on-requires-4 : tie.Need-length-on-requires-4
-length-on-requires-4 c κs = good-at 3 (c .before .before .before .before .before .before .before .args .t2) (c .before .before .before .before .before .before .before .pre) (omega arith)
+length-on-requires-4 c κs = let s = c .before .before .before .before in (omega (arith, s .pre .0), good-in-slot 3 _ (s .pre .1) (omega arith))
 
 returns : tie.Need-returns
-returns c = let s = c .before .before .before .before .before .before .before .before in
-    four-lengths (s .args .second) (s .args .t2) _ _ _ _ (s .pre .0) (c .before .before .before .length-on .ensures) (c .before .before .length-on2 .ensures) (c .before .length-on3 .ensures) (c .length-on4 .ensures)
+returns c =
+    let s = c .before .before .before .before .before in
+    four-lengths (s .args .second) (configAt 0 (now (s .args .row))) _ _ _ _ (four-in _)
+    (c .before .before .before .length-on .ensures ∙ ap (λ (l : Leftover). length (onTape (s .args .second) (leftoverAs l))) (sym (leftover-in-slot 0 _ (omega arith))))
+    (c .before .before .length-on2 .ensures ∙ ap (λ (l : Leftover). length (onTape (s .args .second) (leftoverAs l))) (sym (leftover-in-slot 1 _ (omega arith))))
+    (c .before .length-on3 .ensures ∙ ap (λ (l : Leftover). length (onTape (s .args .second) (leftoverAs l))) (sym (leftover-in-slot 2 _ (omega arith))))
+    (c .length-on4 .ensures ∙ ap (λ (l : Leftover). length (onTape (s .args .second) (leftoverAs l))) (sym (leftover-in-slot 3 _ (omega arith))))
 
 pub lengths-on-spec : {M : Type 1} → statement M
 lengths-on-spec =
     tie.close
     (tie.spec
-    element-copy-out-p
-    element-copy-out-q
-    element-copy-out-r
-    element-copy-out-s
     length-on-requires
     length-on-requires-2
     length-on-requires-3

@@ -1,9 +1,13 @@
 -- `configuration::config::too_long` meets its contract. Assumes nothing.
-use Rattle.configuration.proofs.TestLaws.{anyLonger, tells-long, longer-found, longer-next, longer-none}
-use lib.ListN.{take, drop}
 use Prim.Native.Nat.{_≤_, _-_}
 use mathlib.Core.Bool.{true, false}
 use mathlib.Core.Path.{_≡_, refl, sym, _∙_}
+use native.Mathlib.Omega.{arith}
+use denote.Ref.{now}
+use lib.ListN.{take, drop}
+use Rattle.configuration.specs.Configs.{configAt}
+use Rattle.configuration.proofs.TestLaws.{anyLonger, tells-long, longer-found, longer-next, longer-none}
+use Rattle.configuration.proofs.RowLaws.{len-in-slot}
 use borrow.Author.Needs.{needs}
 use Rattle.configuration.proofs.config.too_long.Statement.{statement}
 use Rattle.configuration.proofs.config.too_long.Tie as tie
@@ -11,22 +15,29 @@ use Rattle.configuration.proofs.config.too_long.Reads as reads
 use Rattle.configuration.proofs.config.too_long.Lts as lts
 
 abbrev Inv-loop : tie.InvT-loop
-Inv-loop used limit c i₀ i = (i ≤ used) × (anyLonger limit (drop i (take used (c .leftovers))) ≡ anyLonger limit (take used (c .leftovers)))
+Inv-loop row used limit i₀ i = (i ≤ used) × (anyLonger limit (drop i (take used (configAt 0 row .leftovers))) ≡ anyLonger limit (take used (configAt 0 row .leftovers)))
 
 abbrev μ-loop : tie.MeasureT-loop
-μ-loop used limit c i₀ i = used - i
+μ-loop row used limit i₀ i = used - i
 
 loop-holds : tie.Need-loop-holds Inv-loop μ-loop
 loop-holds c = (search needs, refl)
 
-mul-l : tie.Need-mul-l Inv-loop μ-loop
-mul-l c = search needs
+mul-if1 : tie.Need-mul-if1 Inv-loop μ-loop
+mul-if1 c = search needs
 
-element-copy-out-l : tie.Need-element-copy-out-l Inv-loop μ-loop
-element-copy-out-l c = search needs
+add-if1 : tie.Need-add-if1 Inv-loop μ-loop
+add-if1 c = search needs
+
+shared-slice-read-if1 : tie.Need-shared-slice-read-if1 Inv-loop μ-loop
+shared-slice-read-if1 c = search needs
 
 returns : tie.Need-returns Inv-loop μ-loop
-returns c = let s = c .before .before .before .before .before in tells-long _ _ _ (s .pre .0) (s .pre .1) true (sym (longer-found _ _ _ (s .pre .0) (s .pre .1) _ (c .before .before .before .loop-test .taken) (c .if1 .taken)) ∙ c .before .before .before .before .loop .inv .1)
+returns c =
+    let s = c .before .before .before .before in
+    let l = c .before .before .before .loop in
+    tells-long _ _ _ (s .pre .0) (s .pre .1) true
+    (sym (longer-found _ _ _ (s .pre .0) (s .pre .1) _ (c .before .before .loop-test .taken) (rw (len-in-slot (l .i) (now (s .args .row)) (omega (arith, s .pre .1))) at (c .if1 .taken))) ∙ l .inv .1)
 
 add-i : tie.Need-add-i Inv-loop μ-loop
 add-i c = search needs
@@ -35,7 +46,12 @@ loop-less : tie.Need-loop-less Inv-loop μ-loop
 loop-less c = search needs
 
 loop-again : tie.Need-loop-again Inv-loop μ-loop
-loop-again c = let s = c .before .before .before .before .before in (search needs, sym (longer-next _ _ _ (s .pre .0) (s .pre .1) _ (c .before .before .before .loop-test .taken) (c .if1 .left)) ∙ c .before .before .before .before .loop .inv .1)
+loop-again c =
+    let s = c .before .before .before .before in
+    let l = c .before .before .before .loop in (
+      search needs,
+      sym (longer-next _ _ _ (s .pre .0) (s .pre .1) _ (c .before .before .loop-test .taken) (rw (len-in-slot (l .i) (now (s .args .row)) (omega (arith, s .pre .1))) at (c .if1 .left))) ∙ l .inv .1,
+    )
 
 returns-2 : tie.Need-returns-2 Inv-loop μ-loop
 returns-2 c = let s = c .before .before in tells-long _ _ _ (s .pre .0) (s .pre .1) false (sym (longer-none _ _ _ (s .pre .0) (s .pre .1) _ (c .loop-test .left)) ∙ c .before .loop .inv .1)
@@ -47,8 +63,9 @@ too-long-spec =
     Inv-loop
     μ-loop
     loop-holds
-    mul-l
-    element-copy-out-l
+    mul-if1
+    add-if1
+    shared-slice-read-if1
     returns
     add-i
     loop-less

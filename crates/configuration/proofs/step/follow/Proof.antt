@@ -1,40 +1,36 @@
 -- `configuration::step::follow` meets its contract. Assumes nothing.
-use Rattle.configuration.proofs.StepLaws.{Progress, progress-start, progress-next, follows-none, follows-some}
-use native.Mathlib.Omega.{arith}
 use Prim.Native.Nat.{_-_}
+use mathlib.Core.Path.{_≡_}
+use native.Mathlib.Omega.{arith}
+use lib.ListN.{length}
+use Rattle.configuration.proofs.RowLaws.{length-row}
+use Rattle.configuration.proofs.FollowLaws.{Filling, filling-start, may-advance, follows-not, filling-next, follows-all}
 use borrow.Author.Needs.{needs}
 use Rattle.configuration.proofs.step.follow.Statement.{statement}
 use Rattle.configuration.proofs.step.follow.Tie as tie
 use Rattle.configuration.proofs.step.follow.Reads as reads
 use Rattle.configuration.proofs.step.follow.Lts as lts
-use Rattle.configuration.proofs.config.start_config.Reads as start-config-reads
-use Rattle.configuration.proofs.step.advance_pair.Reads as advance-pair-reads
-use Rattle.configuration.proofs.step.with_leftover.Reads as with-leftover-reads
+use Rattle.configuration.proofs.step.advance_slot.Reads as advance-slot-reads
 use Rattle.memory.proofs.bytes.get16.Reads as get16-reads
+use Rattle.memory.proofs.bytes.put16.Reads as put16-reads
 
 abbrev Inv-loop : tie.InvT-loop
-Inv-loop arcs at c pairs target next₀ i₀ next i = Progress arcs at c pairs next i
+Inv-loop own arcs at row₀ pairs target i₀ row i = Filling own arcs at pairs row i × (length row ≡ length row₀)
 
 abbrev μ-loop : tie.MeasureT-loop
-μ-loop arcs at c pairs target next₀ i₀ next i = pairs .used - i
+μ-loop own arcs at row₀ pairs target i₀ row i = pairs .used - i
 
 add-get16 : tie.Need-add-get16 Inv-loop μ-loop
 add-get16 c = search needs
 
 get16-requires : tie.Need-get16-requires Inv-loop μ-loop
-get16-requires c κs = omega (arith, c .before .pre .whole)
+get16-requires c κs = let s = c .before .before .before in omega (arith, s .pre .0 .whole)
 
-start-config-requires : tie.Need-start-config-requires Inv-loop μ-loop
-start-config-requires c κs = search needs
+put16-requires : tie.Need-put16-requires Inv-loop μ-loop
+put16-requires c κs = let s = c .before .before .before .before .before in omega (arith, length-row _ _ (s .pre .2))
 
 loop-holds : tie.Need-loop-holds Inv-loop μ-loop
-loop-holds c = let s = c .before .before .before in progress-start _ _ _ _ (s .pre) _ _ (c .before .get16 .ensures) (c .start-config .ensures)
-
-mul-l : tie.Need-mul-l Inv-loop μ-loop
-mul-l c = search needs
-
-element-copy-out-l : tie.Need-element-copy-out-l Inv-loop μ-loop
-element-copy-out-l c = search needs
+loop-holds c = let s = c .before .before .before .before .before .before .before .before in (filling-start _ _ _ _ (s .pre .0) (s .pre .1) _ _ _ (search needs) (s .pre .2) (c .before .before .before .before .get16 .ensures) (c .before .before .put16 .ensures), search needs)
 
 mul-p : tie.Need-mul-p Inv-loop μ-loop
 mul-p c = search needs
@@ -42,19 +38,14 @@ mul-p c = search needs
 element-copy-out-p : tie.Need-element-copy-out-p Inv-loop μ-loop
 element-copy-out-p c = search needs
 
-advance-pair-requires : tie.Need-advance-pair-requires Inv-loop μ-loop
-advance-pair-requires c κs = let s = c .before .before .before .before .before .before .before in let h = c .before .before .loop-test .taken in
-    (s .pre .whole, (s .pre .named .each _ h, (s .pre .short _ h, (s .pre .first-fits _ h, s .pre .second-fits _ h))))
+advance-slot-requires : tie.Need-advance-slot-requires Inv-loop μ-loop
+advance-slot-requires c κs = let s = c .before .before .before .before .before .before .before .before .before .before .before .before in may-advance _ _ _ _ (s .pre .0) (s .pre .1) _ _ (c .before .before .before .loop .inv .0) (c .before .before .loop-test .taken)
 
-start-config-requires-2 : tie.Need-start-config-requires-2 Inv-loop μ-loop
-start-config-requires-2 c κs = search needs
+same-length : tie.Need-same-length Inv-loop μ-loop
+same-length c = search needs
 
 returns : tie.Need-returns Inv-loop μ-loop
-returns c = let s = c .before .before .before .before .before .before .before .before .before .before .before in
-    follows-none _ _ _ _ (s .pre) _ _ (c .before .before .before .before .before .before .before .loop .inv) (c .before .before .before .before .before .before .loop-test .taken) _ (c .before .before .before .advance-pair .ensures) (c .before .if1 .taken) _ _ (c .start-config2 .ensures)
-
-with-leftover-requires : tie.Need-with-leftover-requires Inv-loop μ-loop
-with-leftover-requires c κs = search needs
+returns c = let s = c .before .before .before .before .before .before .before .before .before .before .before .before .before .before .before .before in follows-not _ _ _ _ (s .pre .0) (s .pre .1) _ _ (c .before .before .before .before .before .before .before .loop .inv .0) (c .before .before .before .before .before .before .loop-test .taken) _ _ (c .before .before .before .advance-slot .ensures) (c .if1 .taken)
 
 add-i : tie.Need-add-i Inv-loop μ-loop
 add-i c = search needs
@@ -63,11 +54,13 @@ loop-less : tie.Need-loop-less Inv-loop μ-loop
 loop-less c = search needs
 
 loop-again : tie.Need-loop-again Inv-loop μ-loop
-loop-again c = let s = c .before .before .before .before .before .before .before .before .before .before .before in
-    progress-next _ _ _ _ (s .pre) _ _ (c .before .before .before .before .before .before .before .loop .inv) (c .before .before .before .before .before .before .loop-test .taken) _ (c .before .before .before .advance-pair .ensures) (c .before .if1 .left) _ (c .with-leftover .ensures)
+loop-again c = let s = c .before .before .before .before .before .before .before .before .before .before .before .before .before .before .before .before in (filling-next _ _ _ _ (s .pre .0) (s .pre .1) _ _ (c .before .before .before .before .before .before .before .loop .inv .0) (c .before .before .before .before .before .before .loop-test .taken) _ _ (c .before .before .before .advance-slot .ensures) (c .if1 .left), search needs)
+
+same-length-2 : tie.Need-same-length-2 Inv-loop μ-loop
+same-length-2 c = search needs
 
 returns-2 : tie.Need-returns-2 Inv-loop μ-loop
-returns-2 c = let s = c .before .before .before .before .before in follows-some _ _ _ _ (s .pre) _ _ (c .before .loop .inv) (c .loop-test .left)
+returns-2 c = let s = c .before .before .before .before .before .before .before .before .before .before in follows-all _ _ _ _ (s .pre .0) (s .pre .1) _ _ (c .before .loop .inv .0) (c .loop-test .left)
 
 pub follow-spec : {M : Type 1} → statement M
 follow-spec =
@@ -77,17 +70,15 @@ follow-spec =
     μ-loop
     add-get16
     get16-requires
-    start-config-requires
+    put16-requires
     loop-holds
-    mul-l
-    element-copy-out-l
     mul-p
     element-copy-out-p
-    advance-pair-requires
-    start-config-requires-2
+    advance-slot-requires
+    same-length
     returns
-    with-leftover-requires
     add-i
     loop-less
     loop-again
+    same-length-2
     returns-2)

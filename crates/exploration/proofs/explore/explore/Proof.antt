@@ -5,6 +5,7 @@ use Rattle.exploration.proofs.explore.explore.Statement.{statement}
 use Rattle.exploration.proofs.explore.explore.Tie as tie
 use Rattle.exploration.proofs.explore.explore.Reads as reads
 use Rattle.exploration.proofs.explore.explore.Lts as lts
+use Rattle.chains.proofs.clear.Reads as clear-reads
 use Rattle.delays.proofs.closing_tables.Reads as closing-tables-reads
 use Rattle.exploration.proofs.explore.begin.Reads as begin-reads
 use Rattle.exploration.proofs.explore.run.Reads as run-reads
@@ -12,18 +13,30 @@ use Rattle.exploration.proofs.explore.run.Reads as run-reads
 closing-tables-requires : tie.Need-closing-tables-requires
 closing-tables-requires c κs = search needs
 
+clear-requires : tie.Need-clear-requires
+clear-requires c κs = search needs
+
 begin-requires : tie.Need-begin-requires
-begin-requires c κs = let s = c .before .before .before .before .before .before .before .before .before .before .before in may-begin _ _ _ _ (s .pre) _ (c .before .before .before .closing-tables .ensures)
+begin-requires c κs = let s = c .before .before .before .before .before .before .before .before .before .before .before .before .before .before .before in may-begin _ _ _ _ (s .pre) _ (c .before .before .before .before .before .before .before .closing-tables .ensures) _ (c .before .before .before .clear .ensures)
 
 run-requires : tie.Need-run-requires
-run-requires c κs = let s = c .before .before .before .before .before .before .before .before .before .before .before .before .before .before .before in may-run _ _ _ _ (s .pre) _ (c .before .before .before .before .before .before .before .closing-tables .ensures) _ _ (c .before .before .before .begin .ensures)
+run-requires c κs = let s = c .before .before .before .before .before .before .before .before .before .before .before .before .before .before .before .before .before .before .before in may-run _ _ _ _ (s .pre) _ (c .before .before .before .before .before .before .before .before .before .before .before .closing-tables .ensures) _ (c .before .before .before .before .before .before .before .clear .ensures) _ _ (c .before .before .before .begin .ensures)
 
 same-length : tie.Need-same-length
 same-length c = search needs
 
 returns : tie.Need-returns
-returns c = let s = c .before .before .before .before .before .before .before .before .before .before .before .before .before .before .before .before .before .before in explored _ _ _ _ (s .pre) _ (c .before .before .before .before .before .before .before .before .before .before .closing-tables .ensures) _ _ (c .before .before .before .before .before .before .begin .ensures) _ _ (c .before .before .run .ensures)
+returns c =
+    let s = c .before .before .before .before .before .before .before .before .before .before .before .before .before .before .before .before .before .before .before .before .before .before in
+    explored _ _ _ _ (s .pre) _ (c .before .before .before .before .before .before .before .before .before .before .before .before .before .before .closing-tables .ensures) _ (c .before .before .before .before .before .before .before .before .before .before .clear .ensures) _ _ (c .before .before .before .before .before .before .begin .ensures) _ _ (c .before .before .run .ensures)
 
 pub explore-spec : {M : Type 1} → statement M
 explore-spec =
-    tie.close (tie.spec closing-tables-requires begin-requires run-requires same-length returns)
+    tie.close
+    (tie.spec
+    closing-tables-requires
+    clear-requires
+    begin-requires
+    run-requires
+    same-length
+    returns)

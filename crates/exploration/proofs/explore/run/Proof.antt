@@ -1,59 +1,46 @@
 -- `exploration::explore::run` meets its contract. Assumes nothing.
-use native.Mathlib.Omega.{arith}
-use Prim.Native.Nat.{_-_}
-use Rattle.exploration.proofs.RunLaws.{Running, run-none, run-start, run-requires, run-room, run-next, run-full, run-end}
+use Rattle.exploration.proofs.RunLaws.{chainable}
 use borrow.Author.Needs.{needs}
 use Rattle.exploration.proofs.explore.run.Statement.{statement}
 use Rattle.exploration.proofs.explore.run.Tie as tie
 use Rattle.exploration.proofs.explore.run.Reads as reads
 use Rattle.exploration.proofs.explore.run.Lts as lts
-use Rattle.config_search.proofs.head.Head.take_up.Reads as take-up-reads
+use Rattle.adjacency.proofs.chain_arcs.Reads as chain-arcs-reads
+use Rattle.exploration.proofs.explore.run_chained.Reads as run-chained-reads
 
-abbrev Inv-loop : tie.InvT-loop
-Inv-loop plan arcs work₀ head₀ work head = Running plan head₀ arcs work₀ head work
+slice-aggregate-chain-arcs : tie.Need-slice-aggregate-chain-arcs
+slice-aggregate-chain-arcs c = search needs
 
-abbrev μ-loop : tie.MeasureT-loop
-μ-loop plan arcs work₀ head₀ work head = plan .room .states - head .taken
+slice-aggregate-chain-arcs-2 : tie.Need-slice-aggregate-chain-arcs-2
+slice-aggregate-chain-arcs-2 c = search needs
 
-returns : tie.Need-returns Inv-loop μ-loop
-returns c = let s = c .before .before .before in run-none _ _ _ _ (s .pre) (c .if1 .taken)
+chain-arcs-requires : tie.Need-chain-arcs-requires
+chain-arcs-requires c κs = let s = c .before .before .before .before .before in chainable _ _ _ _ (s .pre .explorable)
 
-loop-holds : tie.Need-loop-holds Inv-loop μ-loop
-loop-holds c = let s = c .before .before .before in run-start _ _ _ _ (s .pre) (c .if1 .left)
+slice-aggregate-run-chained : tie.Need-slice-aggregate-run-chained
+slice-aggregate-run-chained c = search needs
 
-take-up-requires : tie.Need-take-up-requires Inv-loop μ-loop
-take-up-requires c κs = let s = c .before .before .before .before .before .before .before in run-requires _ _ _ _ (s .pre) _ _ (c .before .before .before .loop .inv) (c .before .if2 .taken)
+slice-aggregate-run-chained-2 : tie.Need-slice-aggregate-run-chained-2
+slice-aggregate-run-chained-2 c = search needs
 
-same-length : tie.Need-same-length Inv-loop μ-loop
+run-chained-requires : tie.Need-run-chained-requires
+run-chained-requires c κs = search needs
+
+same-length : tie.Need-same-length
 same-length c = search needs
 
-returns-2 : tie.Need-returns-2 Inv-loop μ-loop
-returns-2 c = let s = c .before .before .before .before .before .before .before .before .before .before .before in run-full _ _ _ _ (s .pre) _ _ (c .before .before .before .before .before .before .before .loop .inv) (c .before .before .before .before .before .if2 .taken) _ _ (c .before .before .before .take-up .ensures) (c .if3 .taken)
-
-loop-less : tie.Need-loop-less Inv-loop μ-loop
-loop-less c = let s = c .before .before .before .before .before .before .before .before .before .before .before in omega (arith, run-room _ _ _ _ (s .pre) _ _ (c .before .before .before .before .before .before .before .loop .inv) (c .before .before .before .before .before .if2 .taken), c .before .before .before .take-up .ensures .taken (c .if3 .left))
-
-loop-again : tie.Need-loop-again Inv-loop μ-loop
-loop-again c = let s = c .before .before .before .before .before .before .before .before .before .before .before in run-next _ _ _ _ (s .pre) _ _ (c .before .before .before .before .before .before .before .loop .inv) (c .before .before .before .before .before .if2 .taken) _ _ (c .before .before .before .take-up .ensures) (c .if3 .left)
-
-same-length-2 : tie.Need-same-length-2 Inv-loop μ-loop
-same-length-2 c = search needs
-
-returns-3 : tie.Need-returns-3 Inv-loop μ-loop
-returns-3 c = let s = c .before .before .before .before .before .before in run-end _ _ _ _ (s .pre) _ _ (c .before .before .loop .inv) (c .if2 .left)
+returns : tie.Need-returns
+returns c = search needs
 
 pub run-spec : {M : Type 1} → statement M
 run-spec =
     tie.close
     (tie.spec
-    Inv-loop
-    μ-loop
-    returns
-    loop-holds
-    take-up-requires
+    slice-aggregate-chain-arcs
+    slice-aggregate-chain-arcs-2
+    chain-arcs-requires
+    slice-aggregate-run-chained
+    slice-aggregate-run-chained-2
+    run-chained-requires
     same-length
-    returns-2
-    loop-less
-    loop-again
-    same-length-2
-    returns-3)
+    returns)

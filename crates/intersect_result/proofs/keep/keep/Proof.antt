@@ -12,11 +12,8 @@ use Rattle.trimming.proofs.rank.number_marked.Reads as number-marked-reads
 mark-final-requires : tie.Need-mark-final-requires
 mark-final-requires c κs = search needs
 
-slice-aggregate-mark-coaccessible : tie.Need-slice-aggregate-mark-coaccessible
-slice-aggregate-mark-coaccessible c = search needs
-
 mark-coaccessible-requires : tie.Need-mark-coaccessible-requires
-mark-coaccessible-requires c κs = (search needs, search needs, search needs, search needs, finals-bits _ _ _ _ _ (c .before .before .before .before .mark-final .ensures))
+mark-coaccessible-requires c κs = (search needs, search needs, search needs, finals-bits _ _ _ _ _ (c .before .before .before .mark-final .ensures))
 
 number-marked-requires : tie.Need-number-marked-requires
 number-marked-requires c κs = search needs
@@ -28,14 +25,13 @@ same-length-2 : tie.Need-same-length-2
 same-length-2 c = search needs
 
 returns : tie.Need-returns
-returns c = rows-kept _ _ _ _ _ (c .before .before .before .before .before .before .before .before .before .before .before .before .before .mark-final .ensures) _ _ _ _ _ (c .before .before .before .before .before .before .before .before .mark-coaccessible .ensures) (c .before .before .number-marked .ensures)
+returns c = rows-kept _ _ _ _ _ (c .before .before .before .before .before .before .before .before .before .before .before .mark-final .ensures) _ _ _ _ _ (c .before .before .before .before .before .before .before .mark-coaccessible .ensures) (c .before .before .number-marked .ensures)
 
 pub keep-spec : {M : Type 1} → statement M
 keep-spec =
     tie.close
     (tie.spec
     mark-final-requires
-    slice-aggregate-mark-coaccessible
     mark-coaccessible-requires
     number-marked-requires
     same-length

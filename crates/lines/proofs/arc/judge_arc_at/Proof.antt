@@ -1,8 +1,4 @@
 -- `lines::arc::judge_arc_at` meets its contract. Assumes nothing.
-use mathlib.Core.Path.{_≡_, refl, sym, ap, _∙_}
-use native.Mathlib.Omega.{arith}
-use denote.Ref.{now}
-use Rattle.automata.specs.Answer.{forget}
 use Rattle.lines.proofs.SequenceLaws.{arc-short, arc-at-judged}
 use borrow.Author.Needs.{needs}
 use Rattle.lines.proofs.arc.judge_arc_at.Statement.{statement}
@@ -10,7 +6,6 @@ use Rattle.lines.proofs.arc.judge_arc_at.Tie as tie
 use Rattle.lines.proofs.arc.judge_arc_at.Reads as reads
 use Rattle.lines.proofs.arc.judge_arc_at.Lts as lts
 use Rattle.lines.proofs.arc.judge_arc_line.Reads as judge-arc-line-reads
-use Rattle.lines.proofs.arc.read_arc_line.Reads as read-arc-line-reads
 
 mul-width : tie.Need-mul-width
 mul-width c = search needs
@@ -24,26 +19,23 @@ sub-if1 c = search needs
 returns : tie.Need-returns
 returns c = let s = c .before .before in arc-short (s .args .tapes) (s .args .states) _ (s .args .at) (s .pre .0) (c .if1 .taken)
 
-add-read-arc-line : tie.Need-add-read-arc-line
-add-read-arc-line c = search needs
+add-judge-arc-line : tie.Need-add-judge-arc-line
+add-judge-arc-line c = search needs
 
-sub-read-arc-line : tie.Need-sub-read-arc-line
-sub-read-arc-line c = search needs
+sub-judge-arc-line : tie.Need-sub-judge-arc-line
+sub-judge-arc-line c = search needs
 
-part-read-arc-line-start : tie.Need-part-read-arc-line-start
-part-read-arc-line-start c = search needs
+part-judge-arc-line-start : tie.Need-part-judge-arc-line-start
+part-judge-arc-line-start c = search needs
 
-part-read-arc-line-end : tie.Need-part-read-arc-line-end
-part-read-arc-line-end c = search needs
-
-read-arc-line-requires : tie.Need-read-arc-line-requires
-read-arc-line-requires c κs = search needs
+part-judge-arc-line-end : tie.Need-part-judge-arc-line-end
+part-judge-arc-line-end c = search needs
 
 judge-arc-line-requires : tie.Need-judge-arc-line-requires
 judge-arc-line-requires c κs = search needs
 
 returns-2 : tie.Need-returns-2
-returns-2 c = let s = c .before .before .before .before .before in arc-at-judged (s .args .tapes) (s .args .states) _ (s .args .at) (s .pre .0) (c .judge-arc-line .result) (c .before .before .before .if1 .left) (c .judge-arc-line .ensures ∙ ap forget (c .before .read-arc-line .ensures))
+returns-2 c = let s = c .before .before .before .before in arc-at-judged (s .args .tapes) (s .args .states) _ (s .args .at) (s .pre .0) (c .judge-arc-line .result) (c .before .before .if1 .left) (c .judge-arc-line .ensures)
 
 pub judge-arc-at-spec : {M : Type 1} → statement M
 judge-arc-at-spec =
@@ -53,10 +45,9 @@ judge-arc-at-spec =
     add-width
     sub-if1
     returns
-    add-read-arc-line
-    sub-read-arc-line
-    part-read-arc-line-start
-    part-read-arc-line-end
-    read-arc-line-requires
+    add-judge-arc-line
+    sub-judge-arc-line
+    part-judge-arc-line-start
+    part-judge-arc-line-end
     judge-arc-line-requires
     returns-2)

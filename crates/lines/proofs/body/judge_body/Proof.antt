@@ -30,7 +30,7 @@ add-at : tie.Need-add-at
 add-at c = search needs
 
 judge-arcs-requires : tie.Need-judge-arcs-requires
-judge-arcs-requires c κs = let s = c .before .before .before .before in let t = c .before .before .judge-states in (body-room (s .args .tapes) (s .args .states) (s .args .arcs) (now (s .args .text)) (s .pre .0) (t .result) (t .ensures) (c .enum-told .given .1), s .pre .1)
+judge-arcs-requires c κs = let s = c .before .before .before .before in let t = c .before .before .judge-states in (body-room (s .args .tapes) (s .args .states) (s .args .arcs) (now (s .args .text)) (s .pre .0) (t .result) (t .ensures) (c .enum-told .given .1), s .pre .1 .0)
 
 enum-told-3 : tie.Need-enum-told-3
 enum-told-3 c = search needs

@@ -12,7 +12,7 @@ use Rattle.memory.proofs.judge.all_symbols.Statement.{statement}
 use Rattle.memory.proofs.judge.all_symbols.Tie as tie
 use Rattle.memory.proofs.judge.all_symbols.Reads as reads
 use Rattle.memory.proofs.judge.all_symbols.Lts as lts
-use Rattle.memory.proofs.symbol.is_symbol.Reads as is-symbol-reads
+use Rattle.memory.proofs.symbol.has_number.Reads as has-number-reads
 
 abbrev Inv-loop : tie.InvT-loop
 Inv-loop bytes i₀ i-end i = (i ≤ length bytes) × (i-end ≡ length bytes) × (all isSymbol (drop i bytes) ≡ all isSymbol bytes)
@@ -23,14 +23,14 @@ abbrev μ-loop : tie.MeasureT-loop
 loop-holds : tie.Need-loop-holds Inv-loop μ-loop
 loop-holds c = (search needs, search needs, refl)
 
-shared-slice-read-is-symbol : tie.Need-shared-slice-read-is-symbol Inv-loop μ-loop
-shared-slice-read-is-symbol c = search needs
+shared-slice-read-has-number : tie.Need-shared-slice-read-has-number Inv-loop μ-loop
+shared-slice-read-has-number c = search needs
 
-is-symbol-requires : tie.Need-is-symbol-requires Inv-loop μ-loop
-is-symbol-requires c κs = search needs
+has-number-requires : tie.Need-has-number-requires Inv-loop μ-loop
+has-number-requires c κs = search needs
 
 returns : tie.Need-returns Inv-loop μ-loop
-returns c = let l = c .before .before .before .before .loop in all-stop isSymbol _ (l .i) (search needs) (sym (c .before .is-symbol .ensures) ∙ not-true _ (c .if1 .taken)) ∙ l .inv .2
+returns c = let l = c .before .before .before .before .loop in all-stop isSymbol _ (l .i) (search needs) (sym (c .before .has-number .ensures) ∙ not-true _ (c .if1 .taken)) ∙ l .inv .2
 
 add-i : tie.Need-add-i Inv-loop μ-loop
 add-i c = search needs
@@ -39,7 +39,7 @@ loop-less : tie.Need-loop-less Inv-loop μ-loop
 loop-less c = search needs
 
 loop-again : tie.Need-loop-again Inv-loop μ-loop
-loop-again c = let l = c .before .before .before .before .loop in (search needs, search needs, all-turn isSymbol _ (l .i) (search needs) (sym (c .before .is-symbol .ensures) ∙ not-false _ (c .if1 .left)) ∙ l .inv .2)
+loop-again c = let l = c .before .before .before .before .loop in (search needs, search needs, all-turn isSymbol _ (l .i) (search needs) (sym (c .before .has-number .ensures) ∙ not-false _ (c .if1 .left)) ∙ l .inv .2)
 
 returns-2 : tie.Need-returns-2 Inv-loop μ-loop
 returns-2 c = let l = c .before .loop in all-end isSymbol _ (l .i) (omega arith) ∙ l .inv .2
@@ -51,8 +51,8 @@ all-symbols-spec =
     Inv-loop
     μ-loop
     loop-holds
-    shared-slice-read-is-symbol
-    is-symbol-requires
+    shared-slice-read-has-number
+    has-number-requires
     returns
     add-i
     loop-less

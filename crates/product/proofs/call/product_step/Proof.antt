@@ -1,5 +1,5 @@
 -- `product::call::product_step` meets its contract. Assumes nothing.
-use Rattle.product.proofs.CallLaws.{explorable, settleable, stepped}
+use Rattle.product.proofs.CallLaws.{limited, settleable, stepped}
 use mathlib.Core.Path.{refl}
 use borrow.Author.Needs.{needs}
 use Rattle.product.proofs.call.product_step.Statement.{statement}
@@ -14,7 +14,7 @@ plan-for-requires : tie.Need-plan-for-requires
 plan-for-requires c κs = search needs
 
 explore-requires : tie.Need-explore-requires
-explore-requires c κs = explorable _ _ _ _ _ _ _ _ _ (c .before .before .before .before .before .before .before .before .before .pre) _ (c .before .plan-for .ensures)
+explore-requires c κs = limited _ _ _ _ _ _ _ _ _ (c .before .before .before .before .before .before .before .before .before .pre) _ (c .before .plan-for .ensures)
 
 settle-requires : tie.Need-settle-requires
 settle-requires c κs = settleable _ _ _ _ _ _ _ _ _ (c .before .before .before .before .before .before .before .before .before .before .before .before .before .before .before .pre) _ (c .before .before .before .before .before .before .before .plan-for .ensures) _ _ _ refl (c .before .before .before .before .before .explore .ensures)

@@ -17,7 +17,7 @@ use Rattle.product_records.proofs.sum.vertex_state.Reads as vertex-stat
 
 abbrev Inv-loop : tie.InvT-loop
 Inv-loop work count first-states second-states left₀ at₀ left at =
-    (at + 4 * left ≤ length work) × Vertices first-states second-states (verticesAt at left work)
+    (at + 16 * left ≤ length work) × Vertices first-states second-states (verticesAt at left work)
     × (statesFit first-states second-states (verticesAt at left work) ≡ statesFit first-states second-states (verticesAt 0 count work))
 
 abbrev μ-loop : tie.MeasureT-loop

@@ -18,7 +18,7 @@ use Rattle.product_records.proofs.sum.vertex_state.Reads as vertex-stat
 
 abbrev Inv-loop : tie.InvT-loop
 Inv-loop work count first-states second-states out₀ left₀ at₀ to₀ out left at to =
-    (at + 4 * left ≤ length work) × (to + 10 * left ≤ length out) × (length out ≡ length out₀) × Vertices first-states second-states (verticesAt at left work)
+    (at + 16 * left ≤ length work) × (to + 10 * left ≤ length out) × (length out ≡ length out₀) × Vertices first-states second-states (verticesAt at left work)
     × (splice to (stateRecords first-states second-states (verticesAt at left work)) out ≡ splice 0 (stateRecords first-states second-states (verticesAt 0 count work)) out₀)
 
 abbrev μ-loop : tie.MeasureT-loop

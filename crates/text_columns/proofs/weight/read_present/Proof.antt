@@ -2,7 +2,6 @@
 use mathlib.Core.Path.{_≡_, refl, sym, ap, _∙_}
 use native.Mathlib.Omega.{arith}
 use denote.Ref.{now}
-use Rattle.text_columns.proofs.ColumnLaws.{refused-low}
 use Rattle.text_columns.proofs.WeightLaws.{present-refused, present-size, present-value}
 use borrow.Author.Needs.{needs}
 use Rattle.text_columns.proofs.weight.read_present.Statement.{statement}
@@ -21,13 +20,13 @@ enum-told : tie.Need-enum-told
 enum-told c = search needs
 
 returns : tie.Need-returns
-returns c = let s = c .before .before .before .before in (present-refused _ (s .pre) _ _ (c .before .before .read-decimal .ensures) (c .enum-told .given .1), refused-low _ _ _ (c .enum-told .given .1))
+returns c = let s = c .before .before .before .before in present-refused _ (s .pre) _ _ (c .before .before .read-decimal .ensures) (c .enum-told .given .1)
 
 returns-2 : tie.Need-returns-2
-returns-2 c = let s = c .before .before .before .before .before .before in (present-size _ (s .pre) _ _ (c .before .before .before .before .read-decimal .ensures) (c .before .before .read .given .1) (c .if1 .taken), omega arith)
+returns-2 c = let s = c .before .before .before .before .before .before in present-size _ (s .pre) _ _ (c .before .before .before .before .read-decimal .ensures) (c .before .before .read .given .1) (c .if1 .taken)
 
 returns-3 : tie.Need-returns-3
-returns-3 c = let s = c .before .before .before .before .before .before in (present-value _ (s .pre) _ _ (c .before .before .before .before .read-decimal .ensures) (c .before .before .read .given .1) (c .if1 .left), omega arith)
+returns-3 c = let s = c .before .before .before .before .before .before in present-value _ (s .pre) _ _ (c .before .before .before .before .read-decimal .ensures) (c .before .before .read .given .1) (c .if1 .left)
 
 pub read-present-spec : {M : Type 1} → statement M
 read-present-spec =

@@ -13,8 +13,7 @@ use Rattle.text_print.proofs.print.print_labels.Statement.{statement}
 use Rattle.text_print.proofs.print.print_labels.Tie as tie
 use Rattle.text_print.proofs.print.print_labels.Reads as reads
 use Rattle.text_print.proofs.print.print_labels.Lts as lts
-use Rattle.memory.proofs.bytes.copy_into.Reads as copy-into-reads
-use Rattle.text_print.proofs.print.label_columns.Reads as label-columns-reads
+use Rattle.text_print.proofs.print.print_label.Reads as print-label-reads
 
 abbrev Inv-loop : tie.InvT-loop
 Inv-loop records tapes out₀ start left₀ at₀ to₀ out left at to = (at + left * 9 ≤ length records) × (to + left * 9 ≤ length out) × (length out ≡ length out₀)
@@ -26,26 +25,20 @@ abbrev μ-loop : tie.MeasureT-loop
 loop-holds : tie.Need-loop-holds Inv-loop μ-loop
 loop-holds c = (search needs, search needs, search needs, refl)
 
-add-label-columns : tie.Need-add-label-columns Inv-loop μ-loop
-add-label-columns c = search needs
+add-print-label : tie.Need-add-print-label Inv-loop μ-loop
+add-print-label c = search needs
 
-sub-label-columns : tie.Need-sub-label-columns Inv-loop μ-loop
-sub-label-columns c = search needs
+sub-print-label : tie.Need-sub-print-label Inv-loop μ-loop
+sub-print-label c = search needs
 
-part-label-columns-start : tie.Need-part-label-columns-start Inv-loop μ-loop
-part-label-columns-start c = search needs
+part-print-label-start : tie.Need-part-print-label-start Inv-loop μ-loop
+part-print-label-start c = search needs
 
-part-label-columns-end : tie.Need-part-label-columns-end Inv-loop μ-loop
-part-label-columns-end c = search needs
+part-print-label-end : tie.Need-part-print-label-end Inv-loop μ-loop
+part-print-label-end c = search needs
 
-label-columns-requires : tie.Need-label-columns-requires Inv-loop μ-loop
-label-columns-requires c κs = search needs
-
-slice-aggregate-copy-into : tie.Need-slice-aggregate-copy-into Inv-loop μ-loop
-slice-aggregate-copy-into c = search needs
-
-copy-into-requires : tie.Need-copy-into-requires Inv-loop μ-loop
-copy-into-requires c κs = search needs
+print-label-requires : tie.Need-print-label-requires Inv-loop μ-loop
+print-label-requires c κs = search needs
 
 sub-left : tie.Need-sub-left Inv-loop μ-loop
 sub-left c = search needs
@@ -60,12 +53,12 @@ loop-less : tie.Need-loop-less Inv-loop μ-loop
 loop-less c = search needs
 
 loop-again : tie.Need-loop-again Inv-loop μ-loop
-loop-again c = let l = c .before .before .before .before .before .before .before .before .loop in
-    let k = c .before .before .copy-into .kept .0 in (
+loop-again c = let l = c .before .before .before .before .before .before .loop in
+    let k = c .before .before .print-label .kept .1 .0 in (
       omega arith,
       omega (arith, k),
       k ∙ l .inv .2,
-      recode-turn columnsOfLabel 9 9 label-sized _ _ _ (l .at) (l .to) (l .left) (c .before .before .before .before .before .before .before .loop-test .taken) (l .inv .0) (l .inv .1) (c .before .before .copy-into .ensures ∙ ap (λ r. splice (l .to) r (l .out)) (c .before .before .before .before .before .label-columns .ensures)) ∙ l .inv .3,
+      recode-turn columnsOfLabel 9 9 label-sized _ _ _ (l .at) (l .to) (l .left) (c .before .before .before .before .before .loop-test .taken) (l .inv .0) (l .inv .1) (c .before .before .print-label .ensures) ∙ l .inv .3,
     )
 
 same-length : tie.Need-same-length Inv-loop μ-loop
@@ -81,13 +74,11 @@ print-labels-spec =
     Inv-loop
     μ-loop
     loop-holds
-    add-label-columns
-    sub-label-columns
-    part-label-columns-start
-    part-label-columns-end
-    label-columns-requires
-    slice-aggregate-copy-into
-    copy-into-requires
+    add-print-label
+    sub-print-label
+    part-print-label-start
+    part-print-label-end
+    print-label-requires
     sub-left
     add-at
     add-to

@@ -1,21 +1,13 @@
 -- `text_store::store::store_arc_line` meets its contract. Assumes nothing.
-use Rattle.text_store.proofs.StoredLaws.{arc-stored}
 use borrow.Author.Needs.{needs}
+use Rattle.text_store.proofs.StoredLaws.{arc-stored}
 use Rattle.text_store.proofs.store.store_arc_line.Statement.{statement}
 use Rattle.text_store.proofs.store.store_arc_line.Tie as tie
 use Rattle.text_store.proofs.store.store_arc_line.Reads as reads
 use Rattle.text_store.proofs.store.store_arc_line.Lts as lts
-use Rattle.lines.proofs.arc.numbers_of.Reads as numbers-of-reads
-use Rattle.lines.proofs.arc.read_arc_line.Reads as read-arc-line-reads
 use Rattle.text_store.proofs.store.store_labels.Reads as store-labels-reads
 use Rattle.text_store.proofs.store.store_no_labels.Reads as store-no-labels-reads
 use Rattle.text_store.proofs.store.store_numbers.Reads as store-numbers-reads
-
-read-arc-line-requires : tie.Need-read-arc-line-requires
-read-arc-line-requires c κs = search needs
-
-numbers-of-requires : tie.Need-numbers-of-requires
-numbers-of-requires c κs = search needs
 
 store-numbers-requires : tie.Need-store-numbers-requires
 store-numbers-requires c κs = search needs
@@ -45,16 +37,13 @@ same-length : tie.Need-same-length
 same-length c = search needs
 
 returns : tie.Need-returns
-returns c = let s = c .before .before .before .before .before .before .before .before .before .before .before .before .before .before .before .before .before in
-    arc-stored (s .args .tapes) (s .args .states) _ (s .pre .0 .0) (s .args .at) _ _ _ _ _ (c .before .before .before .before .before .before .before .before .before .before .before .before .before .before .read-arc-line .result) (s .pre .1 .0) (s .pre .1 .1)
-    (c .before .before .before .before .before .before .before .before .before .before .before .store-numbers .ensures) (c .before .before .before .before .before .before .before .before .before .before .before .before .before .numbers-of .ensures) (c .before .before .before .before .before .before .before .before .before .before .before .before .before .before .read-arc-line .ensures) (c .before .before .before .before .before .before .before .store-no-labels .ensures) (c .before .before .store-labels .ensures)
+returns c = let s = c .before .before .before .before .before .before .before .before .before .before .before .before .before .before .before in
+    arc-stored (s .args .tapes) _ (s .pre .0) (s .args .at) _ _ _ _ (s .pre .1 .0) (s .pre .1 .1) (c .before .before .before .before .before .before .before .before .before .before .before .store-numbers .ensures) (c .before .before .before .before .before .before .before .store-no-labels .ensures) (c .before .before .store-labels .ensures)
 
 pub store-arc-line-spec : {M : Type 1} → statement M
 store-arc-line-spec =
     tie.close
     (tie.spec
-    read-arc-line-requires
-    numbers-of-requires
     store-numbers-requires
     add-store-no-labels
     store-no-labels-requires

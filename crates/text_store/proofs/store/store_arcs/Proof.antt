@@ -16,11 +16,11 @@ use Rattle.text_store.proofs.store.store_arcs.Lts as lts
 use Rattle.text_store.proofs.store.store_arc_line.Reads as store-arc-line-reads
 
 abbrev Inv-loop : tie.InvT-loop
-Inv-loop text start count tapes states arcs₀ width left₀ at₀ to₀ arcs left at to = (at + left * width ≤ length text) × (width ≡ 23 + tapes * 9) × (to + left * 80 ≤ length arcs) × (length arcs ≡ length arcs₀)
-    × (splice to (recoded (arcOfLine tapes states) (23 + tapes * 9) left (drop at text)) arcs ≡ splice 0 (recoded (arcOfLine tapes states) (23 + tapes * 9) count (drop start text)) arcs₀)
+Inv-loop text start count tapes arcs₀ width left₀ at₀ to₀ arcs left at to = (at + left * width ≤ length text) × (width ≡ 23 + tapes * 9) × (to + left * 80 ≤ length arcs) × (length arcs ≡ length arcs₀)
+    × (splice to (recoded (arcOfLine tapes) (23 + tapes * 9) left (drop at text)) arcs ≡ splice 0 (recoded (arcOfLine tapes) (23 + tapes * 9) count (drop start text)) arcs₀)
 
 abbrev μ-loop : tie.MeasureT-loop
-μ-loop text start count tapes states arcs₀ width left₀ at₀ to₀ arcs left at to = left
+μ-loop text start count tapes arcs₀ width left₀ at₀ to₀ arcs left at to = left
 
 mul-width : tie.Need-mul-width Inv-loop μ-loop
 mul-width c = search needs
@@ -62,19 +62,19 @@ loop-again : tie.Need-loop-again Inv-loop μ-loop
 loop-again c = let s = c .before .before .before .before .before .before .before .before .before in
     let l = c .before .before .before .before .before .before .loop in
     let p = product-turn (l .left) (23 + s .args .tapes * 9) (c .before .before .before .before .before .loop-test .taken) in
-    let k = c .before .before .store-arc-line .kept .1 .1 .1 .0 in (
+    let k = c .before .before .store-arc-line .kept .1 .1 .0 in (
       omega (arith, l .inv .0),
       refl,
       omega (arith, k, l .inv .2),
       k ∙ l .inv .3,
-      recode-turn (arcOfLine (s .args .tapes) (s .args .states)) (23 + s .args .tapes * 9) 80 (λ y e. arc-sized (s .args .tapes) (s .args .states) y e (s .pre .1 .0)) _ _ _ (l .at) (l .to) (l .left) (c .before .before .before .before .before .loop-test .taken) (l .inv .0) (l .inv .2) (c .before .before .store-arc-line .ensures) ∙ l .inv .4,
+      recode-turn (arcOfLine (s .args .tapes)) (23 + s .args .tapes * 9) 80 (λ y e. arc-sized (s .args .tapes) y e (s .pre .1 .0)) _ _ _ (l .at) (l .to) (l .left) (c .before .before .before .before .before .loop-test .taken) (l .inv .0) (l .inv .2) (c .before .before .store-arc-line .ensures) ∙ l .inv .4,
     )
 
 same-length : tie.Need-same-length Inv-loop μ-loop
 same-length c = search needs
 
 returns : tie.Need-returns Inv-loop μ-loop
-returns c = let s = c .before .before .before .before in let l = c .before .loop in sym (recode-done (arcOfLine (s .args .tapes) (s .args .states)) (23 + s .args .tapes * 9) _ _ (l .to) (l .left) (omega arith)) ∙ l .inv .4
+returns c = let s = c .before .before .before .before in let l = c .before .loop in sym (recode-done (arcOfLine (s .args .tapes)) (23 + s .args .tapes * 9) _ _ (l .to) (l .left) (omega arith)) ∙ l .inv .4
 
 pub store-arcs-spec : {M : Type 1} → statement M
 store-arcs-spec =

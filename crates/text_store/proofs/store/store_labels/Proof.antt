@@ -13,8 +13,7 @@ use Rattle.text_store.proofs.store.store_labels.Statement.{statement}
 use Rattle.text_store.proofs.store.store_labels.Tie as tie
 use Rattle.text_store.proofs.store.store_labels.Reads as reads
 use Rattle.text_store.proofs.store.store_labels.Lts as lts
-use Rattle.memory.proofs.bytes.copy_into.Reads as copy-into-reads
-use Rattle.text_store.proofs.store.label_record.Reads as label-record-reads
+use Rattle.text_store.proofs.store.store_label.Reads as store-label-reads
 
 abbrev Inv-loop : tie.InvT-loop
 Inv-loop labels tapes arcs₀ start left₀ at₀ to₀ arcs left at to = (at + left * 9 ≤ length labels) × (to + left * 9 ≤ length arcs) × (length arcs ≡ length arcs₀)
@@ -26,26 +25,20 @@ abbrev μ-loop : tie.MeasureT-loop
 loop-holds : tie.Need-loop-holds Inv-loop μ-loop
 loop-holds c = (search needs, search needs, search needs, refl)
 
-add-label-record : tie.Need-add-label-record Inv-loop μ-loop
-add-label-record c = search needs
+add-store-label : tie.Need-add-store-label Inv-loop μ-loop
+add-store-label c = search needs
 
-sub-label-record : tie.Need-sub-label-record Inv-loop μ-loop
-sub-label-record c = search needs
+sub-store-label : tie.Need-sub-store-label Inv-loop μ-loop
+sub-store-label c = search needs
 
-part-label-record-start : tie.Need-part-label-record-start Inv-loop μ-loop
-part-label-record-start c = search needs
+part-store-label-start : tie.Need-part-store-label-start Inv-loop μ-loop
+part-store-label-start c = search needs
 
-part-label-record-end : tie.Need-part-label-record-end Inv-loop μ-loop
-part-label-record-end c = search needs
+part-store-label-end : tie.Need-part-store-label-end Inv-loop μ-loop
+part-store-label-end c = search needs
 
-label-record-requires : tie.Need-label-record-requires Inv-loop μ-loop
-label-record-requires c κs = search needs
-
-slice-aggregate-copy-into : tie.Need-slice-aggregate-copy-into Inv-loop μ-loop
-slice-aggregate-copy-into c = search needs
-
-copy-into-requires : tie.Need-copy-into-requires Inv-loop μ-loop
-copy-into-requires c κs = search needs
+store-label-requires : tie.Need-store-label-requires Inv-loop μ-loop
+store-label-requires c κs = search needs
 
 sub-left : tie.Need-sub-left Inv-loop μ-loop
 sub-left c = search needs
@@ -60,12 +53,12 @@ loop-less : tie.Need-loop-less Inv-loop μ-loop
 loop-less c = search needs
 
 loop-again : tie.Need-loop-again Inv-loop μ-loop
-loop-again c = let l = c .before .before .before .before .before .before .before .before .loop in
-    let k = c .before .before .copy-into .kept .0 in (
+loop-again c = let l = c .before .before .before .before .before .before .loop in
+    let k = c .before .before .store-label .kept .1 .0 in (
       omega arith,
       omega (arith, k),
       k ∙ l .inv .2,
-      recode-turn labelOfColumns 9 9 label-sized _ _ _ (l .at) (l .to) (l .left) (c .before .before .before .before .before .before .before .loop-test .taken) (l .inv .0) (l .inv .1) (c .before .before .copy-into .ensures ∙ ap (λ r. splice (l .to) r (l .arcs)) (c .before .before .before .before .before .label-record .ensures)) ∙ l .inv .3,
+      recode-turn labelOfColumns 9 9 label-sized _ _ _ (l .at) (l .to) (l .left) (c .before .before .before .before .before .loop-test .taken) (l .inv .0) (l .inv .1) (c .before .before .store-label .ensures) ∙ l .inv .3,
     )
 
 same-length : tie.Need-same-length Inv-loop μ-loop
@@ -81,13 +74,11 @@ store-labels-spec =
     Inv-loop
     μ-loop
     loop-holds
-    add-label-record
-    sub-label-record
-    part-label-record-start
-    part-label-record-end
-    label-record-requires
-    slice-aggregate-copy-into
-    copy-into-requires
+    add-store-label
+    sub-store-label
+    part-store-label-start
+    part-store-label-end
+    store-label-requires
     sub-left
     add-at
     add-to

@@ -7,6 +7,46 @@ use Rattle.text_store.proofs.store.store_numbers.Reads as reads
 use Rattle.text_store.proofs.store.store_numbers.Lts as lts
 use Rattle.memory.proofs.bytes.put16.Reads as put16-reads
 use Rattle.memory.proofs.bytes.put32.Reads as put32-reads
+use Rattle.text_columns.proofs.decimal.columns_value.Reads as columns-value-reads
+
+sub-columns-value : tie.Need-sub-columns-value
+sub-columns-value c = search needs
+
+part-columns-value-start : tie.Need-part-columns-value-start
+part-columns-value-start c = search needs
+
+part-columns-value-end : tie.Need-part-columns-value-end
+part-columns-value-end c = search needs
+
+columns-value-requires : tie.Need-columns-value-requires
+columns-value-requires c κs = search needs
+
+sub-columns-value-2 : tie.Need-sub-columns-value-2
+sub-columns-value-2 c = search needs
+
+part-columns-value-start-2 : tie.Need-part-columns-value-start-2
+part-columns-value-start-2 c = search needs
+
+part-columns-value-end-2 : tie.Need-part-columns-value-end-2
+part-columns-value-end-2 c = search needs
+
+columns-value-requires-2 : tie.Need-columns-value-requires-2
+columns-value-requires-2 c κs = search needs
+
+sub-columns-value-3 : tie.Need-sub-columns-value-3
+sub-columns-value-3 c = search needs
+
+part-columns-value-start-3 : tie.Need-part-columns-value-start-3
+part-columns-value-start-3 c = search needs
+
+part-columns-value-end-3 : tie.Need-part-columns-value-end-3
+part-columns-value-end-3 c = search needs
+
+columns-value-requires-3 : tie.Need-columns-value-requires-3
+columns-value-requires-3 c κs = search needs
+
+cast-put16 : tie.Need-cast-put16
+cast-put16 c = search needs
 
 put16-requires : tie.Need-put16-requires
 put16-requires c κs = search needs
@@ -14,11 +54,17 @@ put16-requires c κs = search needs
 add-put16 : tie.Need-add-put16
 add-put16 c = search needs
 
+cast-put16-2 : tie.Need-cast-put16-2
+cast-put16-2 c = search needs
+
 put16-requires-2 : tie.Need-put16-requires-2
 put16-requires-2 c κs = search needs
 
 add-put32 : tie.Need-add-put32
 add-put32 c = search needs
+
+cast-put32 : tie.Need-cast-put32
+cast-put32 c = search needs
 
 put32-requires : tie.Need-put32-requires
 put32-requires c κs = search needs
@@ -27,16 +73,32 @@ same-length : tie.Need-same-length
 same-length c = search needs
 
 returns : tie.Need-returns
-returns c = let s = c .before .before .before .before .before .before .before .before .before .before .before .before .before in numbers-stored _ (s .args .arc) _ _ _ _ (s .pre) (c .before .before .before .before .before .before .before .before .before .before .put16 .ensures) (c .before .before .before .before .before .before .put162 .ensures) (c .before .before .put32 .ensures)
+returns c = let s = c .before .before .before .before .before .before .before .before .before .before .before .before .before .before .before .before .before .before .before .before in
+    numbers-stored (s .args .at) _ _ _ _ _ _ _ _ (s .pre .1) (c .before .before .before .before .before .before .before .before .before .before .before .before .before .before .before .before .columns-value .ensures) (c .before .before .before .before .before .before .before .before .before .before .before .before .before .before .columns-value2 .ensures) (c .before .before .before .before .before .before .before .before .before .before .before .before .columns-value3 .ensures) (c .before .before .before .before .before .before .before .before .before .before .put16 .ensures) (c .before .before .before .before .before .before .put162 .ensures) (c .before .before .put32 .ensures)
 
 pub store-numbers-spec : {M : Type 1} → statement M
 store-numbers-spec =
     tie.close
     (tie.spec
+    sub-columns-value
+    part-columns-value-start
+    part-columns-value-end
+    columns-value-requires
+    sub-columns-value-2
+    part-columns-value-start-2
+    part-columns-value-end-2
+    columns-value-requires-2
+    sub-columns-value-3
+    part-columns-value-start-3
+    part-columns-value-end-3
+    columns-value-requires-3
+    cast-put16
     put16-requires
     add-put16
+    cast-put16-2
     put16-requires-2
     add-put32
+    cast-put32
     put32-requires
     same-length
     returns)

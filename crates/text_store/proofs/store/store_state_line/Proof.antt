@@ -5,15 +5,32 @@ use Rattle.text_store.proofs.store.store_state_line.Statement.{statemen
 use Rattle.text_store.proofs.store.store_state_line.Tie as tie
 use Rattle.text_store.proofs.store.store_state_line.Reads as reads
 use Rattle.text_store.proofs.store.store_state_line.Lts as lts
-use Rattle.lines.proofs.state.read_state_line.Reads as read-state-line-reads
-use Rattle.lines.proofs.state.state_of.Reads as state-of-reads
 use Rattle.memory.proofs.record.store_state.Reads as store-state-reads
+use Rattle.text_columns.proofs.weight.columns_weight.Reads as columns-weight-reads
 
-read-state-line-requires : tie.Need-read-state-line-requires
-read-state-line-requires c κs = search needs
+sub-columns-weight : tie.Need-sub-columns-weight
+sub-columns-weight c = search needs
 
-state-of-requires : tie.Need-state-of-requires
-state-of-requires c κs = search needs
+part-columns-weight-start : tie.Need-part-columns-weight-start
+part-columns-weight-start c = search needs
+
+part-columns-weight-end : tie.Need-part-columns-weight-end
+part-columns-weight-end c = search needs
+
+columns-weight-requires : tie.Need-columns-weight-requires
+columns-weight-requires c κs = search needs
+
+sub-columns-weight-2 : tie.Need-sub-columns-weight-2
+sub-columns-weight-2 c = search needs
+
+part-columns-weight-start-2 : tie.Need-part-columns-weight-start-2
+part-columns-weight-start-2 c = search needs
+
+part-columns-weight-end-2 : tie.Need-part-columns-weight-end-2
+part-columns-weight-end-2 c = search needs
+
+columns-weight-requires-2 : tie.Need-columns-weight-requires-2
+columns-weight-requires-2 c κs = search needs
 
 store-state-requires : tie.Need-store-state-requires
 store-state-requires c κs = search needs
@@ -22,9 +39,20 @@ same-length : tie.Need-same-length
 same-length c = search needs
 
 returns : tie.Need-returns
-returns c = state-stored _ _ _ _ _ (c .before .before .before .before .before .read-state-line .result) (c .before .before .store-state .ensures) (c .before .before .before .before .state-of .ensures) (c .before .before .before .before .before .read-state-line .ensures)
+returns c = state-stored _ _ _ _ _ (c .before .before .store-state .ensures) (c .before .before .before .before .before .before .columns-weight .ensures) (c .before .before .before .before .columns-weight2 .ensures)
 
 pub store-state-line-spec : {M : Type 1} → statement M
 store-state-line-spec =
     tie.close
-    (tie.spec read-state-line-requires state-of-requires store-state-requires same-length returns)
+    (tie.spec
+    sub-columns-weight
+    part-columns-weight-start
+    part-columns-weight-end
+    columns-weight-requires
+    sub-columns-weight-2
+    part-columns-weight-start-2
+    part-columns-weight-end-2
+    columns-weight-requires-2
+    store-state-requires
+    same-length
+    returns)

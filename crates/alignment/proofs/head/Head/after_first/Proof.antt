@@ -9,13 +9,13 @@ use Rattle.alignment.proofs.head.Head.pass_second.Reads as pass-second-
 use Rattle.alignment.proofs.head.may_end.Reads as may-end-reads
 
 returns : tie.Need-returns
-returns c = let s = c .before .before .before .before in first-over _ _ _ _ _ _ (s .pre .0) (c .if1 .taken)
+returns c = let s = c .before .before .before .before .before .before in first-over _ _ _ _ _ _ _ (s .pre .0) (c .if1 .taken)
 
 may-end-requires : tie.Need-may-end-requires
 may-end-requires c κs = search needs
 
 returns-2 : tie.Need-returns-2
-returns-2 c = let s = c .before .before .before .before .before .before in first-stays _ _ _ _ _ _ (s .pre .0) _ (c .before .may-end .ensures) (c .if2 .taken)
+returns-2 c = let s = c .before .before .before .before .before .before .before .before in first-stays _ _ _ _ _ _ _ (s .pre .0) _ (c .before .may-end .ensures) (c .if2 .taken)
 
 pass-second-requires : tie.Need-pass-second-requires
 pass-second-requires c κs = search needs
@@ -24,7 +24,7 @@ same-length : tie.Need-same-length
 same-length c = search needs
 
 returns-3 : tie.Need-returns-3
-returns-3 c = let s = c .before .before .before .before .before .before .before .before .before .before in first-ends _ _ _ _ _ _ (s .pre .0) _ (c .before .before .before .before .before .may-end .ensures) (c .before .before .before .before .if2 .left) _ _ (c .before .before .pass-second .ensures)
+returns-3 c = let s = c .before .before .before .before .before .before .before .before .before .before .before .before in first-ends _ _ _ _ _ _ _ (s .pre .0) _ (c .before .before .before .before .before .may-end .ensures) (c .before .before .before .before .if2 .left) _ _ (c .before .before .pass-second .ensures)
 
 pub after-first-spec : {M : Type 1} → statement M
 after-first-spec =

@@ -13,34 +13,34 @@ use Rattle.alignment.proofs.head.Head.pass_both.Reads as pass-both-read
 use Rattle.alignment.proofs.vertex.load_vertex.Reads as load-vertex-reads
 
 mul-load-vertex : tie.Need-mul-load-vertex
-mul-load-vertex c = let s = c .before .before .before .before .before .before .before in omega (arith, take-fits _ _ _ _ _ _ (now (s .args .work)) (s .pre .0) (s .pre .1) (s .pre .2))
+mul-load-vertex c = let s = c .before .before .before .before .before .before .before .before .before .before .before in omega (arith, take-fits _ _ _ _ _ _ _ _ _ _ (now (s .args .work)) (s .pre .0) (s .pre .1) (s .pre .2) (s .pre .3))
 
 load-vertex-requires : tie.Need-load-vertex-requires
-load-vertex-requires c κs = let s = c .before .before .before .before .before .before .before in take-fits _ _ _ _ _ _ (now (s .args .work)) (s .pre .0) (s .pre .1) (s .pre .2)
+load-vertex-requires c κs = let s = c .before .before .before .before .before .before .before .before .before .before .before in take-fits _ _ _ _ _ _ _ _ _ _ (now (s .args .work)) (s .pre .0) (s .pre .1) (s .pre .2) (s .pre .3)
 
 pass-both-requires : tie.Need-pass-both-requires
-pass-both-requires c κs = let s = c .before .before .before .before .before .before .before .before .before in take-both _ _ _ _ _ _ (now (s .args .work)) (s .pre .0) (s .pre .1) (s .pre .2)
+pass-both-requires c κs = let s = c .before .before .before .before .before .before .before .before .before .before .before .before .before in take-both _ _ _ _ _ _ _ _ _ _ (now (s .args .work)) (s .pre .0) (s .pre .1) (s .pre .2) (s .pre .3)
 
 after-first-requires : tie.Need-after-first-requires
-after-first-requires c κs = let s = c .before .before .before .before .before .before .before .before .before .before .before .before .before in take-first _ _ _ _ _ _ _ (s .pre .0) (s .pre .1) (s .pre .2) _ (c .before .before .before .before .before .load-vertex .ensures) _ _ (c .before .before .before .pass-both .ensures)
+after-first-requires c κs = let s = c .before .before .before .before .before .before .before .before .before .before .before .before .before .before .before .before .before in take-first _ _ _ _ _ _ _ _ _ _ _ (s .pre .0) (s .pre .1) (s .pre .2) (s .pre .3) _ (c .before .before .before .before .before .load-vertex .ensures) _ _ (c .before .before .before .pass-both .ensures)
 
 after-second-requires : tie.Need-after-second-requires
-after-second-requires c κs = let s = c .before .before .before .before .before .before .before .before .before .before .before .before .before .before .before .before .before in take-second _ _ _ _ _ _ _ (s .pre .0) (s .pre .1) (s .pre .2) _ (c .before .before .before .before .before .before .before .before .before .load-vertex .ensures) _ _ (c .before .before .before .before .before .before .before .pass-both .ensures) _ _ (c .before .before .before .after-first .ensures)
+after-second-requires c κs = let s = c .before .before .before .before .before .before .before .before .before .before .before .before .before .before .before .before .before .before .before .before .before in take-second _ _ _ _ _ _ _ _ _ _ _ (s .pre .0) (s .pre .1) (s .pre .2) (s .pre .3) _ (c .before .before .before .before .before .before .before .before .before .load-vertex .ensures) _ _ (c .before .before .before .before .before .before .before .pass-both .ensures) _ _ (c .before .before .before .after-first .ensures)
 
 same-length : tie.Need-same-length
 same-length c = search needs
 
 returns : tie.Need-returns
-returns c = let s = c .before .before .before .before .before .before .before .before .before .before .before .before .before .before .before .before .before .before .before .before .before in take-full _ _ _ _ _ _ _ (s .pre .0) (s .pre .1) (s .pre .2) _ (c .before .before .before .before .before .before .before .before .before .before .before .before .before .load-vertex .ensures) _ _ (c .before .before .before .before .before .before .before .before .before .before .before .pass-both .ensures) _ _ (c .before .before .before .before .before .before .before .after-first .ensures) _ _ (c .before .before .before .after-second .ensures) (c .if1 .taken)
+returns c = let s = c .before .before .before .before .before .before .before .before .before .before .before .before .before .before .before .before .before .before .before .before .before .before .before .before .before in take-full _ _ _ _ _ _ _ _ _ _ _ (s .pre .0) (s .pre .1) (s .pre .2) (s .pre .3) _ (c .before .before .before .before .before .before .before .before .before .before .before .before .before .load-vertex .ensures) _ _ (c .before .before .before .before .before .before .before .before .before .before .before .pass-both .ensures) _ _ (c .before .before .before .before .before .before .before .after-first .ensures) _ _ (c .before .before .before .after-second .ensures) (c .if1 .taken)
 
 add-self : tie.Need-add-self
-add-self c = let s = c .before .before .before .before .before .before .before .before .before .before .before .before .before .before .before .before .before .before .before .before .before .before in omega (arith, take-small _ _ _ _ _ _ _ (s .pre .0) (s .pre .1) (s .pre .2) _ (c .before .before .before .before .before .before .before .before .before .before .before .before .before .before .load-vertex .ensures) _ _ (c .before .before .before .before .before .before .before .before .before .before .before .before .pass-both .ensures) _ _ (c .before .before .before .before .before .before .before .before .after-first .ensures) _ _ (c .before .before .before .before .after-second .ensures))
+add-self c = let s = c .before .before .before .before .before .before .before .before .before .before .before .before .before .before .before .before .before .before .before .before .before .before .before .before .before .before in omega (arith, take-small _ _ _ _ _ _ _ _ _ _ _ (s .pre .0) (s .pre .1) (s .pre .2) (s .pre .3) _ (c .before .before .before .before .before .before .before .before .before .before .before .before .before .before .load-vertex .ensures) _ _ (c .before .before .before .before .before .before .before .before .before .before .before .before .pass-both .ensures) _ _ (c .before .before .before .before .before .before .before .before .after-first .ensures) _ _ (c .before .before .before .before .after-second .ensures))
 
 same-length-2 : tie.Need-same-length-2
 same-length-2 c = search needs
 
 returns-2 : tie.Need-returns-2
-returns-2 c = let s = c .before .before .before .before .before .before .before .before .before .before .before .before .before .before .before .before .before .before .before .before .before .before in take-end _ _ _ _ _ _ _ (s .pre .0) (s .pre .1) (s .pre .2) _ (c .before .before .before .before .before .before .before .before .before .before .before .before .before .before .load-vertex .ensures) _ _ (c .before .before .before .before .before .before .before .before .before .before .before .before .pass-both .ensures) _ _ (c .before .before .before .before .before .before .before .before .after-first .ensures) _ _ (c .before .before .before .before .after-second .ensures) (c .before .if1 .left)
+returns-2 c = let s = c .before .before .before .before .before .before .before .before .before .before .before .before .before .before .before .before .before .before .before .before .before .before .before .before .before .before in take-end _ _ _ _ _ _ _ _ _ _ _ (s .pre .0) (s .pre .1) (s .pre .2) (s .pre .3) _ (c .before .before .before .before .before .before .before .before .before .before .before .before .before .before .load-vertex .ensures) _ _ (c .before .before .before .before .before .before .before .before .before .before .before .before .pass-both .ensures) _ _ (c .before .before .before .before .before .before .before .before .after-first .ensures) _ _ (c .before .before .before .before .after-second .ensures) (c .before .if1 .left)
 
 pub take-up-spec : {M : Type 1} → statement M
 take-up-spec =

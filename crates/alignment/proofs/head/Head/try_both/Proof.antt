@@ -15,7 +15,7 @@ get16-requires : tie.Need-get16-requires
 get16-requires c κs = search needs
 
 returns : tie.Need-returns
-returns c = let s = c .before .before .before .before .before .before in both-away _ _ _ _ _ _ _ (s .pre .0) (s .pre .3) _ (c .before .before .get16 .ensures) (c .if1 .taken)
+returns c = let s = c .before .before .before .before .before .before .before .before in both-away _ _ _ _ _ _ _ _ (s .pre .0) (s .pre .3) _ (c .before .before .get16 .ensures) (c .if1 .taken)
 
 add-get16 : tie.Need-add-get16
 add-get16 c = search needs
@@ -33,7 +33,7 @@ same-length : tie.Need-same-length
 same-length c = search needs
 
 returns-2 : tie.Need-returns-2
-returns-2 c = let s = c .before .before .before .before .before .before .before .before .before .before .before in both-there _ _ _ _ _ _ _ (s .pre .0) (s .pre .3) _ (c .before .before .before .before .before .before .before .get16 .ensures) (c .before .before .before .before .before .if1 .left) _ (c .before .before .before .before .get162 .ensures) _ _ (c .before .before .pass-second .ensures)
+returns-2 c = let s = c .before .before .before .before .before .before .before .before .before .before .before .before .before in both-there _ _ _ _ _ _ _ _ (s .pre .0) (s .pre .3) _ (c .before .before .before .before .before .before .before .get16 .ensures) (c .before .before .before .before .before .if1 .left) _ (c .before .before .before .before .get162 .ensures) _ _ (c .before .before .pass-second .ensures)
 
 pub try-both-spec : {M : Type 1} → statement M
 try-both-spec =

@@ -21,25 +21,34 @@ enum-told-3 : tie.Need-enum-told-3
 enum-told-3 c = search needs
 
 arrive-requires : tie.Need-arrive-requires
-arrive-requires c κs = let s = c .before .before .before .before .before .before .before .before in may-arrive _ _ _ _ _ _ (s .pre) _ (c .before .before .before .before .offer .ensures) (c .before .enum-told3 .given .1)
+arrive-requires c κs = let s = c .before .before .before .before .before .before .before .before .before .before .before .before .before in (may-arrive _ _ _ _ _ _ (s .pre .0) _ (c .before .before .before .before .before .before .offer .ensures .offers) (c .before .before .enum-told3 .given .1), c .before .before .before .before .before .before .offer .ensures .bytes)
 
 same-length : tie.Need-same-length
 same-length c = search needs
 
-returns : tie.Need-returns
-returns c = let s = c .before .before .before .before .before .before .before in visits-nothing _ _ _ _ _ _ (s .pre) _ (c .before .before .before .offer .ensures) (c .enum-told .given .1)
-
 same-length-2 : tie.Need-same-length-2
 same-length-2 c = search needs
 
-returns-2 : tie.Need-returns-2
-returns-2 c = let s = c .before .before .before .before .before .before .before in visits-late _ _ _ _ _ _ (s .pre) _ (c .before .before .before .offer .ensures) (c .enum-told2 .given .1)
+returns : tie.Need-returns
+returns c = let s = c .before .before .before .before .before .before .before .before .before .before .before in (visits-nothing _ _ _ _ _ _ (s .pre .0) _ (c .before .before .before .before .offer .ensures .offers) (c .enum-told .given .1), record { good = c .before .before .before .before .offer .ensures .offers .good; bytes = c .before .before .before .before .offer .ensures .bytes })
 
 same-length-3 : tie.Need-same-length-3
 same-length-3 c = search needs
 
+same-length-4 : tie.Need-same-length-4
+same-length-4 c = search needs
+
+returns-2 : tie.Need-returns-2
+returns-2 c = let s = c .before .before .before .before .before .before .before .before .before .before .before in (visits-late _ _ _ _ _ _ (s .pre .0) _ (c .before .before .before .before .offer .ensures .offers) (c .enum-told2 .given .1), record { good = c .before .before .before .before .offer .ensures .offers .good; bytes = c .before .before .before .before .offer .ensures .bytes })
+
+same-length-5 : tie.Need-same-length-5
+same-length-5 c = search needs
+
+same-length-6 : tie.Need-same-length-6
+same-length-6 c = search needs
+
 returns-3 : tie.Need-returns-3
-returns-3 c = let s = c .before .before .before .before .before .before .before .before .before .before .before in visits-to _ _ _ _ _ _ (s .pre) _ (c .before .before .before .before .before .before .before .offer .ensures) (c .before .before .before .before .enum-told3 .given .1) _ _ (c .before .before .arrive .ensures)
+returns-3 c = let s = c .before .before .before .before .before .before .before .before .before .before .before .before .before .before .before .before in (visits-to _ _ _ _ _ _ (s .pre .0) _ (c .before .before .before .before .before .before .before .before .before .offer .ensures .offers) (c .before .before .before .before .before .enum-told3 .given .1) _ _ (c .before .before .arrive .ensures), record { good = c .before .before .before .before .before .before .before .before .before .offer .ensures .offers .good; bytes = c .before .before .before .before .before .before .before .before .before .offer .ensures .bytes })
 
 pub visit-spec : {M : Type 1} → statement M
 visit-spec =
@@ -51,8 +60,11 @@ visit-spec =
     enum-told-3
     arrive-requires
     same-length
-    returns
     same-length-2
-    returns-2
+    returns
     same-length-3
+    same-length-4
+    returns-2
+    same-length-5
+    same-length-6
     returns-3)

@@ -1,0 +1,65 @@
+-- What a caller in C takes from the number that a function answers with, by the macros of include/tomchoen.h.
+use mathlib.Core.Path.{_≡_}
+use mathlib.Core.Option.{Option, none, some}
+use mathlib.Core.List.{List}
+use Prim.Native.Nat.{ℕ, _/_, _%_}
+use lib.Dec.{eqb}
+use Rattle.automata.specs.Lists.{if}
+use Rattle.automata.specs.Answer.{Answer, ok, refused}
+use Rattle.automata.specs.TapePair.{Pair}
+use Rattle.automata.specs.Memory.{Memory}
+use Rattle.automata.specs.Calls.Outcome.{Slices, TableCounts}
+use Rattle.automata.specs.Calls.Read.{readOutcome}
+use Rattle.automata.specs.Calls.Write.{writeOutcome}
+use Rattle.automata.specs.Calls.Intersect.{intersectOutcome}
+use Rattle.automata.specs.Calls.Product.{productOutcome}
+use Rattle.automata.specs.Calls.Join.{joinOutcome}
+use Rattle.automata.specs.Calls.Union.{unionOutcome}
+use Rattle.automata.specs.Calls.Project.{projectOutcome}
+use Rattle.automata.specs.Calls.Drop.{dropOutcome}
+use Rattle.automata.specs.Calls.Lookup.{lookupOutcome}
+use Rattle.c_words.specs.Words.{toldMade, toldBuilt, toldJoined, toldWritten, toldFound}
+
+-- ---- the parts of a number
+
+-- TOMCHOEN_REFUSAL: the low byte
+abbrev pub lowByte : ℕ → ℕ
+lowByte w = w % 256
+
+-- TOMCHOEN_LENGTH and TOMCHOEN_WEIGHT_OF: what stands above it
+abbrev pub above : ℕ → ℕ
+above w = w / 256
+
+-- TOMCHOEN_TAPES, TOMCHOEN_STATES, TOMCHOEN_ARCS
+abbrev pub countsIn : ℕ → TableCounts
+countsIn w = record { tapes = w / 256 % 256; states = w / 65536 % 65536; arcs = w / 4294967296 }
+
+-- ---- the answer that it tells
+
+-- of a call that makes a table: the counts where the low byte is 0, else that refusal
+unfoldable pub tableTold : ℕ → Answer TableCounts
+tableTold w = if (eqb (lowByte w) 0) (ok (countsIn w)) (refused (lowByte w))
+
+-- of `write`: the number of bytes
+unfoldable pub bytesTold : ℕ → Answer ℕ
+bytesTold w = if (eqb (lowByte w) 0) (ok (above w)) (refused (lowByte w))
+
+-- of `lookup`: the weight, or none where the low byte is 255
+unfoldable pub weightTold : ℕ → Answer (Option ℕ)
+weightTold w = if (eqb (lowByte w) 0) (ok (some (above w))) (if (eqb (lowByte w) 255) (ok none) (refused (lowByte w)))
+
+-- The number with which a function of `tomchoen_*` answers, as its contract gives it, tells the answer of its call: the
+-- counts, the number of bytes, the weight, none, or the refusal. One field for each of the nine.
+pub record WordsTell : Type 0 where
+  pub read : (text : List ℕ) (s : Slices) → tableTold (toldMade (readOutcome text s) .word) ≡ readOutcome text s .answer
+  pub write : (m : Memory) (output : List ℕ) → bytesTold (toldWritten (writeOutcome m output) .word) ≡ writeOutcome m output .answer
+  pub build : (m : Memory) (ps : List Pair) (D : ℕ) (s : Slices) (work : List ℕ)
+      → tableTold (toldBuilt (intersectOutcome m ps D s work) .made .word) ≡ intersectOutcome m ps D s work .made .answer
+  pub product : (a b : Memory) (s : Slices) (work : List ℕ)
+      → tableTold (toldBuilt (productOutcome a b s work) .made .word) ≡ productOutcome a b s work .made .answer
+  pub join : (a b : Memory) (ps : List Pair) (D : ℕ) (p s : Slices) (work : List ℕ)
+      → tableTold (toldJoined (joinOutcome a b ps D p s work) .made .word) ≡ joinOutcome a b ps D p s work .made .answer
+  pub union : (a b : Memory) (s : Slices) → tableTold (toldMade (unionOutcome a b s) .word) ≡ unionOutcome a b s .answer
+  pub project : (m : Memory) (js : List ℕ) (s : Slices) → tableTold (toldMade (projectOutcome m js s) .word) ≡ projectOutcome m js s .answer
+  pub drop : (m : Memory) (mask : ℕ) (s : Slices) → tableTold (toldMade (dropOutcome m mask s) .word) ≡ dropOutcome m mask s .answer
+  pub lookup : (m : Memory) (text work : List ℕ) → weightTold (toldFound (lookupOutcome m text work) .word) ≡ lookupOutcome m text work .answer

@@ -1,0 +1,124 @@
+-- `cells::fill::fill` meets its contract. Assumes nothing.
+use Rattle.cells.proofs.FillLaws.{Filling, fillable-kept, placed, stated, positive, fill-start, fill-below, fill-stated, fill-requires, fill-turn, fill-end}
+use Prim.Native.Nat.{_-_, _<_}
+use lib.ListN.{length}
+use denote.Ref.{now}
+use Rattle.distances.proofs.StartMeaning.{sixteens}
+use Rattle.distances.specs.Queues.{Queue}
+use Rattle.distances.proofs.PushLaws.{marking-kept}
+use mathlib.Core.Path.{_≡_, sym, ap, _∙_}
+use native.Mathlib.Omega.{arith}
+use borrow.Author.Needs.{needs}
+use Rattle.cells.proofs.fill.fill.Statement.{statement}
+use Rattle.cells.proofs.fill.fill.Tie as tie
+use Rattle.cells.proofs.fill.fill.Reads as reads
+use Rattle.cells.proofs.fill.fill.Lts as lts
+use Rattle.cell_moves.proofs.cell.clear_cells.Reads as clear-cells-reads
+use Rattle.cell_moves.proofs.spot.spans_of.Reads as spans-of-reads
+use Rattle.cell_moves.proofs.spot.spot_at.Reads as spot-at-reads
+use Rattle.cells.proofs.ends.least_from.Reads as least-from-reads
+use Rattle.cells.proofs.ends.start_states.Reads as start-states-reads
+use Rattle.cells.proofs.push.settle.Reads as settle-reads
+
+abbrev Inv-loop : tie.InvT-loop
+Inv-loop counts states arcs text strings index queue₀ work₀ spans left₀ queue work left = Filling counts states arcs text strings spans (length work₀) left work × Queue queue
+
+abbrev μ-loop : tie.MeasureT-loop
+μ-loop counts states arcs text strings index queue₀ work₀ spans left₀ queue work left = left
+
+spans-of-requires : tie.Need-spans-of-requires Inv-loop μ-loop
+spans-of-requires c κs =
+    let s = c .before .before .before .before .before .before in
+    let k : length (now (s .args .text)) < 18446744073709551616 = search needs in
+    placed _ _ _ _ _ _ (s .pre .0) k
+
+clear-cells-requires : tie.Need-clear-cells-requires Inv-loop μ-loop
+clear-cells-requires c κs = search needs
+
+start-states-requires : tie.Need-start-states-requires Inv-loop μ-loop
+start-states-requires c κs =
+    let s = c .before .before .before .before .before .before .before .before .before .before .before .before in
+    stated _ _ _ _ _ _ (s .pre .0) _ (c .before .before .before .before .before .spans-of .ensures) _ (c .before .before .before .clear-cells .kept .0)
+
+loop-holds : tie.Need-loop-holds Inv-loop μ-loop
+loop-holds c =
+    let s = c .before .before .before .before .before .before .before .before .before .before .before .before .before .before .before in
+    let n = c .before .before .start-states .ensures .same-length ∙ c .before .before .before .before .before .before .clear-cells .kept .0 in
+    let f = fillable-kept _ _ _ _ _ n (s .pre .0) in
+    (fill-start _ _ _ _ _ _ f _ (c .before .before .before .before .before .before .before .before .spans-of .ensures) _ _ (c .before .before .before .before .before .before .clear-cells .ensures ∙ ap sixteens (sym n)) (c .before .before .start-states .ensures), s .pre .1 .lined)
+
+sub-left : tie.Need-sub-left Inv-loop μ-loop
+sub-left c = search needs
+
+spot-at-requires : tie.Need-spot-at-requires Inv-loop μ-loop
+spot-at-requires c κs =
+    let s = c .before .before .before .before .before .before .before .before .before .before .before .before .before .before .before .before .before in
+    let l = c .before .loop in
+    let k : length (now (s .args .text)) < 18446744073709551616 = search needs in
+    (placed _ _ _ _ _ _ (s .pre .0) k, positive _ _ _ _ _ _ (s .pre .0) _ (l .inv .0 .spanned))
+
+settle-requires : tie.Need-settle-requires Inv-loop μ-loop
+settle-requires c κs =
+    let s = c .before .before .before .before .before .before .before .before .before .before .before .before .before .before .before .before .before .before .before .before in
+    let n = c .before .before .before .before .before .before .before .start-states .ensures .same-length ∙ c .before .before .before .before .before .before .before .before .before .before .before .clear-cells .kept .0 in
+    let f = fillable-kept _ _ _ _ _ n (s .pre .0) in
+    let l = c .before .before .before .before .loop in
+    let r = fill-requires _ _ _ _ _ _ f _ (l .left) (l .left - 1) _ (l .inv .0) (omega (arith, c .before .before .before .loop-test .taken)) _ (c .before .before .spot-at .ensures) in
+    (r .0, r .1, marking-kept _ _ _ _ _ (l .inv .1) (s .pre .1))
+
+loop-less : tie.Need-loop-less Inv-loop μ-loop
+loop-less c = search needs
+
+loop-again : tie.Need-loop-again Inv-loop μ-loop
+loop-again c =
+    let s = c .before .before .before .before .before .before .before .before .before .before .before .before .before .before .before .before .before .before .before .before .before .before .before .before .before in
+    let n = c .before .before .before .before .before .before .before .before .before .before .before .before .start-states .ensures .same-length ∙ c .before .before .before .before .before .before .before .before .before .before .before .before .before .before .before .before .clear-cells .kept .0 in
+    let f = fillable-kept _ _ _ _ _ n (s .pre .0) in
+    let l = c .before .before .before .before .before .before .before .before .before .loop in (
+      fill-turn _ _ _ _ _ _ f _ (l .left) (l .left - 1) _ (l .inv .0) (omega (arith, c .before .before .before .before .before .before .before .before .loop-test .taken)) _ (c .before .before .before .before .before .before .before .spot-at .ensures) _ (c .before .before .before .before .settle .ensures .0),
+      c .before .before .before .before .settle .ensures .1,
+    )
+
+least-from-requires : tie.Need-least-from-requires Inv-loop μ-loop
+least-from-requires c κs =
+    let s = c .before .before .before .before .before .before .before .before .before .before .before .before .before .before .before .before .before .before in
+    let n = c .before .before .before .before .before .start-states .ensures .same-length ∙ c .before .before .before .before .before .before .before .before .before .clear-cells .kept .0 in
+    let f = fillable-kept _ _ _ _ _ n (s .pre .0) in
+    let l = c .before .before .loop in
+    (fill-stated _ _ _ _ _ _ f _ (l .left) (l .left) _ (l .inv .0), fill-below _ _ _ _ _ _ f _ (l .left) (l .left) _ (l .inv .0))
+
+same-length : tie.Need-same-length Inv-loop μ-loop
+same-length c =
+    c .before .before .before .loop .inv .1 .size-is ∙ sym (c .before .before .before .before .before .before .before .before .before .before .before .before .before .before .before .before .before .before .before .pre .1 .lined .size-is)
+
+same-length-2 : tie.Need-same-length-2 Inv-loop μ-loop
+same-length-2 c =
+    c .before .before .before .loop .inv .0 .same-length ∙ c .before .before .before .before .before .before .start-states .ensures .same-length ∙ c .before .before .before .before .before .before .before .before .before .before .clear-cells .kept .0
+
+returns : tie.Need-returns Inv-loop μ-loop
+returns c =
+    let s = c .before .before .before .before .before .before .before .before .before .before .before .before .before .before .before .before .before .before .before in
+    let n = c .before .before .before .before .before .before .start-states .ensures .same-length ∙ c .before .before .before .before .before .before .before .before .before .before .clear-cells .kept .0 in
+    let f = fillable-kept _ _ _ _ _ n (s .pre .0) in
+    let l = c .before .before .before .loop in
+    fill-end _ _ _ _ _ _ f _ (l .left) (l .left) _ (l .inv .0) (omega (arith, c .before .before .loop-test .left)) _ (c .least-from .ensures)
+
+pub fill-spec : {M : Type 1} → statement M
+fill-spec =
+    tie.close
+    (tie.spec
+    Inv-loop
+    μ-loop
+    spans-of-requires
+    clear-cells-requires
+    start-states-requires
+    loop-holds
+    sub-left
+    spot-at-requires
+    settle-requires
+    loop-less
+    loop-again
+    least-from-requires
+    same-length
+    same-length-2
+    returns)

@@ -1,0 +1,65 @@
+-- `cells::push::push_arc` meets its contract. Assumes nothing.
+use Rattle.distances.proofs.PushLaws.{pushes-far, pushes-near}
+use borrow.Author.Tests.{not-true, not-false}
+use native.Mathlib.Omega.{arith}
+use borrow.Author.Needs.{needs}
+use Rattle.cells.proofs.push.push_arc.Statement.{statement}
+use Rattle.cells.proofs.push.push_arc.Tie as tie
+use Rattle.cells.proofs.push.push_arc.Reads as reads
+use Rattle.cells.proofs.push.push_arc.Lts as lts
+use Rattle.cells.proofs.queue.enqueue.Reads as enqueue-reads
+use Rattle.cells.proofs.push.visit_arc.Reads as visit-arc-reads
+use Rattle.memory.proofs.bytes.get16.Reads as get16-reads
+
+visit-arc-requires : tie.Need-visit-arc-requires
+visit-arc-requires c κs =
+    let s = c .before .before .before .before .before .before .before .before in (s .pre .1 .laid, s .pre .1 .each _ (s .pre .0), s .pre .2)
+
+same-length : tie.Need-same-length
+same-length c = search needs
+
+returns : tie.Need-returns
+returns c =
+    let s = c .before .before .before .before .before .before .before .before .before .before .before .before in pushes-far _ _ _ _ _ (s .pre .0) _ _ _ _ (s .pre .3) (c .before .before .before .visit-arc .ensures) (not-true _ (c .if1 .taken))
+
+mul-get16 : tie.Need-mul-get16
+mul-get16 c = search needs
+
+get16-requires : tie.Need-get16-requires
+get16-requires c κs = search needs
+
+cast-source : tie.Need-cast-source
+cast-source c = search needs
+
+enqueue-requires : tie.Need-enqueue-requires
+enqueue-requires c κs =
+    let s = c .before .before .before .before .before .before .before .before .before .before .before .before .before .before in
+    let r = s .pre .1 in
+    (omega (arith, r .few-states, r .each _ (s .pre .0) .source, c .before .get16 .ensures), s .pre .3)
+
+same-length-2 : tie.Need-same-length-2
+same-length-2 c = search needs
+
+same-length-3 : tie.Need-same-length-3
+same-length-3 c = search needs
+
+returns-2 : tie.Need-returns-2
+returns-2 c =
+    let s = c .before .before .before .before .before .before .before .before .before .before .before .before .before .before .before .before .before in
+    pushes-near _ _ _ _ _ (s .pre .0) _ _ _ _ _ _ (c .before .before .before .before .before .before .before .before .visit-arc .ensures) (not-false _ (c .before .before .before .before .before .if1 .left)) (c .before .before .before .before .get16 .ensures)
+    (s .pre .1) (c .before .before .enqueue .ensures)
+
+pub push-arc-spec : {M : Type 1} → statement M
+push-arc-spec =
+    tie.close
+    (tie.spec
+    visit-arc-requires
+    same-length
+    returns
+    mul-get16
+    get16-requires
+    cast-source
+    enqueue-requires
+    same-length-2
+    same-length-3
+    returns-2)

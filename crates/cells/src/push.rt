@@ -1,0 +1,212 @@
+// Relaxation at one combination of positions: from each state with a weight over the arcs into it whose labels end
+// there, which may lower the weights of their sources. A state whose weight at the combination itself became less is
+// taken up again.
+use crate::queue::dequeue;
+use crate::queue::enqueue;
+use crate::queue::entry;
+use cell_moves::cell::cell_number;
+use cell_moves::cell::lower;
+use cell_moves::cell::weight_at;
+use cell_moves::moves::Step;
+use cell_moves::moves::moved_back;
+use cell_moves::spot::Spot;
+use memory::answer::Counts;
+use memory::bytes::get16;
+use memory::bytes::get32;
+ghost use Prim.Native.Nat.{_≤_, _<_};
+ghost use lib.ListN.{length};
+ghost use Rattle.cell_moves.specs.Moves.{Laid, spotWith};
+ghost use Rattle.distances.specs.Queues.{Queue};
+ghost use Rattle.distances.specs.Pushes.{Passable, Spaced, Ready, Marking, Visits, Pushes, PushesAll, AllDone, Marks, Settles};
+
+// Arc e. Tells whether the weight of its source at the combination itself became less.
+fn visit_arc(
+    counts: Counts,
+    arcs: &[u8],
+    e: usize,
+    text: &[u8],
+    starts: &[usize],
+    positions: &[usize],
+    spans: &[usize],
+    number: usize,
+    all: usize,
+    work: &mut [u8],
+) -> bool
+    requires { ⌜ Laid (counts .tapes) (length (now text)) (spotWith (now starts) (now positions) (now spans) number all) × Passable (counts .tapes) (counts .states) e (now arcs) (now text) (spotWith (now starts) (now positions) (now spans) number all) × Spaced (counts .states) (spotWith (now starts) (now positions) (now spans) number all) (now work) ⌝ }
+    ensures { λ r. ⌜ Visits (counts .tapes) e (now (arcs .entry)) (now (text .entry)) (spotWith (now (starts .entry)) (now (positions .entry)) (now (spans .entry)) number all) r (now (work .exit)) (now (work .entry)) ⌝ }
+{
+    let at = 80 * e;
+    let step = moved_back(arcs, at + 8, counts.tapes, text, starts, positions, spans);
+    let Step::Moved(by) = step else {
+        return false;
+    };
+    let source = cell_number(get16(arcs, at) as usize, all, number - by);
+    let target = cell_number(get16(arcs, at + 2) as usize, all, number);
+    let through = get32(arcs, at + 4) as u64 + weight_at(work, target);
+    let lowered = lower(work, source, through);
+    if by != 0 {
+        return false;
+    }
+    lowered
+}
+
+// Arc e, and its source into the queue where that is so.
+fn push_arc(
+    counts: Counts,
+    arcs: &[u8],
+    e: usize,
+    text: &[u8],
+    starts: &[usize],
+    positions: &[usize],
+    spans: &[usize],
+    number: usize,
+    all: usize,
+    queue: &mut [u16],
+    work: &mut [u8],
+)
+    requires { ⌜ (e < counts .arcs) × Ready counts (now arcs) (now text) (spotWith (now starts) (now positions) (now spans) number all) × Spaced (counts .states) (spotWith (now starts) (now positions) (now spans) number all) (now work) × Queue (now queue) ⌝ }
+    ensures { λ _. ⌜ Pushes counts (now (arcs .entry)) (now (text .entry)) (spotWith (now (starts .entry)) (now (positions .entry)) (now (spans .entry)) number all) e (now (work .exit)) (now (work .entry)) (now (queue .exit)) (now (queue .entry)) ⌝ }
+{
+    let near = visit_arc(
+        counts,
+        arcs,
+        e,
+        text,
+        starts,
+        positions,
+        spans,
+        number,
+        all,
+        work,
+    );
+    if !near {
+        return;
+    }
+    let source = get16(arcs, 80 * e) as usize;
+    enqueue(source, queue);
+}
+
+// The arcs into a state.
+fn push_state(
+    counts: Counts,
+    arcs: &[u8],
+    text: &[u8],
+    starts: &[usize],
+    positions: &[usize],
+    spans: &[usize],
+    number: usize,
+    all: usize,
+    index: &[u16],
+    state: usize,
+    queue: &mut [u16],
+    work: &mut [u8],
+)
+    requires { ⌜ (state < 1024) × Ready counts (now arcs) (now text) (spotWith (now starts) (now positions) (now spans) number all) × Spaced (counts .states) (spotWith (now starts) (now positions) (now spans) number all) (now work) × Marking counts (now arcs) (now index) (now queue) ⌝ }
+    ensures { λ _. ⌜ PushesAll counts (now (arcs .entry)) (now (text .entry)) (spotWith (now (starts .entry)) (now (positions .entry)) (now (spans .entry)) number all) state (now (work .exit)) (now (work .entry)) (now (queue .exit)) (now (queue .entry)) ⌝ }
+{
+    let mut e = entry(index[state]);
+    while e < counts.arcs {
+        push_arc(
+            counts,
+            arcs,
+            e,
+            text,
+            starts,
+            positions,
+            spans,
+            number,
+            all,
+            queue,
+            work,
+        );
+        e = entry(index[1024 + e]);
+    }
+}
+
+// Each of so many states that has a weight at the combination into the queue.
+fn enqueue_reached(states: usize, spot: Spot, work: &[u8], queue: &mut [u16])
+    requires { ⌜ (states ≤ 1024) × Spaced states spot (now work) × Queue (now queue) ⌝ }
+    ensures { λ _. ⌜ Marks states spot (now (work .entry)) (now (queue .exit)) (now (queue .entry)) ⌝ }
+{
+    let mut q: usize = 0;
+    while q < states {
+        let state = q;
+        q += 1;
+        let k = cell_number(state, spot.all, spot.number);
+        if 1157442765409226768 <= weight_at(work, k) {
+            continue;
+        }
+        enqueue(state, queue);
+    }
+}
+
+// The arcs into the first state of the queue, until no state waits.
+fn push_waiting(
+    counts: Counts,
+    arcs: &[u8],
+    text: &[u8],
+    starts: &[usize],
+    positions: &[usize],
+    spans: &[usize],
+    number: usize,
+    all: usize,
+    index: &[u16],
+    queue: &mut [u16],
+    work: &mut [u8],
+)
+    requires { ⌜ Ready counts (now arcs) (now text) (spotWith (now starts) (now positions) (now spans) number all) × Spaced (counts .states) (spotWith (now starts) (now positions) (now spans) number all) (now work) × Marking counts (now arcs) (now index) (now queue) × AllDone counts (now arcs) (now text) (spotWith (now starts) (now positions) (now spans) number all) (now queue) (now work) ⌝ }
+    ensures { λ _. ⌜ Settles counts (now (arcs .entry)) (now (text .entry)) (spotWith (now (starts .entry)) (now (positions .entry)) (now (spans .entry)) number all) (now (work .exit)) (now (work .entry)) × Queue (now (queue .exit)) ⌝ }
+{
+    loop {
+        if queue[2049] == 0 {
+            return;
+        }
+        let state = dequeue(queue);
+        push_state(
+            counts,
+            arcs,
+            text,
+            starts,
+            positions,
+            spans,
+            number,
+            all,
+            index,
+            state,
+            queue,
+            work,
+        );
+    }
+}
+
+// The states with a weight, and again those whose weight became less, until none can lower a weight.
+pub fn settle(
+    counts: Counts,
+    arcs: &[u8],
+    text: &[u8],
+    spot: Spot,
+    index: &[u16],
+    queue: &mut [u16],
+    work: &mut [u8],
+)
+    requires { ⌜ Ready counts (now arcs) (now text) spot × Spaced (counts .states) spot (now work) × Marking counts (now arcs) (now index) (now queue) ⌝ }
+    ensures { λ _. ⌜ Settles counts (now (arcs .entry)) (now (text .entry)) spot (now (work .exit)) (now (work .entry)) × Queue (now (queue .exit)) ⌝ }
+{
+    enqueue_reached(counts.states, spot, work, queue);
+    let starts = spot.starts;
+    let positions = spot.positions;
+    let spans = spot.spans;
+    push_waiting(
+        counts,
+        arcs,
+        text,
+        &starts,
+        &positions,
+        &spans,
+        spot.number,
+        spot.all,
+        index,
+        queue,
+        work,
+    );
+}

@@ -1,0 +1,42 @@
+-- `configuration::config::load_row` meets its contract. Assumes nothing.
+use denote.Ref.{now}
+use Rattle.memory.proofs.RecordLaws.{array-of}
+use borrow.Author.Needs.{needs}
+use Rattle.configuration.proofs.config.load_row.Statement.{statement}
+use Rattle.configuration.proofs.config.load_row.Tie as tie
+use Rattle.configuration.proofs.config.load_row.Reads as reads
+use Rattle.configuration.proofs.config.load_row.Lts as lts
+use Rattle.memory.proofs.bytes.copy_into.Reads as copy-into-reads
+
+slice-aggregate-copy-into : tie.Need-slice-aggregate-copy-into
+slice-aggregate-copy-into c = search needs
+
+add-copy-into : tie.Need-add-copy-into
+add-copy-into c = search needs
+
+sub-copy-into : tie.Need-sub-copy-into
+sub-copy-into c = search needs
+
+part-copy-into-start : tie.Need-part-copy-into-start
+part-copy-into-start c = search needs
+
+part-copy-into-end : tie.Need-part-copy-into-end
+part-copy-into-end c = search needs
+
+copy-into-requires : tie.Need-copy-into-requires
+copy-into-requires c κs = search needs
+
+returns : tie.Need-returns
+returns c = let s = c .before .before .before .before .before in array-of (s .args .at) 298 (now (s .args .work)) _ (s .pre) (c .before .copy-into .ensures)
+
+pub load-row-spec : {M : Type 1} → statement M
+load-row-spec =
+    tie.close
+    (tie.spec
+    slice-aggregate-copy-into
+    add-copy-into
+    sub-copy-into
+    part-copy-into-start
+    part-copy-into-end
+    copy-into-requires
+    returns)

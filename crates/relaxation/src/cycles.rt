@@ -1,0 +1,166 @@
+// States on a cycle that lessens the delay, found along the arcs that last made delays less.
+use crate::edge_at;
+use crate::places::note;
+use crate::places::number_at;
+use memory::bytes::get16;
+use memory::bytes::put16;
+ghost use mathlib.Core.Path.{_≡_};
+ghost use mathlib.Core.Bool.{true};
+ghost use Prim.Native.Nat.{_+_, _*_, _≤_, _<_};
+ghost use lib.ListN.{length};
+ghost use Rattle.relaxation.specs.Column.{Room};
+ghost use Rattle.relaxation.specs.Edges.{edges, ReadableArcs};
+ghost use Rattle.relaxation.specs.Lowered.{Lessens, Lowers};
+
+// The state where the way from `q` along the noted arcs closes, and 65,535 where it ends or comes to a state seen
+// from another.
+fn closes_at(arcs: &[u8], count: usize, through: &[u16], seen: &mut [u16], q: u16) -> u16
+    requires { ⌜ 80 * count ≤ length (now arcs) ⌝ }
+{
+    let mut p = q;
+    let mut left: usize = 1024;
+    while number_at(seen, p as usize) == 65535 {
+        if left < 1 {
+            return 65535;
+        }
+        left -= 1;
+        note(seen, p as usize, q);
+        let k = number_at(through, p as usize) as usize;
+        if count <= k {
+            return 65535;
+        }
+        p = get16(arcs, 80 * k + 2);
+    }
+    if number_at(seen, p as usize) == q {
+        return p;
+    }
+    65535
+}
+
+// Whether the noted arcs lead from `q` back to it, and their delays add up to less than none.
+fn lessens(
+    arcs: &[u8],
+    count: usize,
+    first: usize,
+    second: usize,
+    through: &[u16],
+    states: usize,
+    q: u16,
+) -> bool
+    requires { ⌜ ReadableArcs states (now arcs) count first second ⌝ }
+    ensures { λ r. ⌜ (r ≡ true → Lessens (edges first second 0 count (now (arcs .entry))) q) ⌝ }
+{
+    let mut p = q;
+    let mut up: u32 = 0;
+    let mut down: u32 = 0;
+    let mut left: usize = 1024;
+    while 0 < left {
+        left -= 1;
+        let k = number_at(through, p as usize) as usize;
+        if count <= k {
+            return false;
+        }
+        let e = edge_at(arcs, 80 * k, first, second);
+        if e.source != p {
+            return false;
+        }
+        up += e.up as u32;
+        down += e.down as u32;
+        p = e.target;
+        if p == q {
+            return up < down;
+        }
+    }
+    false
+}
+
+// The delay of the state where the way from `q` closes becomes endless, if it has one and the cycle lessens it.
+fn mark_from(
+    arcs: &[u8],
+    count: usize,
+    first: usize,
+    second: usize,
+    through: &[u16],
+    seen: &mut [u16],
+    work: &mut [u8],
+    at: usize,
+    states: usize,
+    q: u16,
+)
+    requires { ⌜ ReadableArcs states (now arcs) count first second × Room at 2 states (now work) ⌝ }
+    ensures { λ _. ⌜ Lowers (edges first second 0 count (now (arcs .entry))) at states (now (work .exit)) (now (work .entry)) ⌝ }
+{
+    let c = closes_at(arcs, count, through, seen, q);
+    if states <= c as usize {
+        return;
+    }
+    let place = at + 64 * c as usize;
+    if get16(work, place) == 65535 {
+        return;
+    }
+    if !lessens(arcs, count, first, second, through, states, c) {
+        return;
+    }
+    put16(work, place, 0);
+}
+
+// The same from every state.
+fn mark_ways(
+    arcs: &[u8],
+    count: usize,
+    first: usize,
+    second: usize,
+    through: &[u16],
+    seen: &mut [u16],
+    work: &mut [u8],
+    at: usize,
+    states: usize,
+)
+    requires { ⌜ ReadableArcs states (now arcs) count first second × Room at 2 states (now work) ⌝ }
+    ensures { λ _. ⌜ Lowers (edges first second 0 count (now (arcs .entry))) at states (now (work .exit)) (now (work .entry)) ⌝ }
+{
+    let mut q: u16 = 1024;
+    while 0 < q {
+        q -= 1;
+        mark_from(
+            arcs,
+            count,
+            first,
+            second,
+            through,
+            seen,
+            work,
+            at,
+            states,
+            q,
+        );
+    }
+}
+
+// Of each cycle of noted arcs that lessens the delay one state becomes endless.
+pub fn mark_endless(
+    arcs: &[u8],
+    count: usize,
+    first: usize,
+    second: usize,
+    through: &[u16],
+    work: &mut [u8],
+    at: usize,
+    states: usize,
+)
+    requires { ⌜ ReadableArcs states (now arcs) count first second × Room at 2 states (now work) ⌝ }
+    ensures { λ _. ⌜ Lowers (edges first second 0 count (now (arcs .entry))) at states (now (work .exit)) (now (work .entry)) ⌝ }
+{
+    let mut seen = [65535u16; 1024];
+    mark_ways(
+        arcs,
+        count,
+        first,
+        second,
+        through,
+        &mut seen,
+        work,
+        at,
+        states,
+    );
+}
