@@ -1,5 +1,6 @@
 -- Laws that belong to no one function.
 pub mod RecordLaws
+pub mod KeyLaws
 pub mod FormLaws
 pub mod NoteLaws
 pub mod HeldLaws

@@ -3,7 +3,7 @@ use Prim.Native.Nat.{ℕ, _+_, _-_, _<_, _≤_}
 use mathlib.Core.Path.{_≡_, refl, ap, _∙_}
 use mathlib.Core.List.{List, _++_}
 use native.Mathlib.Omega.{arith}
-use lib.ListN.{length, replicate}
+use lib.ListN.{length}
 use Rattle.memory.specs.Region.{part, splice}
 use Rattle.memory.specs.Endian.{le, toLe}
 use Rattle.memory.proofs.Laws.{splice-behind, part-splice-in, part-front, part-middle, part-end}
@@ -24,11 +24,6 @@ length-vertex v = refl
 -- a state, from its numbers
 pub vertex-read : (at : ℕ) (w : List ℕ) (x y : ℕ) → x ≡ le (part at 2 w) → y ≡ le (part (at + 2) 2 w) → _≡_ {A = Vertex} (record { first = x; second = y }) (vertexAt at w)
 vertex-read at w x y a b = λ i. record { first = a i; second = b i }
-
--- a row of four bytes written number by number
-pub row-written : (v : Vertex) (r1 r2 : List ℕ) → r1 ≡ splice 0 (toLe 2 (v .first)) (replicate 4 0) → r2 ≡ splice 2 (toLe 2 (v .second)) r1 → r2 ≡ vertexBytes v
-unfolding vertexBytes splice
-row-written v r1 r2 a b = b ∙ ap (splice 2 (toLe 2 (v .second))) a
 
 -- ---- a move
 

@@ -9,7 +9,8 @@ use Rattle.automata.specs.Product as automata
 use Rattle.memory.specs.Region.{part}
 use Rattle.memory.specs.Endian.{le, toLe}
 use Rattle.rows.specs.declared.Entered.{Entered}
-use Rattle.chains.specs.Chain.{fronts, Chained, Enters}
+use Rattle.rows.specs.declared.Found.{Found}
+use Rattle.chains.specs.Chain.{fronts, Chained, Finds, Enters}
 use Rattle.chains.specs.Hash.{bucketOf}
 use Rattle.chains.specs.declared.Shape.{Shape}
 use Rattle.alignment.specs.declared.vertex.Vertex.{Vertex}
@@ -46,6 +47,10 @@ vertexShape = record { head = 4; pitch = 0; parts = 1 }
 -- the first n states stand in the chains of their buckets
 abbrev pub ChainedVertices : ℕ → ℕ → List ℕ → Type 0
 ChainedVertices room n w = Chained (bucketBy room) 16 4 room n w
+
+-- the search for the state whose four bytes are those of the number key tells its number
+abbrev pub FindsVertex : ℕ → ℕ → ℕ → List ℕ → Found → Type 0
+FindsVertex count bucket key w r = Finds 16 count bucket vertexShape (toLe 4 key) w r
 
 -- the state d was entered among those reached
 abbrev pub EntersVertex : ℕ → ℕ → Vertex → List ℕ → Entered → List ℕ → Type 0

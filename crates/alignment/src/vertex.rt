@@ -1,19 +1,22 @@
 // States of an aligned product and the moves between them, by value and as records in work space.
-use chains::Shape;
 use chains::bucket_of;
-use chains::enter;
+use chains::link_below;
 use memory::bytes::get16;
 use memory::bytes::get32;
 use memory::bytes::put16;
+use memory::bytes::put32;
 use memory::record::ResultState;
 use rows::Entered;
+use rows::Found;
 use rows::keep;
 ghost use mathlib.Core.Path.{_≡_};
 ghost use Prim.Native.Nat.{_+_, _*_, _≤_, _<_};
 ghost use lib.ListN.{length};
 ghost use Rattle.memory.specs.Region.{splice};
+ghost use Rattle.memory.specs.Endian.{toLe};
 ghost use Rattle.rows.specs.Kept.{keptRecord};
-ghost use Rattle.alignment.specs.Vertices.{vertexAt, EntersVertex};
+ghost use Rattle.chains.specs.Chain.{appended};
+ghost use Rattle.alignment.specs.Vertices.{vertexBytes, vertexAt, FindsVertex, EntersVertex};
 ghost use Rattle.alignment.specs.Moves.{moveBytes, moveAt};
 
 // A state of the product: the number of an input state on each side, 65535 where that side's path has ended.
@@ -47,6 +50,50 @@ fn wide(n: u32) -> u64
     n as u64
 }
 
+// A number of 16 bits as a wider one.
+fn wide16(n: u16) -> u32
+    ensures { λ r. ⌜ (r ≡ n) × (r < 65536) ⌝ }
+{
+    n as u32
+}
+
+// The number whose four bytes are those of a state of the product.
+fn key_of(v: Vertex) -> u32
+    ensures { λ r. ⌜ toLe 4 r ≡ vertexBytes v ⌝ }
+{
+    wide16(v.first) + 65536 * wide16(v.second)
+}
+
+// Which of the `count` states has these four bytes as a number, by the chain of its bucket.
+fn find_vertex(work: &[u8], count: u16, bucket: usize, key: u32) -> Found
+    requires { ⌜ (count * 16 ≤ length (now work)) × (bucket * 16 + 16 ≤ length (now work)) ⌝ }
+    ensures { λ r. ⌜ FindsVertex count bucket key (now (work .entry)) r ⌝ }
+{
+    let mut link = link_below(work, bucket * 16 + 4, count);
+    while link != 0 {
+        let candidate = link - 1;
+        let at = candidate as usize * 16;
+        if get32(work, at) == key {
+            return Found::At(ResultState(candidate));
+        }
+        link = link_below(work, at + 6, candidate);
+    }
+    Found::Nothing
+}
+
+// A state by its four bytes as a number, in the row behind the last, and at the head of its chain.
+fn append_vertex(work: &mut [u8], count: u16, bucket: usize, key: u32)
+    requires { ⌜ (count * 16 + 16 ≤ length (now work)) × (bucket * 16 + 16 ≤ length (now work)) × (count < 65535) ⌝ }
+    ensures { λ _. ⌜ now (work .exit) ≡ appended 16 count bucket (toLe 4 key) (now (work .entry)) ⌝ }
+{
+    let at = count as usize * 16;
+    let head = bucket * 16 + 4;
+    let link = get16(work, head);
+    put32(work, at, key);
+    put16(work, at + 6, link);
+    put16(work, head, count + 1);
+}
+
 // The number of a state of the product among those reached, entered behind them if it is not there.
 pub fn enter_vertex(work: &mut [u8], reached: usize, room: usize, v: Vertex) -> Entered
     requires { ⌜ (16 * room ≤ length (now work)) × (reached ≤ room) × (room ≤ 1024) ⌝ }
@@ -55,16 +102,19 @@ pub fn enter_vertex(work: &mut [u8], reached: usize, room: usize, v: Vertex) -> 
     if room == 0 {
         return Entered::Full;
     }
-    let mut row = [0u8; 4];
-    put16(&mut row, 0, v.first);
-    put16(&mut row, 2, v.second);
-    let bucket = bucket_of(wide(get32(&row, 0)), room);
-    let shape = Shape {
-        head: 4,
-        pitch: 0,
-        parts: 1,
-    };
-    enter(work, 16, reached as u16, room as u16, bucket, shape, &row)
+    let count = reached as u16;
+    let key = key_of(v);
+    let bucket = bucket_of(wide(key), room);
+    match find_vertex(work, count, bucket, key) {
+        Found::At(state) => Entered::At(state),
+        Found::Nothing => {
+            if room <= reached {
+                return Entered::Full;
+            }
+            append_vertex(work, count, bucket, key);
+            Entered::New(ResultState(count))
+        }
+    }
 }
 
 // The record of a move, written at a place.

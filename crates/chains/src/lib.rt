@@ -27,7 +27,7 @@ pub struct Shape {
 }
 
 // A link of which nothing from `bound` on is followed: so every chain falls and ends, whatever stands in the bytes.
-fn link_below(work: &[u8], at: usize, bound: u16) -> u16
+pub fn link_below(work: &[u8], at: usize, bound: u16) -> u16
     requires { ⌜ at + 2 ≤ length (now work) ⌝ }
     ensures { λ r. ⌜ (r ≡ linkBelow bound (le (part at 2 (now (work .entry))))) × (r ≤ bound) ⌝ }
 {

@@ -1,50 +1,27 @@
 -- `alignment::vertex::enter_vertex` meets its contract. Assumes nothing.
-use mathlib.Core.Path.{_≡_, ap, _∙_}
-use mathlib.Core.List.{List}
-use Prim.Native.Nat.{ℕ, zero, suc}
 use native.Mathlib.Omega.{arith}
-use lib.ListN.{length}
-use Rattle.chains.specs.Hash.{bucketOf}
-use Rattle.chains.specs.Parts.{Shaped}
-use Rattle.chains.proofs.EnterLaws.{enters-none, entered-row}
-use Rattle.alignment.specs.Vertices.{bucketBy, vertexShape}
-use Rattle.alignment.proofs.RecordLaws.{row-written, length-vertex}
+use Rattle.chains.proofs.FindLaws.{row-within}
+use Rattle.chains.proofs.EnterLaws.{enters-none, enters-at, enters-full, enters-new}
+use Rattle.alignment.proofs.KeyLaws.{key-entered}
 use borrow.Author.Needs.{needs}
 use Rattle.alignment.proofs.vertex.enter_vertex.Statement.{statement}
 use Rattle.alignment.proofs.vertex.enter_vertex.Tie as tie
 use Rattle.alignment.proofs.vertex.enter_vertex.Reads as reads
 use Rattle.alignment.proofs.vertex.enter_vertex.Lts as lts
+use Rattle.alignment.proofs.vertex.append_vertex.Reads as append-vertex-reads
+use Rattle.alignment.proofs.vertex.find_vertex.Reads as find-vertex-reads
+use Rattle.alignment.proofs.vertex.key_of.Reads as key-of-reads
 use Rattle.alignment.proofs.vertex.wide.Reads as wide-reads
 use Rattle.chains.proofs.bucket_of.Reads as bucket-of-reads
-use Rattle.chains.proofs.enter.Reads as enter-reads
-use Rattle.memory.proofs.bytes.get32.Reads as get32-reads
-use Rattle.memory.proofs.bytes.put16.Reads as put16-reads
-
--- the only part is the whole record
-whole : (w : List ℕ) → length w ≡ 4 → Shaped vertexShape w
-whole w e zero h = omega (arith, e)
-whole w e (suc p) h = absurd (omega arith)
 
 returns : tie.Need-returns
 returns c = enters-none _ _ _ _ _ _ _ (c .if1 .taken) (c .before .before .pre .1)
 
-slice-aggregate-put16 : tie.Need-slice-aggregate-put16
-slice-aggregate-put16 c = search needs
+cast-count : tie.Need-cast-count
+cast-count c = search needs
 
-put16-requires : tie.Need-put16-requires
-put16-requires c κs = search needs
-
-slice-aggregate-put16-2 : tie.Need-slice-aggregate-put16-2
-slice-aggregate-put16-2 c = search needs
-
-put16-requires-2 : tie.Need-put16-requires-2
-put16-requires-2 c κs = search needs
-
-slice-aggregate-get32 : tie.Need-slice-aggregate-get32
-slice-aggregate-get32 c = search needs
-
-get32-requires : tie.Need-get32-requires
-get32-requires c κs = search needs
+key-of-requires : tie.Need-key-of-requires
+key-of-requires c κs = search needs
 
 wide-requires : tie.Need-wide-requires
 wide-requires c κs = search needs
@@ -52,45 +29,67 @@ wide-requires c κs = search needs
 bucket-of-requires : tie.Need-bucket-of-requires
 bucket-of-requires c κs = search needs
 
-cast-enter : tie.Need-cast-enter
-cast-enter c = search needs
+find-vertex-requires : tie.Need-find-vertex-requires
+find-vertex-requires c κs = search needs
 
-cast-enter-2 : tie.Need-cast-enter-2
-cast-enter-2 c = search needs
+enum-known-state : tie.Need-enum-known-state
+enum-known-state c = search needs
 
-slice-aggregate-enter : tie.Need-slice-aggregate-enter
-slice-aggregate-enter c = search needs
-
-enter-requires : tie.Need-enter-requires
-enter-requires c κs =
-    let s = c .before .before .before .before .before .before .before .before .before .before .before .before .before .before in
-    let l = ap length (row-written (s .args .v) _ _ (c .before .before .before .before .before .before .before .before .before .before .put16 .ensures) (c .before .before .before .before .before .before .before .put162 .ensures)) ∙ length-vertex (s .args .v) in
-    (omega (arith, s .pre .0), omega (arith, s .pre .1), c .before .before .bucket-of .ensures .1, omega (arith, l), whole _ l)
+enum-told : tie.Need-enum-told
+enum-told c = search needs
 
 same-length : tie.Need-same-length
 same-length c = search needs
 
 returns-2 : tie.Need-returns-2
 returns-2 c =
-    let s = c .before .before .before .before .before .before .before .before .before .before .before .before .before .before .before .before .before in
-    entered-row (bucketBy (s .args .room)) _ _ _ _ _ _ _ _ _ _ (row-written (s .args .v) _ _ (c .before .before .before .before .before .before .before .before .before .before .before .before .before .put16 .ensures) (c .before .before .before .before .before .before .before .before .before .before .put162 .ensures)) (c .before .before .before .before .before .bucket-of .ensures .0 ∙ ap (bucketOf (s .args .room)) (c .before .before .before .before .before .before .wide .ensures .0 ∙ c .before .before .before .before .before .before .before .get32 .ensures)) (c .before .before .enter .ensures)
+    let s = c .before .before .before .before .before .before .before .before .before .before in
+    let f = c .before .before .before .find-vertex .ensures in
+    let b = c .before .before .before .before .before .bucket-of .ensures in
+    key-entered _ _ _ _ _ _ _ _ _ (c .before .before .before .before .before .before .before .key-of .ensures) (search needs) (b .0) (c .before .before .before .before .before .before .wide .ensures .0)
+    (enters-full _ _ _ _ _ _ _ _ f (b .1) (s .pre .1) (c .before .enum-told .given .1) (c .if2 .taken))
+
+append-vertex-requires : tie.Need-append-vertex-requires
+append-vertex-requires c κs = search needs
+
+same-length-2 : tie.Need-same-length-2
+same-length-2 c = search needs
+
+returns-3 : tie.Need-returns-3
+returns-3 c =
+    let s = c .before .before .before .before .before .before .before .before .before .before in
+    let f = c .before .before .before .find-vertex .ensures in
+    let b = c .before .before .before .before .before .bucket-of .ensures in
+    key-entered _ _ _ _ _ _ _ _ _ (c .before .before .before .before .before .before .before .key-of .ensures) (search needs) (b .0) (c .before .before .before .before .before .before .wide .ensures .0)
+    (enters-at _ _ _ _ _ _ _ _ f (b .1) (s .pre .1) _ (c .before .state .given .1))
+
+same-length-3 : tie.Need-same-length-3
+same-length-3 c = search needs
+
+returns-4 : tie.Need-returns-4
+returns-4 c =
+    let s = c .before .before .before .before .before .before .before .before .before .before .before .before .before .before in
+    let f = c .before .before .before .before .before .before .before .find-vertex .ensures in
+    let b = c .before .before .before .before .before .before .before .before .before .bucket-of .ensures in
+    key-entered _ _ _ _ _ _ _ _ _ (c .before .before .before .before .before .before .before .before .before .before .before .key-of .ensures) (search needs) (b .0) (c .before .before .before .before .before .before .before .before .before .before .wide .ensures .0)
+    (enters-new _ _ _ _ _ _ _ _ f (b .1) (s .pre .1) (c .before .before .before .before .before .enum-told .given .1) (c .before .before .before .before .if2 .left) (omega (arith, s .pre)) (omega (arith, s .pre)) (omega arith) _ (c .before .before .append-vertex .ensures))
 
 pub enter-vertex-spec : {M : Type 1} → statement M
 enter-vertex-spec =
     tie.close
     (tie.spec
     returns
-    slice-aggregate-put16
-    put16-requires
-    slice-aggregate-put16-2
-    put16-requires-2
-    slice-aggregate-get32
-    get32-requires
+    cast-count
+    key-of-requires
     wide-requires
     bucket-of-requires
-    cast-enter
-    cast-enter-2
-    slice-aggregate-enter
-    enter-requires
+    find-vertex-requires
+    enum-known-state
+    enum-told
     same-length
-    returns-2)
+    returns-2
+    append-vertex-requires
+    same-length-2
+    returns-3
+    same-length-3
+    returns-4)
