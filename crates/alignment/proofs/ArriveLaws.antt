@@ -1,11 +1,11 @@
 -- What a move to a state comes to, from what the calls answer and leave.
 use Prim.Native.Nat.{ℕ, _+_, _-_, _*_, _≤_, _<_}
 use mathlib.Core.Path.{_≡_, refl, sym, ap, _∙_, subst}
-use mathlib.Core.Bool.{true, false}
+use mathlib.Core.Bool.{false}
 use mathlib.Core.List.{List, [], _∷_, _++_}
 use native.Mathlib.Omega.{arith}
 use mathlib.Core.Logic.{inl, inr}
-use borrow.Author.Tests.{ltb-true}
+use borrow.Author.Tests.{ltb-true, lt-ltb, le-ltb}
 use lib.ListN.{length}
 use Rattle.automata.specs.Automaton.{Automaton, Content}
 use Rattle.automata.specs.Explore.{Edge, insert, indexOf}
@@ -26,16 +26,28 @@ use Rattle.alignment.specs.declared.plan.Plan.{Plan}
 use Rattle.alignment.specs.declared.head.Head.{Head}
 use Rattle.alignment.specs.Vertices.{vertexOf, rowOf, bucketBy, EntersVertex, VertexBelow}
 use Rattle.alignment.specs.Moves.{moveBytes}
-use Rattle.alignment.specs.Searching.{counted, VertexSearch, Holds, Ready, Arrives}
+use Rattle.alignment.specs.Searching.{withReached, givenUp, counted, movedTo, VertexSearch, Holds, Ready, Arrives}
 use Rattle.alignment.proofs.RecordLaws.{length-move}
 use Rattle.rows.proofs.CodeLaws.{index-bound}
 use Rattle.rows.proofs.KeptLaws.{kept-length}
 use Rattle.rows.proofs.SearchLaws.{count-more}
 use Rattle.alignment.proofs.HeldLaws.{was-at, was-new, was-full, inserted-held, move-held}
 
--- a head with so many states
-abbrev pub withReached : ℕ → Head → Head
-withReached k h = record { taken = h .taken; reached = k; arcs = h .arcs; full = h .full }
+-- ---- the head after a move
+
+-- there is room for the states
+pub moved-on : (p : Plan) (h : Head) (k : ℕ) → k ≤ p .states → movedTo p h k ≡ counted p (withReached k h)
+moved-on p h k b = rw (le-ltb (p .states) k b)
+
+-- there is none
+pub moved-off : (p : Plan) (h : Head) (k : ℕ) → p .states < k → movedTo p h k ≡ givenUp h
+moved-off p h k b = rw (lt-ltb (p .states) k b)
+
+-- a move came to a head that is the same
+pub arrives-moved : (p : Plan) (h : Head) (d : Vertex) (i j : ℕ) (v : List ℕ) (g r : Head) (w : List ℕ) → r ≡ g → Arrives p h d i j v g w → Arrives p h d i j v r w
+arrives-moved p h d i j v g r w e a = subst (λ (z : Head). Arrives p h d i j v z w) (sym e) a
+
+-- ---- the move
 
 -- the record of the move that is noted
 abbrev pub noted : Head → ℕ → ℕ → ResultState → Move
@@ -48,6 +60,7 @@ module _ (p : Plan) (h : Head) (d : Vertex) (i j : ℕ) (v : List ℕ) (q : Read
       → VertexBelow (length (A .states)) (length (B .states)) t → (s : VertexSearch) → Holds p A B h s v
       → Inserted rowOf sameVertex (bucketBy (p .states)) 16 4 (p .states) (s .vertices) t v w n × (k ≡ length (insert sameVertex (s .vertices) t))
 
+  -- the head is that after the move, and the record of the move is kept
   arrives-noted : (k : ℕ) (n : ResultState) (w : List ℕ) → h .reached ≤ k → k ≤ p .states → length w ≡ length v → Enters k n w → (g : Head) (u : List ℕ)
       → (g ≡ counted p (withReached k h)) × (u ≡ keptRecord (p .base) (p .arcs) (h .arcs) (moveBytes (noted h i j n)) w) → Arrives p h d i j v g u
   unfolding note noteAll
@@ -84,27 +97,33 @@ module _ (p : Plan) (h : Head) (d : Vertex) (i j : ℕ) (v : List ℕ) (q : Read
 
   module _ (r : Entered) (w : List ℕ) (t : EntersVertex (h .reached) (p .states) d v r w) where
     -- it was there already
-    pub arrives-at : (n : ResultState) → r ≡ E.At n → (g : Head) (u : List ℕ)
-        → (g ≡ counted p h) × (u ≡ keptRecord (p .base) (p .arcs) (h .arcs) (moveBytes (noted h i j n)) w) → Arrives p h d i j v g u
-    arrives-at n z = arrives-noted (h .reached) n w (omega arith) (q .fits) (t .same-length)
+    pub arrives-at : (n : ResultState) → r ≡ E.At n → (u : List ℕ) → u ≡ keptRecord (p .base) (p .arcs) (h .arcs) (moveBytes (noted h i j n)) w
+        → Arrives p h d i j v (movedTo p h (h .reached)) u
+    arrives-at n z u e = arrives-noted (h .reached) n w (omega arith) (q .fits) (t .same-length)
         (λ A B c la lb di bt s o. was-at p h d v (q .vertices-fit) (q .moves-fit) A B c la lb di bt s o n w (subst (λ (y : Entered). EntersVertex (h .reached) (p .states) d v y w) z t))
+        _ u (moved-on p h (h .reached) (q .fits), e)
 
     -- it is new
-    pub arrives-new : (n : ResultState) → r ≡ E.New n → (g : Head) (u : List ℕ)
-        → (g ≡ counted p (withReached (h .reached + 1) h)) × (u ≡ keptRecord (p .base) (p .arcs) (h .arcs) (moveBytes (noted h i j n)) w) → Arrives p h d i j v g u
-    arrives-new n z =
+    pub arrives-new : (n : ResultState) → r ≡ E.New n → (u : List ℕ) → u ≡ keptRecord (p .base) (p .arcs) (h .arcs) (moveBytes (noted h i j n)) w
+        → Arrives p h d i j v (movedTo p h (h .reached + 1)) u
+    arrives-new n z u e =
         let t2 = subst (λ (y : Entered). EntersVertex (h .reached) (p .states) d v y w) z t in
         let b = t2 .fits in
-        arrives-noted (h .reached + 1) n w (omega arith) (omega (arith, b)) (t .same-length)
+        let l : h .reached + 1 ≤ p .states = omega (arith, b) in
+        arrives-noted (h .reached + 1) n w (omega arith) l (t .same-length)
         (λ A B c la lb di bt s o. was-new p h d v (q .vertices-fit) (q .moves-fit) A B c la lb di bt s o n w t2)
+        _ u (moved-on p h (h .reached + 1) l, e)
 
-    -- there is no room for it
-    pub arrives-full : r ≡ E.Full → Arrives p h d i j v (record { taken = h .taken; reached = h .reached; arcs = h .arcs; full = true }) w
+    -- there is no room for it, and the search is given up
+    given-up : r ≡ E.Full → Arrives p h d i j v (givenUp h) w
     unfolding note noteAll
-    arrives-full z = record {
+    given-up z = record {
       grows = record { taken = refl; grown = omega arith; fits = q .fits; few = omega arith; same-length = t .same-length };
       meaning = λ A B c x y la lb di bt ca s m at. record {
         held = λ f. TestFacts.false-not-true f refl;
         over = λ f. inl (was-full p h d v (q .vertices-fit) (q .moves-fit) A B x la lb di bt s (m .held opened) w (subst (λ (y : Entered). EntersVertex (h .reached) (p .states) d v y w) z t));
       };
     }
+
+    pub arrives-full : r ≡ E.Full → Arrives p h d i j v (movedTo p h (p .states + 1)) w
+    arrives-full z = arrives-moved p h d i j v (givenUp h) (movedTo p h (p .states + 1)) w (moved-off p h (p .states + 1) (omega arith)) (given-up z)

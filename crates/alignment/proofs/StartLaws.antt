@@ -24,11 +24,10 @@ use Rattle.alignment.specs.declared.plan.Plan.{Plan}
 use Rattle.alignment.specs.declared.head.Head.{Head}
 use Rattle.alignment.specs.Vertices.{EntersVertex}
 use Rattle.alignment.specs.Reading.{StatesLent, ReadsStates}
-use Rattle.alignment.specs.Searching.{Comes}
+use Rattle.alignment.specs.Searching.{withReached, Comes}
 use Rattle.alignment.specs.Starting.{withVertices, Enters, Open, Widens, Admits, StartsOne, StartsAll}
 use Rattle.rows.proofs.SearchLaws.{inserted-longer}
 use Rattle.alignment.proofs.HeldLaws.{was-at, was-new, was-full, inserted-held}
-use Rattle.alignment.proofs.ArriveLaws.{withReached}
 use Rattle.alignment.proofs.NoteLaws.{exceeds-on}
 use Rattle.alignment.proofs.ReadLaws.{initial-absent, initial-present}
 

@@ -7,7 +7,7 @@ use mathlib.Core.List.{List, [], _∷_, map}
 use Prim.Native.Nat.{ℕ, _+_, _*_, _≤_, _<_}
 use lib.Dec.{eqb, ltb}
 use lib.ListN.{length, getElem?}
-use Rattle.automata.specs.Lists.{All, filter, isSome}
+use Rattle.automata.specs.Lists.{All, if, filter, isSome}
 use Rattle.automata.specs.OrderedSum.{ℕ-sum}
 use Rattle.automata.specs.Automaton.{Automaton, Arc, Content, content}
 use Rattle.automata.specs.System.{system, outAt, finalAt}
@@ -23,9 +23,21 @@ use Rattle.alignment.specs.Vertices.{placeNumber, vertexOf, HoldsVertice
 use Rattle.alignment.specs.Moves.{Carries, HoldsMoves}
 use Rattle.alignment.specs.Reading.{StatesLent, ArcsLent, ReadsStates, ReadsArcs, LinkedArcs, chainedOnly}
 
+-- a head with so many states
+abbrev pub withReached : ℕ → Head → Head
+withReached k h = record { taken = h .taken; reached = k; arcs = h .arcs; full = h .full }
+
+-- a head that is given up
+abbrev pub givenUp : Head → Head
+givenUp h = record { taken = h .taken; reached = h .reached; arcs = h .arcs; full = true }
+
 -- a head with one arc more: the search is given up where these are more than are looked for
 abbrev pub counted : Plan → Head → Head
 counted p h = record { taken = h .taken; reached = h .reached; arcs = h .arcs + 1; full = ltb (p .limit) (h .arcs + 1) }
+
+-- a head after a move, where k states are now reached: it is given up where these are more than there is room for
+abbrev pub movedTo : Plan → Head → ℕ → Head
+movedTo p h k = if (ltb (p .states) k) (givenUp h) (counted p (withReached k h))
 
 -- a search of the definitions: the states of the product found, and the moves noted with what they carry
 abbrev pub VertexSearch : Type 0

@@ -6,7 +6,7 @@ ghost use lib.ListN.{length};
 ghost use Rattle.rows.specs.Kept.{keptRecord};
 ghost use Rattle.alignment.specs.Moves.{moveBytes};
 ghost use Rattle.alignment.specs.Reading.{StatesLent, ArcsLent, LinkedArcs};
-ghost use Rattle.alignment.specs.Searching.{counted, Ready, Arrives, TriesSecond, PassesSecond, TriesFirst, PassesFirst, TriesBoth, PassesBoth, TellsEnd, EndsFirst, EndsSecond, Tables, Indexed, TakesUp};
+ghost use Rattle.alignment.specs.Searching.{movedTo, Ready, Arrives, TriesSecond, PassesSecond, TriesFirst, PassesFirst, TriesBoth, PassesBoth, TellsEnd, EndsFirst, EndsSecond, Tables, Indexed, TakesUp};
 use crate::plan::Plan;
 use crate::vertex::Move;
 use crate::vertex::Vertex;
@@ -44,10 +44,26 @@ pub fn may_end(counts: Counts, states: &[u8], x: u16) -> bool
 }
 
 impl Head {
-    // A move from the state that is taken up.
-    fn note(mut self, plan: Plan, work: &mut [u8], i: u16, j: u16, to: ResultState) -> Head
-        requires { ⌜ (plan .base + 16 * plan .arcs ≤ length (now work)) × (self .taken < 1024) × (self .arcs < 1000000000000) ⌝ }
-        ensures { λ r. ⌜ (r ≡ counted plan self) × (now (work .exit) ≡ keptRecord (plan .base) (plan .arcs) (self .arcs) (moveBytes (record { from = record { 0 = self .taken }; first = i; second = j; to = to })) (now (work .entry))) ⌝ }
+    // The head after a move: so many states are now reached, or the search is given up where these are more than there
+    // is room for.
+    fn moved(mut self, plan: Plan, reached: usize) -> Head
+        requires { ⌜ self .arcs < 1000000000000 ⌝ }
+        ensures { λ r. ⌜ r ≡ movedTo plan self reached ⌝ }
+    {
+        if plan.states < reached {
+            self.full = true;
+            return self;
+        }
+        self.reached = reached;
+        self.arcs += 1;
+        self.full = plan.limit < self.arcs;
+        self
+    }
+
+    // A move from the state that is taken up, written.
+    fn note(self, plan: Plan, work: &mut [u8], i: u16, j: u16, to: ResultState)
+        requires { ⌜ (plan .base + 16 * plan .arcs ≤ length (now work)) × (self .taken < 1024) ⌝ }
+        ensures { λ _. ⌜ now (work .exit) ≡ keptRecord (plan .base) (plan .arcs) (self .arcs) (moveBytes (record { from = record { 0 = self .taken }; first = i; second = j; to = to })) (now (work .entry)) ⌝ }
     {
         let m = Move {
             from: ResultState(self.taken as u16),
@@ -56,26 +72,24 @@ impl Head {
             to,
         };
         keep_move(work, plan.base, plan.arcs, self.arcs, m);
-        self.arcs += 1;
-        self.full = plan.limit < self.arcs;
-        self
     }
 
-    // A move by the arcs with numbers `i` and `j` to the state `to`.
-    fn arrive(mut self, plan: Plan, to: Vertex, i: u16, j: u16, work: &mut [u8]) -> Head
+    // A move by the arcs with numbers `i` and `j` to the state `to`: how many states are now reached, or one more than
+    // there is room for.
+    fn arrive(self, plan: Plan, to: Vertex, i: u16, j: u16, work: &mut [u8]) -> usize
         requires { ⌜ (Ready plan self 1 (length (now work))) × (self .full ≡ false) ⌝ }
-        ensures { λ r. ⌜ Arrives plan self to i j (now (work .entry)) r (now (work .exit)) ⌝ }
+        ensures { λ r. ⌜ Arrives plan self to i j (now (work .entry)) (movedTo plan self r) (now (work .exit)) ⌝ }
     {
         match enter_vertex(work, self.reached, plan.states, to) {
-            Entered::At(state) => self.note(plan, work, i, j, state),
+            Entered::At(state) => {
+                self.note(plan, work, i, j, state);
+                self.reached
+            }
             Entered::New(state) => {
-                self.reached += 1;
-                self.note(plan, work, i, j, state)
+                self.note(plan, work, i, j, state);
+                self.reached + 1
             }
-            Entered::Full => {
-                self.full = true;
-                self
-            }
+            Entered::Full => plan.states + 1,
         }
     }
 
@@ -99,7 +113,8 @@ impl Head {
         }
         let second = get16(arcs, at + 2);
         let next = Vertex { first: to, second };
-        self.arrive(plan, next, i, j as u16, work)
+        let reached = self.arrive(plan, next, i, j as u16, work);
+        self.moved(plan, reached)
     }
 
     // The second side's arcs in the chain of its place, with that move of the first side.
@@ -143,7 +158,8 @@ impl Head {
             first,
             second: 65535,
         };
-        self.arrive(plan, next, i as u16, 65535, work)
+        let reached = self.arrive(plan, next, i as u16, 65535, work);
+        self.moved(plan, reached)
     }
 
     // The first side's arcs in the chain of its place, where the second side's path has ended.

@@ -20,32 +20,35 @@ note-requires c κs = search needs
 enum-known-state-2 : tie.Need-enum-known-state-2
 enum-known-state-2 c = search needs
 
-add-self : tie.Need-add-self
-add-self c = search needs
-
 note-requires-2 : tie.Need-note-requires-2
 note-requires-2 c κs = search needs
 
+add-result : tie.Need-add-result
+add-result c = search needs
+
 enum-told : tie.Need-enum-told
 enum-told c = search needs
+
+add-result-2 : tie.Need-add-result-2
+add-result-2 c = search needs
 
 same-length : tie.Need-same-length
 same-length c = search needs
 
 returns : tie.Need-returns
-returns c = let s = c .before .before .before .before .before .before .before .before .before .before .before .before in arrives-at _ _ _ _ _ _ (s .pre .0) (s .pre .1) (search needs) (search needs) _ _ (c .before .before .before .before .before .before .before .before .before .enter-vertex .ensures) _ (c .before .before .before .before .before .state .given .1) _ _ (c .before .before .note .ensures)
+returns c = let s = c .before .before .before .before .before .before .before .before .before .before .before .before in arrives-at _ _ _ _ _ _ (s .pre .0) (s .pre .1) (search needs) (search needs) _ _ (c .before .before .before .before .before .before .before .before .before .enter-vertex .ensures) _ (c .before .before .before .before .before .state .given .1) _ (c .before .before .note .ensures)
 
 same-length-2 : tie.Need-same-length-2
 same-length-2 c = search needs
 
 returns-2 : tie.Need-returns-2
-returns-2 c = let s = c .before .before .before .before .before .before .before .before .before .before .before .before .before in arrives-new _ _ _ _ _ _ (s .pre .0) (s .pre .1) (search needs) (search needs) _ _ (c .before .before .before .before .before .before .before .before .before .before .enter-vertex .ensures) _ (c .before .before .before .before .before .before .state2 .given .1) _ _ (c .before .before .note2 .ensures)
+returns-2 c = let s = c .before .before .before .before .before .before .before .before .before .before .before .before .before in arrives-new _ _ _ _ _ _ (s .pre .0) (s .pre .1) (search needs) (search needs) _ _ (c .before .before .before .before .before .before .before .before .before .before .enter-vertex .ensures) _ (c .before .before .before .before .before .before .state2 .given .1) _ (c .before .before .before .note2 .ensures)
 
 same-length-3 : tie.Need-same-length-3
 same-length-3 c = search needs
 
 returns-3 : tie.Need-returns-3
-returns-3 c = let s = c .before .before .before .before .before .before .before in arrives-full _ _ _ _ _ _ (s .pre .0) (s .pre .1) (search needs) (search needs) _ _ (c .before .before .before .before .enter-vertex .ensures) (c .enum-told .given .1)
+returns-3 c = let s = c .before .before .before .before .before .before .before .before in arrives-full _ _ _ _ _ _ (s .pre .0) (s .pre .1) (search needs) (search needs) _ _ (c .before .before .before .before .before .enter-vertex .ensures) (c .before .enum-told .given .1)
 
 pub arrive-spec : {M : Type 1} → statement M
 arrive-spec =
@@ -55,9 +58,10 @@ arrive-spec =
     enum-known-state
     note-requires
     enum-known-state-2
-    add-self
     note-requires-2
+    add-result
     enum-told
+    add-result-2
     same-length
     returns
     same-length-2

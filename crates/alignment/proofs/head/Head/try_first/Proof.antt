@@ -1,4 +1,5 @@
 -- `alignment::head::Head::try_first` meets its contract. Assumes nothing.
+use Rattle.alignment.proofs.ArriveLaws.{arrives-moved}
 use Rattle.alignment.proofs.FirstLaws.{first-away, first-there}
 use borrow.Author.Needs.{needs}
 use Rattle.alignment.proofs.head.Head.try_first.Statement.{statement}
@@ -6,6 +7,7 @@ use Rattle.alignment.proofs.head.Head.try_first.Tie as tie
 use Rattle.alignment.proofs.head.Head.try_first.Reads as reads
 use Rattle.alignment.proofs.head.Head.try_first.Lts as lts
 use Rattle.alignment.proofs.head.Head.arrive.Reads as arrive-reads
+use Rattle.alignment.proofs.head.Head.moved.Reads as moved-reads
 use Rattle.memory.proofs.bytes.get16.Reads as get16-reads
 
 mul-at : tie.Need-mul-at
@@ -29,11 +31,14 @@ cast-arrive c = search needs
 arrive-requires : tie.Need-arrive-requires
 arrive-requires c κs = search needs
 
+moved-requires : tie.Need-moved-requires
+moved-requires c κs = search needs
+
 same-length : tie.Need-same-length
 same-length c = search needs
 
 returns-2 : tie.Need-returns-2
-returns-2 c = let s = c .before .before .before .before .before .before .before .before .before .before in first-there _ _ _ _ _ _ (s .pre .0) (s .pre .3) _ (c .before .before .before .before .before .before .before .get16 .ensures) (c .before .before .before .before .before .if1 .left) _ (c .before .before .before .before .get162 .ensures) _ _ (c .before .before .arrive .ensures)
+returns-2 c = let s = c .before .before .before .before .before .before .before .before .before .before .before in first-there _ _ _ _ _ _ (s .pre .0) (s .pre .3) _ (c .before .before .before .before .before .before .before .before .get16 .ensures) (c .before .before .before .before .before .before .if1 .left) _ (c .before .before .before .before .before .get162 .ensures) _ _ (arrives-moved _ _ _ _ _ _ _ _ _ (c .moved .ensures) (c .before .before .before .arrive .ensures))
 
 pub try-first-spec : {M : Type 1} → statement M
 try-first-spec =
@@ -46,5 +51,6 @@ try-first-spec =
     get16-requires-2
     cast-arrive
     arrive-requires
+    moved-requires
     same-length
     returns-2)
