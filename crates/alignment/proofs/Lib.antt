@@ -6,6 +6,7 @@ pub mod NoteLaws
 pub mod HeldLaws
 pub mod ArriveLaws
 pub mod ReadLaws
+pub mod DegreeLaws
 pub mod SecondLaws
 pub mod FirstLaws
 pub mod BothLaws

@@ -1,6 +1,6 @@
 -- What the bytes of a state and of an arc tell, and the steps by the first arcs of a table.
 use Prim.Native.Nat.{ℕ, zero, suc, _+_, _-_, _*_, _≤_, _<_}
-use mathlib.Core.Path.{_≡_, refl, sym, ap, _∙_, subst}
+use mathlib.Core.Path.{_≡_, refl, sym, ap, _∙_}
 use mathlib.Core.Bool.{Bool, true, false}
 use mathlib.Core.Option.{Option, none, some}
 use mathlib.Core.List.{List, [], _∷_, _++_, map, append-nil}
@@ -94,7 +94,7 @@ out-append xs zs (some q) =
     ∙ ListFacts.map-append (λ (x : Arc ℕ). (content x, x .target)) (filter (λ (a : Arc ℕ). eqb (a .source) q) xs) (filter (λ (a : Arc ℕ). eqb (a .source) q) zs)
 
 -- no arcs, and all of them
-out-nil : (y : Option ℕ) → outBy [] y ≡ []
+pub out-nil : (y : Option ℕ) → outBy [] y ≡ []
 out-nil none = refl
 out-nil (some q) = refl
 
@@ -149,6 +149,38 @@ whole-chained next A h =
     let e = chained-whole next 0 (A .arcs) (λ j l b. h j (omega arith)) in
     λ i. record { tapes = A .tapes; states = A .states; arcs = e i }
 
+-- ---- the steps by the first arcs of a list
+
+module _ (next : List ℕ) (xs : List (Arc ℕ)) (y : Option ℕ) where
+  -- the steps by those of the first j arcs that stand in chains
+  abbrev outFirst : ℕ → List (Content ℕ × ℕ)
+  outFirst j = outBy (chainedArcs next 0 (take j xs)) y
+
+  -- and by one arc more
+  out-more : (j : ℕ) (a : Arc ℕ) → getElem? xs j ≡ some a → outFirst j ++ outBy (chainedArcs next j (a ∷ [])) y ≡ outFirst (j + 1)
+  out-more j a e =
+      let s : suc j ≡ j + 1 = omega arith in
+      sym (out-append (chainedArcs next 0 (take j xs)) (chainedArcs next j (a ∷ [])) y) ∙ ap (λ (zs : List (Arc ℕ)). outBy zs y) (sym (chained-more next xs j a e)) ∙ ap outFirst s
+
+  -- which stands in a chain
+  pub out-next : (j : ℕ) (a : Arc ℕ) → getElem? xs j ≡ some a → inChain next j ≡ true
+      → outBy (chainedArcs next 0 (take j xs)) y ++ outBy (a ∷ []) y ≡ outBy (chainedArcs next 0 (take (j + 1) xs)) y
+  out-next j a e i = ap (λ (zs : List (Arc ℕ)). outFirst j ++ outBy zs y) (sym (chained-one next j a i)) ∙ out-more j a e
+
+  -- arcs that lead nowhere are passed over
+  pub out-pass : (n j k : ℕ) → j + n ≡ k → k ≤ length xs → ((i : ℕ) (a : Arc ℕ) → j ≤ i → i < k → getElem? xs i ≡ some a → inChain next i ≡ true → a .source ≡ placeNumber y → ⊥)
+      → outBy (chainedArcs next 0 (take j xs)) y ≡ outBy (chainedArcs next 0 (take k xs)) y
+  out-pass zero j k e b f = let z : j ≡ k = omega arith in ap outFirst z
+  out-pass (suc n) j k e b f =
+      let a = ListFacts.place-exists xs j (omega arith) in
+      let z : outBy (chainedArcs next j (a .0 ∷ [])) y ≡ [] = chained-away next j (a .0) y (f j (a .0) (omega arith) (omega arith) (a .1)) in
+      sym (append-nil (outFirst j)) ∙ ap (λ (zs : List (Content ℕ × ℕ)). outFirst j ++ zs) (sym z) ∙ out-more j (a .0) (a .1)
+      ∙ out-pass n (j + 1) k (omega arith) b (λ i x l. f i x (omega arith))
+
+  -- all of them
+  pub out-whole : (j : ℕ) → length xs ≤ j → outBy (chainedArcs next 0 (take j xs)) y ≡ outBy (chainedArcs next 0 xs) y
+  out-whole j l = ap (λ (zs : List (Arc ℕ)). outBy (chainedArcs next 0 zs) y) (take-all j xs l)
+
 -- ---- arcs looked at one after the other
 
 module _ (K : List (Content ℕ × ℕ) → List Step) (K-nil : K [] ≡ []) (K-append : (xs zs : List (Content ℕ × ℕ)) → K (xs ++ zs) ≡ K xs ++ K zs)
@@ -161,41 +193,20 @@ module _ (K : List (Content ℕ × ℕ) → List Step) (K-nil : K [] ≡ []) (K-
   pub turn-start : Notes p A B c (K (outBy (chainedArcs next 0 (take 0 xs)) y)) h v h v
   turn-start = notes-same p A B c [] (firsts 0) h h v v (sym (ap K (out-nil y) ∙ K-nil)) (notes-none p A B c h v)
 
-  -- the steps by one arc more
-  firsts-more : (j : ℕ) (a : Arc ℕ) → getElem? xs j ≡ some a → firsts j ++ K (outBy (chainedArcs next j (a ∷ [])) y) ≡ firsts (j + 1)
-  firsts-more j a e =
-      let s : suc j ≡ j + 1 = omega arith in
-      sym (K-append (outBy (chainedArcs next 0 (take j xs)) y) (outBy (chainedArcs next j (a ∷ [])) y))
-      ∙ ap K (sym (out-append (chainedArcs next 0 (take j xs)) (chainedArcs next j (a ∷ [])) y))
-      ∙ ap (λ (zs : List (Arc ℕ)). K (outBy zs y)) (sym (chained-more next xs j a e)) ∙ ap firsts s
-
   -- one more was looked at
   pub turn-more : (j : ℕ) (a : Arc ℕ) (g r : Head) (w u : List ℕ) → g .taken ≡ h .taken → Notes p A B c (K (outBy (chainedArcs next 0 (take j xs)) y)) h v g w
       → getElem? xs j ≡ some a → inChain next j ≡ true
       → Notes p A B c (K (outBy (a ∷ []) y)) g w r u → Notes p A B c (K (outBy (chainedArcs next 0 (take (j + 1) xs)) y)) h v r u
   turn-more j a g r w u t m e i n =
-      let q : firsts j ++ K (outBy (a ∷ []) y) ≡ firsts (j + 1) =
-      ap (λ (zs : List (Arc ℕ)). firsts j ++ K (outBy zs y)) (sym (chained-one next j a i)) ∙ firsts-more j a e in
+      let q : firsts j ++ K (outBy (a ∷ []) y) ≡ firsts (j + 1) = sym (K-append (outBy (chainedArcs next 0 (take j xs)) y) (outBy (a ∷ []) y)) ∙ ap K (out-next next xs y j a e i) in
       notes-same p A B c (firsts j ++ K (outBy (a ∷ []) y)) (firsts (j + 1)) h r v u q
       (notes-then p A B c (firsts j) (K (outBy (a ∷ []) y)) h g r v w u t m n)
 
-  -- one that leads nowhere is passed over
-  turn-skip : (j : ℕ) (a : Arc ℕ) (g : Head) (w : List ℕ) → getElem? xs j ≡ some a → (inChain next j ≡ true → a .source ≡ placeNumber y → ⊥)
-      → Notes p A B c (firsts j) h v g w → Notes p A B c (firsts (j + 1)) h v g w
-  turn-skip j a g w e n m =
-      let z : K (outBy (chainedArcs next j (a ∷ [])) y) ≡ [] = ap K (chained-away next j a y n) ∙ K-nil in
-      let q : firsts j ≡ firsts (j + 1) = sym (append-nil (firsts j)) ∙ ap (λ (zs : List Step). firsts j ++ zs) (sym z) ∙ firsts-more j a e in
-      notes-same p A B c (firsts j) (firsts (j + 1)) h g v w q m
-
-  -- so are several
+  -- those that lead nowhere are passed over
   pub turn-pass : (n j k : ℕ) (g : Head) (w : List ℕ) → j + n ≡ k → k ≤ length xs
       → ((i : ℕ) (a : Arc ℕ) → j ≤ i → i < k → getElem? xs i ≡ some a → inChain next i ≡ true → a .source ≡ placeNumber y → ⊥)
       → Notes p A B c (K (outBy (chainedArcs next 0 (take j xs)) y)) h v g w → Notes p A B c (K (outBy (chainedArcs next 0 (take k xs)) y)) h v g w
-  turn-pass zero j k g w e b f m = let z : j ≡ k = omega arith in subst (λ (i : ℕ). Notes p A B c (firsts i) h v g w) z m
-  turn-pass (suc n) j k g w e b f m =
-      let a = ListFacts.place-exists xs j (omega arith) in
-      turn-pass n (j + 1) k g w (omega arith) b (λ i x l. f i x (omega arith))
-      (turn-skip j (a .0) g w (a .1) (f j (a .0) (omega arith) (omega arith) (a .1)) m)
+  turn-pass n j k g w e b f m = notes-same p A B c (firsts j) (firsts k) h g v w (ap K (out-pass next xs y n j k e b f)) m
 
   -- the states are full before all arcs were looked at
   pub turn-full : (j : ℕ) (r : Head) (u : List ℕ) → r .full ≡ true → Notes p A B c (K (outBy (chainedArcs next 0 (take j xs)) y)) h v r u
@@ -210,4 +221,4 @@ module _ (K : List (Content ℕ × ℕ) → List Step) (K-nil : K [] ≡ []) (K-
   -- all were
   pub turn-all : (j : ℕ) (r : Head) (u : List ℕ) → length xs ≤ j → Notes p A B c (K (outBy (chainedArcs next 0 (take j xs)) y)) h v r u
       → Notes p A B c (K (outBy (chainedArcs next 0 xs) y)) h v r u
-  turn-all j r u l m = notes-same p A B c (firsts j) (K (outBy (chainedArcs next 0 xs) y)) h r v u (ap (λ (zs : List (Arc ℕ)). K (outBy (chainedArcs next 0 zs) y)) (take-all j xs l)) m
+  turn-all j r u l m = notes-same p A B c (firsts j) (K (outBy (chainedArcs next 0 xs) y)) h r v u (ap K (out-whole next xs y j l)) m

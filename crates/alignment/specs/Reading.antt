@@ -40,6 +40,12 @@ pub record ReadsArcs (counts : Counts) (bytes : List ℕ) (A : Automaton ℕ) : 
 abbrev pub LinkedArcs : Counts → List ℕ → List ℕ → List ℕ → Type 0
 LinkedArcs counts bytes first next = Linked (counts .states) (counts .arcs) bytes first next
 
+-- they hold those of some table, of which there are few
+pub record Walkable (counts : Counts) (first next : List ℕ) : Type 0 where
+  pub few : counts .arcs ≤ 8192
+  pub bytes : List ℕ
+  pub linked : LinkedArcs counts bytes first next
+
 -- the arcs of a list that stand in chains, where the first of the list has the number k
 abbrev pub chainedArcs : List ℕ → ℕ → List (Arc ℕ) → List (Arc ℕ)
 chainedArcs next k [] = []

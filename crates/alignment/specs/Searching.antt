@@ -21,7 +21,7 @@ use Rattle.alignment.specs.declared.plan.Plan.{Plan}
 use Rattle.alignment.specs.declared.head.Head.{Head}
 use Rattle.alignment.specs.Vertices.{placeNumber, vertexOf, HoldsVertices, ChainedVertices, PlaceBelow, VertexBelow}
 use Rattle.alignment.specs.Moves.{Carries, HoldsMoves}
-use Rattle.alignment.specs.Reading.{StatesLent, ArcsLent, ReadsStates, ReadsArcs, LinkedArcs, chainedOnly}
+use Rattle.alignment.specs.Reading.{StatesLent, ArcsLent, ReadsStates, ReadsArcs, LinkedArcs, Walkable, chainedOnly}
 
 -- a head with so many states
 abbrev pub withReached : ℕ → Head → Head
@@ -213,6 +213,25 @@ pub record Reads (p : Plan) (s1 a1 s2 a2 : List ℕ) (A B : Automaton ℕ) : Typ
 -- the moves out of a state of the product by the arcs that stand in chains
 abbrev pub chainedOut : List ℕ → List ℕ → Automaton ℕ → Automaton ℕ → automata.Vertex → List Step
 chainedOut n1 n2 A B = productSystem ℕ-sum (chainedOnly n1 A) (chainedOnly n2 B) .out
+
+-- d arcs stand in the chain of the place with number x, of whatever table the chains are
+pub record Leaves (counts : Counts) (first next : List ℕ) (x d : ℕ) : Type 0 where
+  pub few : d ≤ 8192
+  pub meaning : (arcs : List ℕ) (A : Automaton ℕ) (y : Option ℕ) → LinkedArcs counts arcs first next → ReadsArcs counts arcs A → x ≡ placeNumber y
+      → d ≡ length (outAt ℕ-sum (system (chainedOnly next A)) y)
+
+-- the chains of both tables may be walked along
+pub record Countable (p : Plan) (s1 f1 n1 s2 f2 n2 : List ℕ) : Type 0 where
+  pub first-states : StatesLent (p .first) s1
+  pub first-chains : Walkable (p .first) f1 n1
+  pub second-states : StatesLent (p .second) s2
+  pub second-chains : Walkable (p .second) f2 n2
+
+-- so many moves lead out of the state c by the arcs that stand in chains
+pub record CountsMoves (p : Plan) (c : Vertex) (s1 f1 n1 s2 f2 n2 : List ℕ) (count : ℕ) : Type 0 where
+  pub few : count ≤ 67125248
+  pub meaning : (a1 a2 : List ℕ) (A B : Automaton ℕ) (b : automata.Vertex) → Indexed p a1 f1 n1 a2 f2 n2 → Reads p s1 a1 s2 a2 A B → c ≡ vertexOf b
+      → VertexBelow (length (A .states)) (length (B .states)) b → count ≡ length (chainedOut n1 n2 A B b)
 
 -- the next state was taken up: all these moves out of it were noted
 pub record TakesUp (p : Plan) (h : Head) (s1 a1 n1 s2 a2 n2 : List ℕ) (v : List ℕ) (r : Head) (w : List ℕ) : Type 0 where

@@ -4,9 +4,11 @@ ghost use mathlib.Core.Bool.{false};
 ghost use Prim.Native.Nat.{_+_, _*_, _≤_, _<_};
 ghost use lib.ListN.{length};
 ghost use Rattle.rows.specs.Kept.{keptRecord};
+ghost use Rattle.alignment.specs.Vertices.{vertexAt};
 ghost use Rattle.alignment.specs.Moves.{moveBytes};
 ghost use Rattle.alignment.specs.Reading.{StatesLent, ArcsLent, LinkedArcs};
 ghost use Rattle.alignment.specs.Searching.{movedTo, Ready, Arrives, TriesSecond, PassesSecond, TriesFirst, PassesFirst, TriesBoth, PassesBoth, TellsEnd, EndsFirst, EndsSecond, Tables, Indexed, TakesUp};
+use crate::degree::moves_out;
 use crate::plan::Plan;
 use crate::vertex::Move;
 use crate::vertex::Vertex;
@@ -311,10 +313,11 @@ impl Head {
         self.pass_first(plan, c, first_arcs, first_heads, first_links, work)
     }
 
-    // The next state: all moves out of it by the arcs in chains, unless the states are full.
-    pub fn take_up(
+    // The state that is taken up, which is `c`: all moves out of it by the arcs in chains, unless the states are full.
+    fn lead_on(
         mut self,
         plan: Plan,
+        c: Vertex,
         first_states: &[u8],
         first_arcs: &[u8],
         first_heads: &[u16],
@@ -325,10 +328,9 @@ impl Head {
         second_links: &[u16],
         work: &mut [u8],
     ) -> Head
-        requires { ⌜ (Ready plan self 67125248 (length (now work))) × (self .full ≡ false) × (Tables plan (now «first_states») (now «first_arcs») (now «second_states») (now «second_arcs»)) × (Indexed plan (now «first_arcs») (now «first_heads») (now «first_links») (now «second_arcs») (now «second_heads») (now «second_links»)) ⌝ }
+        requires { ⌜ (Ready plan self 67125248 (length (now work))) × (self .full ≡ false) × (Tables plan (now «first_states») (now «first_arcs») (now «second_states») (now «second_arcs»)) × (Indexed plan (now «first_arcs») (now «first_heads») (now «first_links») (now «second_arcs») (now «second_heads») (now «second_links»)) × (c ≡ vertexAt (16 * self .taken) (now work)) ⌝ }
         ensures { λ r. ⌜ TakesUp plan self (now («first_states» .entry)) (now («first_arcs» .entry)) (now («first_links» .entry)) (now («second_states» .entry)) (now («second_arcs» .entry)) (now («second_links» .entry)) (now (work .entry)) r (now (work .exit)) ⌝ }
     {
-        let c = load_vertex(work, 16 * self.taken);
         self = self.pass_both(
             plan,
             c,
@@ -363,5 +365,54 @@ impl Head {
         }
         self.taken += 1;
         self
+    }
+
+    // The next state: all moves out of it by the arcs in chains, unless the states are full, or there are then more
+    // moves than are looked for.
+    pub fn take_up(
+        mut self,
+        plan: Plan,
+        first_states: &[u8],
+        first_arcs: &[u8],
+        first_heads: &[u16],
+        first_links: &[u16],
+        second_states: &[u8],
+        second_arcs: &[u8],
+        second_heads: &[u16],
+        second_links: &[u16],
+        work: &mut [u8],
+    ) -> Head
+        requires { ⌜ (Ready plan self 67125248 (length (now work))) × (self .full ≡ false) × (Tables plan (now «first_states») (now «first_arcs») (now «second_states») (now «second_arcs»)) × (Indexed plan (now «first_arcs») (now «first_heads») (now «first_links») (now «second_arcs») (now «second_heads») (now «second_links»)) ⌝ }
+        ensures { λ r. ⌜ TakesUp plan self (now («first_states» .entry)) (now («first_arcs» .entry)) (now («first_links» .entry)) (now («second_states» .entry)) (now («second_arcs» .entry)) (now («second_links» .entry)) (now (work .entry)) r (now (work .exit)) ⌝ }
+    {
+        let c = load_vertex(work, 16 * self.taken);
+        let count = moves_out(
+            plan,
+            c,
+            first_states,
+            first_heads,
+            first_links,
+            second_states,
+            second_heads,
+            second_links,
+        );
+        if plan.limit < self.arcs + count {
+            self.arcs += count;
+            self.full = true;
+            return self;
+        }
+        self.lead_on(
+            plan,
+            c,
+            first_states,
+            first_arcs,
+            first_heads,
+            first_links,
+            second_states,
+            second_arcs,
+            second_heads,
+            second_links,
+            work,
+        )
     }
 }

@@ -1,6 +1,5 @@
 -- `alignment::vertex::enter_vertex` meets its contract. Assumes nothing.
 use native.Mathlib.Omega.{arith}
-use Rattle.chains.proofs.FindLaws.{row-within}
 use Rattle.chains.proofs.EnterLaws.{enters-none, enters-at, enters-full, enters-new}
 use Rattle.alignment.proofs.KeyLaws.{key-entered}
 use borrow.Author.Needs.{needs}
