@@ -1,71 +1,192 @@
 -- The record of a move as it is written, over plain lists.
 use mathlib.Core.Path.{_≡_, refl, sym, ap, ap₂, _∙_}
 use mathlib.Core.Bool.{Bool, true, false}
-use mathlib.Core.List.{List, _∷_, _++_, append-assoc}
-use Prim.Native.Nat.{ℕ, zero, suc, _+_, _-_, _*_, _≤_, _<_}
+use mathlib.Core.List.{List, [], _∷_, _++_}
+use Prim.Native.Nat.{ℕ, zero, suc, _+_, _-_, _*_, _/_, _%_, _≤_, _<_}
 use native.Mathlib.Omega.{arith}
 use lib.Dec.{eqb, eqb-refl}
-use lib.ListN.{length, take, drop, replicate, length-append, length-replicate, length-take}
+use lib.ListN.{length, getD, set, take, drop, length-append, length-drop, length-replicate, replicate-append-replicate}
+use lib.Seq.{getD-drop}
 use Rattle.automata.specs.Lists.{if}
 use Rattle.automata.specs.Memory.{zeros}
 use Rattle.automata.proofs.TestFacts.{eqb-false, false-not-true, T-true}
 use Rattle.memory.specs.Region.{part, splice}
-use Rattle.memory.specs.Endian.{toLe}
-use Rattle.memory.proofs.Laws.{length-part, splice-behind}
-use Rattle.memory.proofs.EndianLaws.{length-toLe}
+use Rattle.memory.specs.Endian.{le, toLe}
+use Rattle.memory.proofs.Laws.{length-part, part-zero, part-suc, part-add, length-splice, splice-none, splice-twice, splice-append, splice-behind, splice-swap, one-store}
 use Rattle.alignment.specs.declared.vertex.Move.{Move}
-use Rattle.product_records.specs.Sums.{sideLabels, moveSum, moveFront, moveLabels, moveRecord, MoveFits}
+use Rattle.product_records.specs.Sums.{sideLabels, sideOver, moveSum, moveFront, moveLabels, moveRecord, MoveFits}
 
 -- a test for equal numbers that fails
 eqb-differs : (m n : ℕ) → eqb m n ≡ false → m ≡ n → ⊥
 eqb-differs m n f e = false-not-true {A = ⊥} f (T-true (eqb m n) (rw e (eqb-refl n)))
 
--- the first zeros of some
-pub zeros-taken : (n k : ℕ) → n ≤ k → take n (zeros k) ≡ zeros n
-zeros-taken zero k h = refl
-zeros-taken (suc n) zero h = absurd (omega arith)
-zeros-taken (suc n) (suc k) h = ap (λ (z : List ℕ). 0 ∷ z) (zeros-taken n k (omega arith))
+-- ---- zeros
 
--- there is room for them, and they are written
-pub zeros-room : (n to size : ℕ) → n ≤ 72 → to + n ≤ size → to + length (take n (zeros 72)) ≤ size
-zeros-room n to size h k = let e : length (take n (zeros 72)) ≡ n = ap length (zeros-taken n 72 h) ∙ length-replicate n 0 in omega (arith, e, k)
+-- written in three equal parts, one behind the other
+pub thirds-stored : (n to : ℕ) (out out1 out2 out3 : List ℕ) → to + 3 * n ≤ length out → out1 ≡ splice to (zeros n) out
+    → out2 ≡ splice (to + n) (zeros n) out1 → out3 ≡ splice (to + 2 * n) (zeros n) out2 → out3 ≡ splice to (zeros (3 * n)) out
+thirds-stored n to out out1 out2 out3 h a b c =
+    let l : length (zeros n) ≡ n = length-replicate n 0 in
+    let m : length (zeros (n + n)) ≡ n + n = length-replicate (n + n) 0 in
+    let e : n + n + n ≡ 3 * n = omega arith in
+    let p : out2 ≡ splice to (zeros (n + n)) out =
+    splice-behind to (to + n) (zeros n) (zeros n) out out1 out2 a b (omega (arith, l)) (omega (arith, l)) ∙ ap (λ (z : List ℕ). splice to z out) (replicate-append-replicate n n 0) in
+    splice-behind to (to + 2 * n) (zeros (n + n)) (zeros n) out out2 out3 p c (omega (arith, m)) (omega (arith, l, m))
+    ∙ ap (λ (z : List ℕ). splice to z out) (replicate-append-replicate (n + n) n 0 ∙ ap zeros e)
 
-pub zeros-put : (n to : ℕ) (out out2 : List ℕ) → n ≤ 72 → out2 ≡ splice to (take n (zeros 72)) out → out2 ≡ splice to (zeros n) out
-zeros-put n to out out2 h e = e ∙ ap (λ (z : List ℕ). splice to z out) (zeros-taken n 72 h)
+-- zeros in three parts
+zeros-parts : (a b c : ℕ) → zeros (a + (b + c)) ≡ zeros a ++ (zeros b ++ zeros c)
+zeros-parts a b c = sym (ap (λ (j : List ℕ). zeros a ++ j) (replicate-append-replicate b c 0) ∙ replicate-append-replicate a (b + c) 0)
 
-module _ (arcs : List ℕ) (tapes k to : ℕ) (out out2 : List ℕ) where
-  -- a side whose path has ended
-  pub side-blank : k ≡ 65535 → out2 ≡ splice to (zeros (9 * tapes)) out
-      → (out2 ≡ splice to (sideLabels arcs tapes k) out) × (length (sideLabels arcs tapes k) ≡ 9 * tapes)
+-- those of a record: of each side, and behind them
+zeros-split : (n k : ℕ) → n + k ≤ 8 → zeros 72 ≡ zeros (9 * n) ++ (zeros (9 * k) ++ zeros (72 - 9 * n - 9 * k))
+zeros-split n k t = let s : 72 ≡ 9 * n + (9 * k + (72 - 9 * n - 9 * k)) = omega arith in ap zeros s ∙ zeros-parts (9 * n) (9 * k) (72 - 9 * n - 9 * k)
+
+-- ---- a label
+
+-- the first bytes of some are those of the number that they stand for
+toLe-take : (n : ℕ) (xs : List ℕ) → n ≤ length xs → ((i : ℕ) → getD xs i 0 < 256) → toLe n (le (take n xs)) ≡ take n xs
+toLe-take zero xs h f = refl
+toLe-take (suc n) [] h f = absurd (omega arith)
+toLe-take (suc n) (x ∷ xs) h f =
+    let y = take n xs in
+    let b : x < 256 = f 0 in
+    let p : (x + 256 * le y) % 256 ≡ x = omega (arith, b) in
+    let q : (x + 256 * le y) / 256 ≡ le y = omega (arith, b) in
+    ap₂ (λ (i j : ℕ). i ∷ toLe n j) p q ∙ ap (λ (z : List ℕ). x ∷ z) (toLe-take n xs (omega arith) (λ i. f (suc i)))
+
+-- the same of a part of them
+toLe-part : (a n : ℕ) (xs : List ℕ) → a + n ≤ length xs → ((i : ℕ) → getD xs i 0 < 256) → toLe n (le (part a n xs)) ≡ part a n xs
+unfolding part
+toLe-part a n xs h f = let l = length-drop a xs in toLe-take n (drop a xs) (omega (arith, l)) (λ i. rw (getD-drop a xs i 0) (f (a + i)))
+
+-- a label copied: its length, and its eight bytes as one number
+pub label-copied : (arcs : List ℕ) (from to w : ℕ) (out out2 : List ℕ) → ((i : ℕ) → getD arcs i 0 < 256) → from + 9 ≤ length arcs → to + 9 ≤ length out
+    → w ≡ le (part (from + 1) 8 arcs) → out2 ≡ splice (to + 1) (toLe 8 w) (set out to (getD arcs from 0)) → out2 ≡ splice to (part from 9 arcs) out
+label-copied arcs from to w out out2 bytes h k e f =
+    let x = getD arcs from 0 in
+    let b : toLe 8 w ≡ part (from + 1) 8 arcs = ap (toLe 8) e ∙ toLe-part (from + 1) 8 arcs (omega arith) bytes in
+    splice-behind to (to + 1) (x ∷ []) (toLe 8 w) out (set out to x) out2 (one-store to x out (omega arith)) f refl (omega arith)
+    ∙ ap (λ (z : List ℕ). splice to z out) (ap (λ (z : List ℕ). x ∷ z) b ∙ sym (part-suc from 8 arcs 0 (omega arith)))
+
+-- ---- the labels of a side
+
+-- its path has ended
+pub side-ended : (arcs : List ℕ) (tapes k to : ℕ) (out : List ℕ) → k ≡ 65535 → out ≡ sideOver arcs tapes k to out
+unfolding sideOver
+side-ended arcs tapes k to out e = rw e
+
+-- its arc
+pub side-arc : (arcs : List ℕ) (tapes k to : ℕ) (out out2 : List ℕ) → (k ≡ 65535 → ⊥) → out2 ≡ splice to (part (80 * k + 8) (9 * tapes) arcs) out
+    → out2 ≡ sideOver arcs tapes k to out
+unfolding sideOver
+side-arc arcs tapes k to out out2 e h = rw (eqb-false k 65535 e) h
+
+-- one label copied, and so many behind it
+pub labels-more : (arcs : List ℕ) (from at left left2 : ℕ) (out out2 : List ℕ) → left ≡ left2 + 1 → from + 9 * left ≤ length arcs → at + 9 * left ≤ length out
+    → out2 ≡ splice at (part from 9 arcs) out → splice (at + 9) (part (from + 9) (9 * left2) arcs) out2 ≡ splice at (part from (9 * left) arcs) out
+labels-more arcs from at left left2 out out2 e h k f =
+    let x = part from 9 arcs in
+    let y = part (from + 9) (9 * left2) arcs in
+    let lx : length x ≡ 9 = length-part from 9 arcs (omega arith) in
+    let ly : length y ≡ 9 * left2 = length-part (from + 9) (9 * left2) arcs (omega arith) in
+    let n : 9 + 9 * left2 ≡ 9 * left = omega arith in
+    splice-behind at (at + 9) x y out out2 (splice (at + 9) y out2) f refl (omega (arith, lx)) (omega (arith, lx, ly))
+    ∙ ap (λ (z : List ℕ). splice at z out) (sym (part-add from 9 (9 * left2) arcs) ∙ ap (λ (j : ℕ). part from j arcs) n)
+
+-- none left
+pub labels-done : (arcs : List ℕ) (from at left : ℕ) (out out2 : List ℕ) → left ≡ 0 → splice at (part from (9 * left) arcs) out ≡ out2 → out ≡ out2
+labels-done arcs from at left out out2 e h =
+    sym (splice-none at out) ∙ ap (λ (z : List ℕ). splice at z out) (sym (part-zero from arcs)) ∙ ap (λ (j : ℕ). splice at (part from (9 * j) arcs) out) (sym e) ∙ h
+
+-- ---- the labels of both sides
+
+-- a region written over between two others
+splice-between : (to : ℕ) (p y z q out : List ℕ) → length y ≡ length z → to + length (p ++ (z ++ q)) ≤ length out
+    → splice (to + length p) y (splice to (p ++ (z ++ q)) out) ≡ splice to (p ++ (y ++ q)) out
+splice-between to p y z q out e h =
+    let lz = length-append z q in
+    let lp = length-append p (z ++ q) in
+    let s = splice to p out in
+    let ls : length s ≡ length out = length-splice to p out (omega (arith, lp)) in
+    let a = to + length p in
+    let lt : length (splice a z s) ≡ length s = length-splice a z s (omega (arith, lz, lp, ls)) in
+    let before : splice to (p ++ (z ++ q)) out ≡ splice (a + length z) q (splice a z s) =
+    sym (splice-append to p (z ++ q) out (omega (arith, lp))) ∙ sym (splice-append a z q s (omega (arith, lz, lp, ls))) in
+    let after : splice (a + length y) q (splice a y s) ≡ splice to (p ++ (y ++ q)) out =
+    splice-append a y q s (omega (arith, lz, lp, ls, e)) ∙ splice-append to p (y ++ q) out (let ly = length-append y q in omega (arith, lz, lp, ly, e)) in
+    ap (splice a y) before
+    ∙ sym (splice-swap a (a + length z) y q (splice a z s) (omega (arith, e)) (omega (arith, lz, lp, ls, lt)))
+    ∙ ap (splice (a + length z) q) (splice-twice a z y s (sym e) (omega (arith, lz, lp, ls)))
+    ∙ ap (λ (j : ℕ). splice (a + j) q (splice a y s)) (sym e) ∙ after
+
+module _ (arcs : List ℕ) (tapes k : ℕ) (h : (k ≡ 65535 → ⊥) → 80 * k + 80 ≤ length arcs) (t : tapes ≤ 8) where
+  -- the labels of a side take up nine bytes a tape
+  length-side : length (sideLabels arcs tapes k) ≡ 9 * tapes
   unfolding sideLabels
-  side-blank e h = rw e (h, length-replicate (9 * tapes) 0)
+  length-side = go (eqb k 65535) (λ f. eqb-differs k 65535 f)
+    where
+      go : (b : Bool) → (b ≡ false → k ≡ 65535 → ⊥) → length (if b (zeros (9 * tapes)) (part (80 * k + 8) (9 * tapes) arcs)) ≡ 9 * tapes
+      go true f = length-replicate (9 * tapes) 0
+      go false f = let l = h (f refl) in length-part (80 * k + 8) (9 * tapes) arcs (omega (arith, l, t))
 
-  -- the labels of an arc
-  pub side-copied : (from : ℕ) → (k ≡ 65535 → ⊥) → 80 * k + 80 ≤ length arcs → tapes ≤ 8 → from ≡ 80 * k + 8
-      → out2 ≡ splice to (take (from + 9 * tapes - from) (drop from arcs)) out
-      → (out2 ≡ splice to (sideLabels arcs tapes k) out) × (length (sideLabels arcs tapes k) ≡ 9 * tapes)
-  unfolding sideLabels part
-  side-copied from e l t f h =
-      let n : from + 9 * tapes - from ≡ 9 * tapes = omega arith in
-      let p : length (part (80 * k + 8) (9 * tapes) arcs) ≡ 9 * tapes = length-part (80 * k + 8) (9 * tapes) arcs (omega arith) in
-      rw (eqb-false k 65535 e) (h ∙ ap₂ (λ (i j : ℕ). splice to (take i (drop j arcs)) out) n f, p)
+  -- written over zeros between two other regions
+  side-between : (to at : ℕ) (p q out out1 out2 : List ℕ) → at ≡ to + length p → to + length (p ++ (zeros (9 * tapes) ++ q)) ≤ length out
+      → out1 ≡ splice to (p ++ (zeros (9 * tapes) ++ q)) out → out2 ≡ sideOver arcs tapes k at out1 → out2 ≡ splice to (p ++ (sideLabels arcs tapes k ++ q)) out
+  unfolding sideLabels sideOver
+  side-between to at p q out out1 out2 e l e1 e2 = e2 ∙ ap (sideOver arcs tapes k at) e1 ∙ go (eqb k 65535) (λ f. eqb-differs k 65535 f)
+    where
+      z : List ℕ
+      z = zeros (9 * tapes)
 
--- the labels of both sides and the zeros behind them
-pub labels-stored : (a1 a2 : List ℕ) (n k : ℕ) (m : Move) (to : ℕ) (out out1 out2 out3 : List ℕ) → n + k ≤ 8 → to + 72 ≤ length out
-    → out1 ≡ splice to (sideLabels a1 n (m .first)) out → length (sideLabels a1 n (m .first)) ≡ 9 * n
-    → out2 ≡ splice (to + 9 * n) (sideLabels a2 k (m .second)) out1 → length (sideLabels a2 k (m .second)) ≡ 9 * k
-    → out3 ≡ splice (to + 9 * n + 9 * k) (zeros (72 - 9 * n - 9 * k)) out2
-    → (out3 ≡ splice to (moveLabels a1 a2 n k m) out) × (length (moveLabels a1 a2 n k m) ≡ 72)
-unfolding moveLabels
-labels-stored a1 a2 n k m to out out1 out2 out3 t h e1 l1 e2 l2 e3 =
-    let x = sideLabels a1 n (m .first) in
-    let y = sideLabels a2 k (m .second) in
-    let z = zeros (72 - 9 * n - 9 * k) in
-    let lz : length z ≡ 72 - 9 * n - 9 * k = length-replicate (72 - 9 * n - 9 * k) 0 in
-    let p : out2 ≡ splice to (x ++ y) out = splice-behind to (to + 9 * n) x y out out1 out2 e1 e2 (omega (arith, l1)) (omega (arith, l1, l2)) in
-    let lp : length (x ++ y) ≡ 9 * n + 9 * k = length-append x y ∙ (omega (arith, l1, l2)) in
-    let q : out3 ≡ splice to ((x ++ y) ++ z) out = splice-behind to (to + 9 * n + 9 * k) (x ++ y) z out out2 out3 p e3 (omega (arith, lp)) (omega (arith, lp, lz)) in
-    (q ∙ ap (λ (r : List ℕ). splice to r out) (append-assoc x y z), length-append x (y ++ z) ∙ (let w = length-append y z in omega (arith, w, l1, l2, lz)))
+      y : List ℕ
+      y = part (80 * k + 8) (9 * tapes) arcs
+
+      w : List ℕ
+      w = splice to (p ++ (z ++ q)) out
+
+      go : (b : Bool) → (b ≡ false → k ≡ 65535 → ⊥) → if b w (splice at y w) ≡ splice to (p ++ (if b z y ++ q)) out
+      go true f = refl
+      go false f =
+          let r = h (f refl) in
+          let ly : length y ≡ length z = length-part (80 * k + 8) (9 * tapes) arcs (omega (arith, r, t)) ∙ sym (length-replicate (9 * tapes) 0) in
+          ap (λ (j : ℕ). splice j y w) e ∙ splice-between to p y z q out ly l
+
+module _ (a1 a2 : List ℕ) (n k : ℕ) (m : Move) (f : (m .first ≡ 65535 → ⊥) → 80 * m .first + 80 ≤ length a1)
+    (g : (m .second ≡ 65535 → ⊥) → 80 * m .second + 80 ≤ length a2) (t : n + k ≤ 8) where
+  -- the labels of both sides and the zeros behind them take up 72 bytes
+  length-labels : length (moveLabels a1 a2 n k m) ≡ 72
+  unfolding moveLabels
+  length-labels =
+      let x = sideLabels a1 n (m .first) in
+      let y = sideLabels a2 k (m .second) in
+      let z = zeros (72 - 9 * n - 9 * k) in
+      let lx = length-side a1 n (m .first) f (omega (arith, t)) in
+      let ly = length-side a2 k (m .second) g (omega (arith, t)) in
+      let lz : length z ≡ 72 - 9 * n - 9 * k = length-replicate (72 - 9 * n - 9 * k) 0 in
+      let p = length-append x (y ++ z) in
+      let q = length-append y z in
+      omega (arith, lx, ly, lz, p, q, t)
+
+  -- those of both sides are written over zeros
+  pub labels-stored : (to : ℕ) (out out1 out2 out3 : List ℕ) → to + 72 ≤ length out → out1 ≡ splice to (zeros 72) out
+      → out2 ≡ sideOver a1 n (m .first) to out1 → out3 ≡ sideOver a2 k (m .second) (to + 9 * n) out2
+      → (out3 ≡ splice to (moveLabels a1 a2 n k m) out) × (length (moveLabels a1 a2 n k m) ≡ 72)
+  unfolding moveLabels
+  labels-stored to out out1 out2 out3 h e1 e2 e3 =
+      let x = sideLabels a1 n (m .first) in
+      let z = zeros (72 - 9 * n - 9 * k) in
+      let s = zeros-split n k t in
+      let ls : 72 ≡ length (zeros (9 * n) ++ (zeros (9 * k) ++ z)) = ap length s in
+      let ln : length (zeros (9 * n)) ≡ 9 * n = length-replicate (9 * n) 0 in
+      let lx = length-side a1 n (m .first) f (omega (arith, t)) in
+      let p = length-append (zeros (9 * n)) (zeros (9 * k) ++ z) in
+      let q = length-append x (zeros (9 * k) ++ z) in
+      let e : out1 ≡ splice to (zeros (9 * n) ++ (zeros (9 * k) ++ z)) out = e1 ∙ ap (λ (j : List ℕ). splice to j out) s in
+      let first = side-between a1 n (m .first) f (omega (arith, t)) to to [] (zeros (9 * k) ++ z) out out1 out2 (omega arith) (omega (arith, ls, h)) e e2 in
+      (side-between a2 k (m .second) g (omega (arith, t)) to (to + 9 * n) x z out out2 out3 (omega (arith, lx)) (omega (arith, ls, ln, lx, p, q, h)) first e3, length-labels)
+
+-- ---- the record
 
 -- the ends and the weight
 pub front-stored : (m : Move) (weight to : ℕ) (out out1 out2 out3 : List ℕ) → to + 8 ≤ length out → out1 ≡ splice to (toLe 2 (m .from .0)) out
@@ -89,27 +210,9 @@ move-stored s1 a1 s2 a2 w n k m weight to out out1 out2 h e a b l =
     let p : out2 ≡ splice to (f ++ x) out = splice-behind to (to + 8) f x out out1 out2 a b (omega (arith, lf)) (omega (arith, lf, l)) in
     (p ∙ ap (λ (v : ℕ). splice to (moveFront m v ++ x) out) e, length-append (moveFront m (moveSum s1 a1 s2 a2 w m)) x ∙ (omega (arith, l)))
 
--- ---- lengths
-
--- the labels of a side
-length-side : (arcs : List ℕ) (tapes k : ℕ) → ((k ≡ 65535 → ⊥) → 80 * k + 80 ≤ length arcs) → tapes ≤ 8 → length (sideLabels arcs tapes k) ≡ 9 * tapes
-unfolding sideLabels
-length-side arcs tapes k h t = go (eqb k 65535) (λ f. eqb-differs k 65535 f)
-  where
-    go : (b : Bool) → (b ≡ false → k ≡ 65535 → ⊥) → length (if b (zeros (9 * tapes)) (part (80 * k + 8) (9 * tapes) arcs)) ≡ 9 * tapes
-    go true f = length-replicate (9 * tapes) 0
-    go false f = let l = h (f refl) in length-part (80 * k + 8) (9 * tapes) arcs (omega (arith, l, t))
-
 -- the record of a move takes up 80 bytes
 pub length-record : (s1 a1 s2 a2 w : List ℕ) (n k : ℕ) (m : Move) → MoveFits s1 a1 s2 a2 w m → n + k ≤ 8 → length (moveRecord s1 a1 s2 a2 w n k m) ≡ 80
-unfolding moveRecord moveFront moveLabels
+unfolding moveRecord moveFront
 length-record s1 a1 s2 a2 w n k m f t =
-    let x = sideLabels a1 n (m .first) in
-    let y = sideLabels a2 k (m .second) in
-    let z = zeros (72 - 9 * n - 9 * k) in
-    let lx = length-side a1 n (m .first) (f .first .arc-there) (omega (arith, t)) in
-    let ly = length-side a2 k (m .second) (f .second .arc-there) (omega (arith, t)) in
-    let lz : length z ≡ 72 - 9 * n - 9 * k = length-replicate (72 - 9 * n - 9 * k) 0 in
-    let p = length-append x (y ++ z) in
-    let q = length-append y z in
-    length-append (moveFront m (moveSum s1 a1 s2 a2 w m)) (x ++ (y ++ z)) ∙ (omega (arith, lx, ly, lz, p, q, t))
+    let l = length-labels a1 a2 n k m (f .first .arc-there) (f .second .arc-there) t in
+    length-append (moveFront m (moveSum s1 a1 s2 a2 w m)) (moveLabels a1 a2 n k m) ∙ (omega (arith, l))

@@ -9,7 +9,7 @@ use Rattle.automata.specs.Lists.{if, and}
 use Rattle.automata.specs.Table.{weightFits, WellFormedState}
 use Rattle.automata.specs.Product.{fitsAt}
 use Rattle.automata.specs.Memory.{zeros}
-use Rattle.memory.specs.Region.{part}
+use Rattle.memory.specs.Region.{part, splice}
 use Rattle.memory.specs.Endian.{le, toLe}
 use Rattle.memory.specs.Records.{optionOf, stateAs, stateAt}
 use Rattle.memory.specs.declared.record.Weight.{Weight}
@@ -67,6 +67,10 @@ moveSum s1 a1 s2 a2 w m =
 -- the records of the labels of a side with so many tapes: those of its arc, zeros where its path has ended
 unfoldable pub sideLabels : List ℕ → ℕ → ℕ → List ℕ
 sideLabels arcs tapes k = if (eqb k 65535) (zeros (9 * tapes)) (part (80 * k + 8) (9 * tapes) arcs)
+
+-- bytes with the labels of a side's arc written over them from a place on; the same bytes where its path has ended
+unfoldable pub sideOver : List ℕ → ℕ → ℕ → ℕ → List ℕ → List ℕ
+sideOver arcs tapes k to out = if (eqb k 65535) out (splice to (part (80 * k + 8) (9 * tapes) arcs) out)
 
 -- the 8 bytes before the labels of a move of a weight
 unfoldable pub moveFront : Move → ℕ → List ℕ

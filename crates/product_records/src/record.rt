@@ -1,36 +1,65 @@
 // The record of a move as an arc: its ends, its weight, and the labels of both sides.
 use crate::sum::move_weight;
 use alignment::vertex::Move;
-use memory::bytes::copy_into;
+use memory::bytes::get64;
 use memory::bytes::put16;
 use memory::bytes::put32;
+use memory::bytes::put64;
 ghost use mathlib.Core.Path.{_≡_};
 ghost use Prim.Native.Nat.{_+_, _*_, _≤_, _<_};
 ghost use lib.ListN.{length};
 ghost use Rattle.automata.specs.Memory.{zeros};
-ghost use Rattle.memory.specs.Region.{splice};
-ghost use Rattle.product_records.specs.Sums.{sideLabels, moveFront, moveLabels, moveRecord, MoveFits};
+ghost use Rattle.memory.specs.Region.{part, splice};
+ghost use Rattle.product_records.specs.Sums.{sideOver, moveFront, moveLabels, moveRecord, MoveFits};
 
-// So many zeros from a place on.
-fn put_zeros(out: &mut [u8], to: usize, n: usize)
-    requires { ⌜ (n ≤ 72) × (to + n ≤ length (now out)) ⌝ }
-    ensures { λ _. ⌜ now (out .exit) ≡ splice to (zeros n) (now (out .entry)) ⌝ }
+// A label: its length and its eight bytes.
+fn copy_label(arcs: &[u8], from: usize, out: &mut [u8], to: usize)
+    requires { ⌜ (from + 9 ≤ length (now arcs)) × (to + 9 ≤ length (now out)) ⌝ }
+    ensures { λ _. ⌜ now (out .exit) ≡ splice to (part from 9 (now (arcs .entry))) (now (out .entry)) ⌝ }
 {
-    let blank = [0u8; 72];
-    copy_into(out, to, &blank[..n]);
+    let len = arcs[from];
+    let symbols = get64(arcs, from + 1);
+    out[to] = len;
+    put64(out, to + 1, symbols);
 }
 
-// The labels of a side with so many tapes: those of its arc, zeros where its path has ended.
+// A third of the labels of a record: 24 zeros.
+fn clear_third(out: &mut [u8], to: usize)
+    requires { ⌜ to + 24 ≤ length (now out) ⌝ }
+    ensures { λ _. ⌜ now (out .exit) ≡ splice to (zeros 24) (now (out .entry)) ⌝ }
+{
+    put64(out, to, 0);
+    put64(out, to + 8, 0);
+    put64(out, to + 16, 0);
+}
+
+// The labels of a record: 72 zeros.
+fn clear_labels(out: &mut [u8], to: usize)
+    requires { ⌜ to + 72 ≤ length (now out) ⌝ }
+    ensures { λ _. ⌜ now (out .exit) ≡ splice to (zeros 72) (now (out .entry)) ⌝ }
+{
+    clear_third(out, to);
+    clear_third(out, to + 24);
+    clear_third(out, to + 48);
+}
+
+// The labels of a side's arc on so many tapes; nothing where its path has ended.
 fn store_side(arcs: &[u8], arc: u16, tapes: usize, out: &mut [u8], to: usize)
     requires { ⌜ ((arc ≡ 65535 → ⊥) → 80 * arc + 80 ≤ length (now arcs)) × (tapes ≤ 8) × (to + 9 * tapes ≤ length (now out)) ⌝ }
-    ensures { λ _. ⌜ (now (out .exit) ≡ splice to (sideLabels (now (arcs .entry)) tapes arc) (now (out .entry))) × (length (sideLabels (now (arcs .entry)) tapes arc) ≡ 9 * tapes) ⌝ }
+    ensures { λ _. ⌜ now (out .exit) ≡ sideOver (now (arcs .entry)) tapes arc to (now (out .entry)) ⌝ }
 {
     if arc == 65535 {
-        put_zeros(out, to, 9 * tapes);
         return;
     }
-    let from = 80 * arc as usize + 8;
-    copy_into(out, to, &arcs[from..from + 9 * tapes]);
+    let mut from = 80 * arc as usize + 8;
+    let mut at = to;
+    let mut left = tapes;
+    while 0 < left {
+        copy_label(arcs, from, out, at);
+        from += 9;
+        at += 9;
+        left -= 1;
+    }
 }
 
 // The labels of both sides, those of the second behind those of the first, and zeros.
@@ -46,11 +75,15 @@ fn store_labels(
     requires { ⌜ ((m .first ≡ 65535 → ⊥) → 80 * m .first + 80 ≤ length (now «first_arcs»)) × ((m .second ≡ 65535 → ⊥) → 80 * m .second + 80 ≤ length (now «second_arcs»)) × («first_tapes» + «second_tapes» ≤ 8) × (to + 72 ≤ length (now out)) ⌝ }
     ensures { λ _. ⌜ (now (out .exit) ≡ splice to (moveLabels (now («first_arcs» .entry)) (now («second_arcs» .entry)) «first_tapes» «second_tapes» m) (now (out .entry))) × (length (moveLabels (now («first_arcs» .entry)) (now («second_arcs» .entry)) «first_tapes» «second_tapes» m) ≡ 72) ⌝ }
 {
-    let first = 9 * first_tapes;
-    let second = 9 * second_tapes;
+    clear_labels(out, to);
     store_side(first_arcs, m.first, first_tapes, out, to);
-    store_side(second_arcs, m.second, second_tapes, out, to + first);
-    put_zeros(out, to + first + second, 72 - first - second);
+    store_side(
+        second_arcs,
+        m.second,
+        second_tapes,
+        out,
+        to + 9 * first_tapes,
+    );
 }
 
 // The ends of a move and its weight.

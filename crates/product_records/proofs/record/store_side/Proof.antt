@@ -1,72 +1,79 @@
 -- `product_records::record::store_side` meets its contract. Assumes nothing.
-use Rattle.product_records.proofs.RecordLaws.{side-blank, side-copied}
-use mathlib.Core.Path.{refl}
+use mathlib.Core.Path.{_≡_, refl, _∙_}
 use native.Mathlib.Omega.{arith}
+use Prim.Native.Nat.{_+_, _*_, _≤_}
+use lib.ListN.{length}
+use Rattle.memory.specs.Region.{part, splice}
+use Rattle.product_records.proofs.RecordLaws.{side-ended, side-arc, labels-more, labels-done}
 use borrow.Author.Needs.{needs}
 use Rattle.product_records.proofs.record.store_side.Statement.{statement}
 use Rattle.product_records.proofs.record.store_side.Tie as tie
 use Rattle.product_records.proofs.record.store_side.Reads as reads
 use Rattle.product_records.proofs.record.store_side.Lts as lts
-use Rattle.memory.proofs.bytes.copy_into.Reads as copy-into-reads
-use Rattle.product_records.proofs.record.put_zeros.Reads as put-zeros-reads
+use Rattle.product_records.proofs.record.copy_label.Reads as copy-label-reads
 
-mul-put-zeros : tie.Need-mul-put-zeros
-mul-put-zeros c = search needs
+abbrev Inv-loop : tie.InvT-loop
+Inv-loop arcs arc tapes out₀ to from₀ at₀ left₀ out from at left =
+    (from + 9 * left ≤ length arcs) × (at + 9 * left ≤ length out) × (length out ≡ length out₀)
+    × (splice at (part from (9 * left) arcs) out ≡ splice to (part (80 * arc + 8) (9 * tapes) arcs) out₀)
 
-put-zeros-requires : tie.Need-put-zeros-requires
-put-zeros-requires c κs = search needs
+abbrev μ-loop : tie.MeasureT-loop
+μ-loop arcs arc tapes out₀ to from₀ at₀ left₀ out from at left = left
 
-same-length : tie.Need-same-length
-same-length c = search needs
+returns : tie.Need-returns Inv-loop μ-loop
+returns c = side-ended _ _ _ _ _ (c .if1 .taken)
 
-returns : tie.Need-returns
-returns c = side-blank _ _ _ _ _ _ (c .before .before .before .before .if1 .taken) (c .before .before .put-zeros .ensures)
-
-mul-from : tie.Need-mul-from
+mul-from : tie.Need-mul-from Inv-loop μ-loop
 mul-from c = search needs
 
-add-from : tie.Need-add-from
+add-from : tie.Need-add-from Inv-loop μ-loop
 add-from c = search needs
 
-mul-copy-into : tie.Need-mul-copy-into
-mul-copy-into c = search needs
+loop-holds : tie.Need-loop-holds Inv-loop μ-loop
+loop-holds c = let s = c .before .before .before in let h = s .pre .0 (c .if1 .left) in (omega (arith, h), search needs, refl, refl)
 
-add-copy-into : tie.Need-add-copy-into
-add-copy-into c = search needs
+copy-label-requires : tie.Need-copy-label-requires Inv-loop μ-loop
+copy-label-requires c κs = search needs
 
-sub-copy-into : tie.Need-sub-copy-into
-sub-copy-into c = search needs
+add-from-2 : tie.Need-add-from-2 Inv-loop μ-loop
+add-from-2 c = search needs
 
-part-copy-into-start : tie.Need-part-copy-into-start
-part-copy-into-start c = search needs
+add-at : tie.Need-add-at Inv-loop μ-loop
+add-at c = search needs
 
-part-copy-into-end : tie.Need-part-copy-into-end
-part-copy-into-end c = let k = c .before .before .before .before .pre .0 (c .before .if1 .left) in omega (arith, k)
+sub-left : tie.Need-sub-left Inv-loop μ-loop
+sub-left c = search needs
 
-copy-into-requires : tie.Need-copy-into-requires
-copy-into-requires c κs = search needs
+loop-less : tie.Need-loop-less Inv-loop μ-loop
+loop-less c = search needs
 
-same-length-2 : tie.Need-same-length-2
-same-length-2 c = search needs
+loop-again : tie.Need-loop-again Inv-loop μ-loop
+loop-again c =
+    let l = c .before .before .before .before .before .loop in
+    let k = c .before .before .copy-label in
+    (search needs, omega (arith, k .kept .1 .1 .0), k .kept .1 .1 .0 ∙ l .inv .2, labels-more _ _ _ (l .left) _ _ _ (omega arith) (l .inv .0) (l .inv .1) (k .ensures) ∙ l .inv .3)
 
-returns-2 : tie.Need-returns-2
-returns-2 c = let s = c .before .before .before .before .before .before .before .before in side-copied _ _ _ _ _ _ _ (c .before .before .before .before .before .if1 .left) (s .pre .0 (c .before .before .before .before .before .if1 .left)) (s .pre .1) refl (c .before .before .copy-into .ensures)
+same-length : tie.Need-same-length Inv-loop μ-loop
+same-length c = search needs
+
+returns-2 : tie.Need-returns-2 Inv-loop μ-loop
+returns-2 c = let l = c .before .loop in side-arc _ _ _ _ _ _ (c .before .before .if1 .left) (labels-done _ (l .from) (l .at) (l .left) _ _ (omega arith) (l .inv .3))
 
 pub store-side-spec : {M : Type 1} → statement M
 store-side-spec =
     tie.close
     (tie.spec
-    mul-put-zeros
-    put-zeros-requires
-    same-length
+    Inv-loop
+    μ-loop
     returns
     mul-from
     add-from
-    mul-copy-into
-    add-copy-into
-    sub-copy-into
-    part-copy-into-start
-    part-copy-into-end
-    copy-into-requires
-    same-length-2
+    loop-holds
+    copy-label-requires
+    add-from-2
+    add-at
+    sub-left
+    loop-less
+    loop-again
+    same-length
     returns-2)
