@@ -1,5 +1,5 @@
 -- Comparing bytes, turn by turn, and the labels of an arc, tape by tape.
-use mathlib.Core.Path.{_≡_, refl, sym}
+use mathlib.Core.Path.{_≡_, refl, sym, ap, ap₂, _∙_}
 use mathlib.Core.Logic.{_≢_}
 use mathlib.Core.Bool.{Bool, true, false, not}
 use mathlib.Core.Option.{Option, none, some, Option·none-ne-some, Option·some-injective}
@@ -13,7 +13,7 @@ use lib.ListN.{length, getD}
 use Rattle.automata.specs.Lists.{if, and, bind, sameList}
 use Rattle.automata.proofs.TestFacts.{eqb-false, T-true}
 use Rattle.memory.specs.Region.{part}
-use Rattle.memory.proofs.PartLaws.{part-zero, part-suc}
+use Rattle.memory.proofs.PartLaws.{getD-part, part-zero, part-suc, part-part}
 use Rattle.cell_moves.specs.declared.spot.Spot.{Spot}
 use Rattle.cell_moves.specs.declared.moves.Step.{Step}
 use Rattle.cell_moves.specs.declared.moves.Step.the-variants.{Moved, Stuck}
@@ -101,5 +101,56 @@ module _ (starts positions spans : List ℕ) (i j k l : ℕ) where
           ≡ movesFrom n (h + 1) (at + 9) (total + m) arcs text (spotWith starts positions spans k l))
           → bind o (λ m. movesFrom n (h + 1) (at + 9) (total + m) arcs text (spotWith starts positions spans i j))
           ≡ bind o (λ m. movesFrom n (h + 1) (at + 9) (total + m) arcs text (spotWith starts positions spans k l))
+      go none r = refl
+      go (some m) r = r m
+
+-- ---- arcs with the same labels move alike
+
+module _ (arcs text : List ℕ) where
+  -- on one tape
+  tape-alike : (a b start size span : ℕ) → getD arcs a 0 ≡ getD arcs b 0 → part (a + 1) (getD arcs a 0) arcs ≡ part (b + 1) (getD arcs b 0) arcs
+      → tapeMove arcs a text start size span ≡ tapeMove arcs b text start size span
+  unfolding tapeMove
+  tape-alike a b start size span e p =
+      ap₂ (λ (n : ℕ) (l : List ℕ). if (ltb size n) none (if (sameList l (part (start - n) n text)) (some (n * span)) none)) e p
+
+  -- on all
+  pub moves-alike : (n h a b k : ℕ) (s : Spot) → a + 9 * n ≤ length arcs → b + 9 * n ≤ length arcs → ((j : ℕ) → j < n → getD arcs (a + 9 * j) 0 ≤ 8)
+      → part a (9 * n) arcs ≡ part b (9 * n) arcs → movesFrom n h a k arcs text s ≡ movesFrom n h b k arcs text s
+  unfolding movesFrom
+  moves-alike zero h a b k s p q short e = refl
+  moves-alike (suc n) h a b k s p q short e =
+      ap (λ (o : Option ℕ). bind o (λ m. movesFrom n (h + 1) (a + 9) (k + m) arcs text s)) (tape-alike a b (getD (s .starts) h 0) (getD (s .positions) h 0) (getD (s .spans) h 0) front label)
+      ∙ go (tapeMove arcs b text (getD (s .starts) h 0) (getD (s .positions) h 0) (getD (s .spans) h 0)) (λ m. moves-alike n (h + 1) (a + 9) (b + 9) (k + m) s (omega arith) (omega arith) later rest)
+    where
+      front : getD arcs a 0 ≡ getD arcs b 0
+      front =
+          ap (λ (i : ℕ). getD arcs i 0) (omega arith) ∙ sym (getD-part a (9 * suc n) arcs 0 0 (omega arith)) ∙ ap (λ (l : List ℕ). getD l 0 0) e
+          ∙ getD-part b (9 * suc n) arcs 0 0 (omega arith) ∙ ap (λ (i : ℕ). getD arcs i 0) (omega arith)
+
+      -- its length is at most eight
+      bound : getD arcs a 0 ≤ 8
+      bound = omega (arith, short 0 (omega arith), ap (λ (i : ℕ). getD arcs i 0) (addition a))
+        where
+          addition : (i : ℕ) → i + 9 * 0 ≡ i
+          addition i = omega arith
+
+      label : part (a + 1) (getD arcs a 0) arcs ≡ part (b + 1) (getD arcs b 0) arcs
+      label =
+          sym (part-part 1 (getD arcs a 0) a (9 * suc n) arcs (omega (arith, bound))) ∙ ap₂ (λ (m : ℕ) (l : List ℕ). part 1 m l) front e
+          ∙ part-part 1 (getD arcs b 0) b (9 * suc n) arcs (omega (arith, bound, front))
+
+      rest : part (a + 9) (9 * n) arcs ≡ part (b + 9) (9 * n) arcs
+      rest =
+          sym (part-part 9 (9 * n) a (9 * suc n) arcs (omega arith)) ∙ ap (part 9 (9 * n)) e ∙ part-part 9 (9 * n) b (9 * suc n) arcs (omega arith)
+
+      later : (j : ℕ) → j < n → getD arcs (a + 9 + 9 * j) 0 ≤ 8
+      later j lt = omega (arith, short (suc j) (omega arith), ap (λ (i : ℕ). getD arcs i 0) (place j))
+        where
+          place : (i : ℕ) → a + 9 * suc i ≡ a + 9 + 9 * i
+          place i = omega arith
+
+      go : (o : Option ℕ) → ((m : ℕ) → movesFrom n (h + 1) (a + 9) (k + m) arcs text s ≡ movesFrom n (h + 1) (b + 9) (k + m) arcs text s)
+          → bind o (λ m. movesFrom n (h + 1) (a + 9) (k + m) arcs text s) ≡ bind o (λ m. movesFrom n (h + 1) (b + 9) (k + m) arcs text s)
       go none r = refl
       go (some m) r = r m

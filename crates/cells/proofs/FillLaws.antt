@@ -42,6 +42,11 @@ pub record Filling (c : Counts) (states arcs text : List ℕ) (s : Strings) (spa
   pub same-length : length w ≡ room
   pub distances : (t : Tuple) → Stands text t s → length t ≡ c .tapes → Distances (tableOf (lent c states arcs)) t (cellsOf w) left
 
+-- the number of a combination
+pub spot-number : (s : Strings) (spans : Spans) (n : ℕ) (spot : Spot) → spot ≡ spotOf s spans n → spot .number ≡ n
+unfolding spotOf
+spot-number s spans n spot e = ap (λ (z : Spot). z .number) e
+
 -- the work space is as long as before
 pub fillable-kept : (m : Memory) (text : List ℕ) (s : Strings) (n k : ℕ) → k ≡ n → Fillable m text s n → Fillable m text s k
 fillable-kept m text s n k e f = subst (λ (z : ℕ). Fillable m text s z) (sym e) f

@@ -1,3 +1,4 @@
 -- Laws that belong to no one function.
 pub mod EndLaws
 pub mod FillLaws
+pub mod RecallLaws

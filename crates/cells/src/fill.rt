@@ -8,9 +8,12 @@ use crate::ends::least_from;
 use crate::ends::start_states;
 use crate::push::settle;
 use crate::queue::no_states;
+use crate::recall::no_memo;
 use cell_moves::cell::clear_cells;
 use cell_moves::spot::spans_of;
 use cell_moves::spot::spot_at;
+use label_numbers::no_numbers;
+use label_numbers::number_labels;
 use memory::answer::Counts;
 use tuple::Strings;
 ghost use mathlib.Core.Path.{_≡_};
@@ -24,6 +27,8 @@ ghost use Rattle.tuple.specs.Strings.{Stands};
 ghost use Rattle.cells.specs.Answers.{optionAs};
 ghost use Rattle.distances.specs.Pushes.{Marking};
 ghost use Rattle.cells.specs.Fillable.{Fillable};
+ghost use Rattle.cells.specs.Recall.{Fresh};
+ghost use Rattle.label_numbers.specs.Numbers.{Numbered};
 
 // The least weight of the strings in the table, or none, by the chains of its arcs.
 fn fill(
@@ -32,11 +37,13 @@ fn fill(
     arcs: &[u8],
     text: &[u8],
     strings: Strings,
+    numbers: &[u16],
+    memo: &mut [usize],
     index: &[u16],
     queue: &mut [u16],
     work: &mut [u8],
 ) -> Weight64
-    requires { ⌜ Fillable (lent counts (now states) (now arcs)) (now text) strings (length (now work)) × Marking counts (now arcs) (now index) (now queue) ⌝ }
+    requires { ⌜ Fillable (lent counts (now states) (now arcs)) (now text) strings (length (now work)) × Marking counts (now arcs) (now index) (now queue) × Numbered (counts .tapes) (counts .arcs) (now arcs) (now numbers) × Fresh 18446744073709551615 (now memo) ⌝ }
     ensures { λ r. ⌜ ((t : Tuple) → Stands (now (text .entry)) t strings → length t ≡ counts .tapes → optionAs r ≡ lookup ℕ-sum (tableOf (lent counts (now (states .entry)) (now (arcs .entry)))) t) ⌝ }
 {
     let spans = spans_of(strings);
@@ -46,7 +53,7 @@ fn fill(
     while 0 < left {
         left -= 1;
         let spot = spot_at(strings, spans, left);
-        settle(counts, arcs, text, spot, index, queue, work);
+        settle(counts, arcs, text, spot, numbers, memo, index, queue, work);
     }
     least_from(states, counts.states, spans.all, work)
 }
@@ -65,6 +72,9 @@ pub fn least_weight(
 {
     let mut index = no_chains();
     chain_arcs(counts, arcs, &mut index);
+    let mut numbers = no_numbers();
+    number_labels(counts, arcs, &mut numbers);
+    let mut memo = no_memo();
     let mut queue = no_states();
     fill(
         counts,
@@ -72,6 +82,8 @@ pub fn least_weight(
         arcs,
         text,
         strings,
+        &numbers,
+        &mut memo,
         &index,
         &mut queue,
         work,

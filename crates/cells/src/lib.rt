@@ -5,3 +5,4 @@ pub mod ends;
 pub mod fill;
 pub mod push;
 pub mod queue;
+pub mod recall;

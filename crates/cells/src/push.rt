@@ -4,20 +4,20 @@
 use crate::queue::dequeue;
 use crate::queue::enqueue;
 use crate::queue::entry;
+use crate::recall::recall;
 use cell_moves::cell::cell_number;
 use cell_moves::cell::lower;
 use cell_moves::cell::weight_at;
-use cell_moves::moves::Step;
-use cell_moves::moves::moved_back;
 use cell_moves::spot::Spot;
 use memory::answer::Counts;
 use memory::bytes::get16;
 use memory::bytes::get32;
-ghost use Prim.Native.Nat.{_≤_, _<_};
-ghost use lib.ListN.{length};
-ghost use Rattle.cell_moves.specs.Moves.{Laid, spotWith};
+ghost use Prim.Native.Nat.{_+_, _≤_, _<_};
+ghost use Rattle.cell_moves.specs.Moves.{spotWith};
+ghost use Rattle.label_numbers.specs.Numbers.{Numbered};
+ghost use Rattle.cells.specs.Recall.{Fresh, Knows};
 ghost use Rattle.distances.specs.Queues.{Queue};
-ghost use Rattle.distances.specs.Pushes.{Passable, Spaced, Ready, Marking, Visits, Pushes, PushesAll, AllDone, Marks, Settles};
+ghost use Rattle.distances.specs.Pushes.{Spaced, Ready, Marking, Visits, Pushes, PushesAll, AllDone, Marks, Settles};
 
 // Arc e. Tells whether the weight of its source at the combination itself became less.
 fn visit_arc(
@@ -30,16 +30,29 @@ fn visit_arc(
     spans: &[usize],
     number: usize,
     all: usize,
+    numbers: &[u16],
+    memo: &mut [usize],
     work: &mut [u8],
 ) -> bool
-    requires { ⌜ Laid (counts .tapes) (length (now text)) (spotWith (now starts) (now positions) (now spans) number all) × Passable (counts .tapes) (counts .states) e (now arcs) (now text) (spotWith (now starts) (now positions) (now spans) number all) × Spaced (counts .states) (spotWith (now starts) (now positions) (now spans) number all) (now work) ⌝ }
-    ensures { λ r. ⌜ Visits (counts .tapes) e (now (arcs .entry)) (now (text .entry)) (spotWith (now (starts .entry)) (now (positions .entry)) (now (spans .entry)) number all) r (now (work .exit)) (now (work .entry)) ⌝ }
+    requires { ⌜ (e < counts .arcs) × Ready counts (now arcs) (now text) (spotWith (now starts) (now positions) (now spans) number all) × Spaced (counts .states) (spotWith (now starts) (now positions) (now spans) number all) (now work) × Knows counts (now arcs) (now text) (now starts) (now positions) (now spans) number (now numbers) (now memo) ⌝ }
+    ensures { λ r. ⌜ Visits (counts .tapes) e (now (arcs .entry)) (now (text .entry)) (spotWith (now (starts .entry)) (now (positions .entry)) (now (spans .entry)) number all) r (now (work .exit)) (now (work .entry)) × Knows counts (now (arcs .entry)) (now (text .entry)) (now (starts .entry)) (now (positions .entry)) (now (spans .entry)) number (now (numbers .entry)) (now (memo .exit)) ⌝ }
 {
     let at = 80 * e;
-    let step = moved_back(arcs, at + 8, counts.tapes, text, starts, positions, spans);
-    let Step::Moved(by) = step else {
+    let by = recall(
+        counts,
+        arcs,
+        e,
+        text,
+        starts,
+        positions,
+        spans,
+        number,
+        numbers,
+        memo,
+    );
+    if number < by {
         return false;
-    };
+    }
     let source = cell_number(get16(arcs, at) as usize, all, number - by);
     let target = cell_number(get16(arcs, at + 2) as usize, all, number);
     let through = get32(arcs, at + 4) as u64 + weight_at(work, target);
@@ -61,11 +74,13 @@ fn push_arc(
     spans: &[usize],
     number: usize,
     all: usize,
+    numbers: &[u16],
+    memo: &mut [usize],
     queue: &mut [u16],
     work: &mut [u8],
 )
-    requires { ⌜ (e < counts .arcs) × Ready counts (now arcs) (now text) (spotWith (now starts) (now positions) (now spans) number all) × Spaced (counts .states) (spotWith (now starts) (now positions) (now spans) number all) (now work) × Queue (now queue) ⌝ }
-    ensures { λ _. ⌜ Pushes counts (now (arcs .entry)) (now (text .entry)) (spotWith (now (starts .entry)) (now (positions .entry)) (now (spans .entry)) number all) e (now (work .exit)) (now (work .entry)) (now (queue .exit)) (now (queue .entry)) ⌝ }
+    requires { ⌜ (e < counts .arcs) × Ready counts (now arcs) (now text) (spotWith (now starts) (now positions) (now spans) number all) × Spaced (counts .states) (spotWith (now starts) (now positions) (now spans) number all) (now work) × Queue (now queue) × Knows counts (now arcs) (now text) (now starts) (now positions) (now spans) number (now numbers) (now memo) ⌝ }
+    ensures { λ _. ⌜ Pushes counts (now (arcs .entry)) (now (text .entry)) (spotWith (now (starts .entry)) (now (positions .entry)) (now (spans .entry)) number all) e (now (work .exit)) (now (work .entry)) (now (queue .exit)) (now (queue .entry)) × Knows counts (now (arcs .entry)) (now (text .entry)) (now (starts .entry)) (now (positions .entry)) (now (spans .entry)) number (now (numbers .entry)) (now (memo .exit)) ⌝ }
 {
     let near = visit_arc(
         counts,
@@ -77,6 +92,8 @@ fn push_arc(
         spans,
         number,
         all,
+        numbers,
+        memo,
         work,
     );
     if !near {
@@ -96,13 +113,15 @@ fn push_state(
     spans: &[usize],
     number: usize,
     all: usize,
+    numbers: &[u16],
+    memo: &mut [usize],
     index: &[u16],
     state: usize,
     queue: &mut [u16],
     work: &mut [u8],
 )
-    requires { ⌜ (state < 1024) × Ready counts (now arcs) (now text) (spotWith (now starts) (now positions) (now spans) number all) × Spaced (counts .states) (spotWith (now starts) (now positions) (now spans) number all) (now work) × Marking counts (now arcs) (now index) (now queue) ⌝ }
-    ensures { λ _. ⌜ PushesAll counts (now (arcs .entry)) (now (text .entry)) (spotWith (now (starts .entry)) (now (positions .entry)) (now (spans .entry)) number all) state (now (work .exit)) (now (work .entry)) (now (queue .exit)) (now (queue .entry)) ⌝ }
+    requires { ⌜ (state < 1024) × Ready counts (now arcs) (now text) (spotWith (now starts) (now positions) (now spans) number all) × Spaced (counts .states) (spotWith (now starts) (now positions) (now spans) number all) (now work) × Marking counts (now arcs) (now index) (now queue) × Knows counts (now arcs) (now text) (now starts) (now positions) (now spans) number (now numbers) (now memo) ⌝ }
+    ensures { λ _. ⌜ PushesAll counts (now (arcs .entry)) (now (text .entry)) (spotWith (now (starts .entry)) (now (positions .entry)) (now (spans .entry)) number all) state (now (work .exit)) (now (work .entry)) (now (queue .exit)) (now (queue .entry)) × Knows counts (now (arcs .entry)) (now (text .entry)) (now (starts .entry)) (now (positions .entry)) (now (spans .entry)) number (now (numbers .entry)) (now (memo .exit)) ⌝ }
 {
     let mut e = entry(index[state]);
     while e < counts.arcs {
@@ -116,6 +135,8 @@ fn push_state(
             spans,
             number,
             all,
+            numbers,
+            memo,
             queue,
             work,
         );
@@ -150,12 +171,14 @@ fn push_waiting(
     spans: &[usize],
     number: usize,
     all: usize,
+    numbers: &[u16],
+    memo: &mut [usize],
     index: &[u16],
     queue: &mut [u16],
     work: &mut [u8],
 )
-    requires { ⌜ Ready counts (now arcs) (now text) (spotWith (now starts) (now positions) (now spans) number all) × Spaced (counts .states) (spotWith (now starts) (now positions) (now spans) number all) (now work) × Marking counts (now arcs) (now index) (now queue) × AllDone counts (now arcs) (now text) (spotWith (now starts) (now positions) (now spans) number all) (now queue) (now work) ⌝ }
-    ensures { λ _. ⌜ Settles counts (now (arcs .entry)) (now (text .entry)) (spotWith (now (starts .entry)) (now (positions .entry)) (now (spans .entry)) number all) (now (work .exit)) (now (work .entry)) × Queue (now (queue .exit)) ⌝ }
+    requires { ⌜ Ready counts (now arcs) (now text) (spotWith (now starts) (now positions) (now spans) number all) × Spaced (counts .states) (spotWith (now starts) (now positions) (now spans) number all) (now work) × Marking counts (now arcs) (now index) (now queue) × AllDone counts (now arcs) (now text) (spotWith (now starts) (now positions) (now spans) number all) (now queue) (now work) × Knows counts (now arcs) (now text) (now starts) (now positions) (now spans) number (now numbers) (now memo) ⌝ }
+    ensures { λ _. ⌜ Settles counts (now (arcs .entry)) (now (text .entry)) (spotWith (now (starts .entry)) (now (positions .entry)) (now (spans .entry)) number all) (now (work .exit)) (now (work .entry)) × Queue (now (queue .exit)) × Knows counts (now (arcs .entry)) (now (text .entry)) (now (starts .entry)) (now (positions .entry)) (now (spans .entry)) number (now (numbers .entry)) (now (memo .exit)) ⌝ }
 {
     loop {
         if queue[2049] == 0 {
@@ -171,6 +194,8 @@ fn push_waiting(
             spans,
             number,
             all,
+            numbers,
+            memo,
             index,
             state,
             queue,
@@ -185,12 +210,14 @@ pub fn settle(
     arcs: &[u8],
     text: &[u8],
     spot: Spot,
+    numbers: &[u16],
+    memo: &mut [usize],
     index: &[u16],
     queue: &mut [u16],
     work: &mut [u8],
 )
-    requires { ⌜ Ready counts (now arcs) (now text) spot × Spaced (counts .states) spot (now work) × Marking counts (now arcs) (now index) (now queue) ⌝ }
-    ensures { λ _. ⌜ Settles counts (now (arcs .entry)) (now (text .entry)) spot (now (work .exit)) (now (work .entry)) × Queue (now (queue .exit)) ⌝ }
+    requires { ⌜ Ready counts (now arcs) (now text) spot × Spaced (counts .states) spot (now work) × Marking counts (now arcs) (now index) (now queue) × Numbered (counts .tapes) (counts .arcs) (now arcs) (now numbers) × Fresh (spot .number + 1) (now memo) ⌝ }
+    ensures { λ _. ⌜ Settles counts (now (arcs .entry)) (now (text .entry)) spot (now (work .exit)) (now (work .entry)) × Queue (now (queue .exit)) × Fresh (spot .number) (now (memo .exit)) ⌝ }
 {
     enqueue_reached(counts.states, spot, work, queue);
     let starts = spot.starts;
@@ -205,6 +232,8 @@ pub fn settle(
         &spans,
         spot.number,
         spot.all,
+        numbers,
+        memo,
         index,
         queue,
         work,

@@ -14,9 +14,6 @@ use Rattle.automata.proofs.Finite.{digits-≡}
 use Rattle.memory.specs.Endian.{le}
 use Rattle.memory.specs.declared.answer.Counts.{Counts}
 use Rattle.cell_moves.specs.declared.spot.Spot.{Spot}
-use Rattle.cell_moves.specs.declared.moves.Step.{Step}
-use Rattle.cell_moves.specs.declared.moves.Step.the-variants.{Moved, Stuck}
-use Rattle.cell_moves.specs.Moves.{stepAs}
 use Rattle.cell_moves.specs.Distances.{far, cellsOf, lowered, sum, Trend, Lowers}
 use Rattle.distances.specs.Chains.{firstOf, nextOf, Chained}
 use Rattle.distances.specs.Queues.{countOf, Queue, Enqueues, Dequeues}
@@ -116,23 +113,18 @@ cell-fits n q j s w h lt small = omega (arith, h .fits, digits-lt {q = q} {m = n
 pub cell-fits-back : (n q by : ℕ) (s : Spot) (w : List ℕ) → Spaced n s w → q < n → by ≤ s .number → 8 * (q * s .all + (s .number - by)) + 8 ≤ length w
 cell-fits-back n q by s w h lt le = cell-fits n q (s .number - by) s w h lt (omega (arith, h .number-is))
 
-module _ (tapes e : ℕ) (arcs text : List ℕ) (s : Spot) (r : Step) (b : stepAs r ≡ backBy tapes e arcs text s) where
-  pub visits-stuck : (w : List ℕ) → r ≡ Stuck → Visits tapes e arcs text s false w w
+module _ (tapes e : ℕ) (arcs text : List ℕ) (s : Spot) where
+  pub visits-stuck : (w : List ℕ) → backBy tapes e arcs text s ≡ none → Visits tapes e arcs text s false w w
   unfolding pushed
   visits-stuck w k =
-      let f = rw k at b in
-      record { cells-are = rw (← f); same-length = refl; no-more = omega arith; less = λ c. absurd (false≢true c); stays = λ q c. refl }
+      record { cells-are = rw k; same-length = refl; no-more = omega arith; less = λ c. absurd (false≢true c); stays = λ q c. refl }
 
-  -- it leads to a combination
-  pub leads-to : (by n : ℕ) → r ≡ Moved by → Passable tapes n e arcs text s → by ≤ s .number
-  leads-to by n k p = let f = rw k at b in p .leads by (sym f)
-
-  module _ (by k₁ k₂ source target weight x : ℕ) (changed : Bool) (u w : List ℕ) (k : r ≡ Moved by) (c₁ : k₁ ≡ sourceOf arcs e) (c₂ : source ≡ k₁ * s .all + (s .number - by))
+  module _ (by k₁ k₂ source target weight x : ℕ) (changed : Bool) (u w : List ℕ) (k : backBy tapes e arcs text s ≡ some by) (c₁ : k₁ ≡ sourceOf arcs e) (c₂ : source ≡ k₁ * s .all + (s .number - by))
       (c₃ : k₂ ≡ targetOf arcs e) (c₄ : target ≡ k₂ * s .all + s .number) (c₅ : weight ≡ arcWeight arcs e) (c₆ : x ≡ getD (cellsOf w) target 0)
       (l : Lowers source (weight + x) changed u w) where
     moved-cells : cellsOf u ≡ pushed tapes e arcs text s (cellsOf w)
     unfolding pushed
-    moved-cells = let h = rw k at b in l .cells-are ∙ rw (← h, c₂, c₁, c₆, c₄, c₃, c₅)
+    moved-cells = l .cells-are ∙ rw (k, c₂, c₁, c₆, c₄, c₃, c₅)
 
     no-more-of : (b₂ : Bool) → Trend b₂ (cellsOf u) (cellsOf w) → sum (cellsOf u) ≤ sum (cellsOf w)
     no-more-of true t = omega (arith, t .less refl)

@@ -1,5 +1,7 @@
 -- `cells::push::settle` meets its contract. Assumes nothing.
 use Rattle.distances.proofs.PushLaws.{marking-kept, marks-done}
+use Rattle.cells.proofs.RecallLaws.{recalls-start}
+use native.Mathlib.Omega.{arith}
 use borrow.Author.Needs.{needs}
 use Rattle.cells.proofs.push.settle.Statement.{statement}
 use Rattle.cells.proofs.push.settle.Tie as tie
@@ -22,15 +24,23 @@ slice-aggregate-push-waiting-3 c = search needs
 
 push-waiting-requires : tie.Need-push-waiting-requires
 push-waiting-requires c κs =
-    let s = c .before .before .before .before .before .before .before .before .before .before .before .before .before .before .before .before .before .before in
-    let e = c .before .before .before .before .before .before .before .before .before .before .enqueue-reached .ensures in
-    (s .pre .0, s .pre .1, marking-kept _ _ _ _ _ (e .lined) (s .pre .2), marks-done _ _ _ _ _ _ _ (s .pre .0) (s .pre .1) e)
+    let s = c .before .before .before .before .before .before .before .before .before .before .before .before .before .before .before .before .before .before .before .before .before in
+    let e = c .before .before .before .before .before .before .before .before .before .before .before .enqueue-reached .ensures in (
+      s .pre .0,
+      s .pre .1,
+      marking-kept _ _ _ _ _ (e .lined) (s .pre .2),
+      marks-done _ _ _ _ _ _ _ (s .pre .0) (s .pre .1) e,
+      record { numbered = s .pre .3; recalls = recalls-start _ _ _ _ _ _ (omega arith) (s .pre .4) },
+    )
 
 same-length : tie.Need-same-length
 same-length c = search needs
 
 same-length-2 : tie.Need-same-length-2
 same-length-2 c = search needs
+
+same-length-3 : tie.Need-same-length-3
+same-length-3 c = search needs
 
 returns : tie.Need-returns
 returns c = search needs
@@ -46,4 +56,5 @@ settle-spec =
     push-waiting-requires
     same-length
     same-length-2
+    same-length-3
     returns)

@@ -1,0 +1,2 @@
+-- What the contracts on the numbers of labels cite.
+pub mod Numbers
