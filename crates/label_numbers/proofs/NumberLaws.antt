@@ -5,36 +5,22 @@ use mathlib.Core.List.{List, _++_}
 use Prim.Native.Nat.{ℕ, suc, _+_, _-_, _*_, _≤_, _<_, min}
 use native.Mathlib.Decide.{ℕ-discrete, decLe}
 use native.Mathlib.Omega.{arith}
-use lib.ListN.{length, getD, set, length-set, List·getD-eq-default}
+use lib.ListN.{length, getD, set, length-set}
 use lib.Seq.{getD-set-same, getD-set-other}
 use Rattle.memory.specs.Region.{part}
-use Rattle.memory.specs.Endian.{le, toLe}
-use Rattle.memory.proofs.PartLaws.{length-part, getD-part, part-part, part-add, part-zero}
-use Rattle.memory.proofs.EndianLaws.{Bytes, toLe-le}
+use Rattle.memory.specs.Endian.{le}
+use Rattle.memory.proofs.PartLaws.{part-part, part-add, part-zero}
+use Rattle.memory.proofs.EndianLaws.{Bytes, le-same}
 use Rattle.label_numbers.specs.Numbers.{wordsAt, Numbers, Numbered}
 
 -- ---- words
 
--- bytes of a region are bytes
-bytes-part : (a n : ℕ) (xs : List ℕ) → a + n ≤ length xs → ((i : ℕ) → getD xs i 0 < 256) → Bytes (part a n xs)
-bytes-part a n xs h f i = go (decLe n i)
-  where
-    go : Dec (n ≤ i) → getD (part a n xs) i 0 < 256
-    go (yes out) = omega (arith, List·getD-eq-default (part a n xs) 0 {n = i} (omega (arith, length-part a n xs h)))
-    go (no in-part) = omega (arith, getD-part a n xs i 0 (omega arith), f (a + i))
-
--- regions of eight bytes with the same number are the same
-word-same : (a b : ℕ) (xs : List ℕ) → a + 8 ≤ length xs → b + 8 ≤ length xs → ((i : ℕ) → getD xs i 0 < 256) → le (part a 8 xs) ≡ le (part b 8 xs) → part a 8 xs ≡ part b 8 xs
-word-same a b xs h k f e =
-    sym (toLe-le (part a 8 xs) (bytes-part a 8 xs h f)) ∙ ap₂ toLe (length-part a 8 xs h ∙ sym (length-part b 8 xs k)) e
-    ∙ toLe-le (part b 8 xs) (bytes-part b 8 xs k f)
-
 -- where the first words and the rest are the same, all are
-pub words-turn : (a b left rest x y : ℕ) (xs : List ℕ) → left ≡ suc rest → a + 8 * left ≤ length xs → b + 8 * left ≤ length xs → ((i : ℕ) → getD xs i 0 < 256)
+pub words-turn : (a b left rest x y : ℕ) (xs : List ℕ) → left ≡ suc rest → a + 8 * left ≤ length xs → b + 8 * left ≤ length xs → Bytes xs
     → x ≡ le (part a 8 xs) → y ≡ le (part b 8 xs) → x ≡ y → part (a + 8) (8 * rest) xs ≡ part (b + 8) (8 * rest) xs → part a (8 * left) xs ≡ part b (8 * left) xs
 words-turn a b left rest x y xs d h k f p q same e =
     let n : 8 * left ≡ 8 + 8 * rest = omega (arith, d) in
-    let w = word-same a b xs (omega (arith, h, d)) (omega (arith, k, d)) f (sym p ∙ same ∙ q) in
+    let w = le-same a b 8 xs xs (omega (arith, h, d)) (omega (arith, k, d)) f f (sym p ∙ same ∙ q) in
     ap (λ (m : ℕ). part a m xs) n ∙ part-add a 8 (8 * rest) xs ∙ ap₂ (λ (us vs : List ℕ). us ++ vs) w e
     ∙ sym (part-add b 8 (8 * rest) xs) ∙ sym (ap (λ (m : ℕ). part b m xs) n)
 

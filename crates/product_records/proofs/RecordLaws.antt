@@ -12,6 +12,7 @@ use Rattle.automata.specs.Memory.{zeros}
 use Rattle.automata.proofs.TestFacts.{eqb-false, false-not-true, T-true}
 use Rattle.memory.specs.Region.{part, splice}
 use Rattle.memory.specs.Endian.{le, toLe}
+use Rattle.memory.proofs.EndianLaws.{Bytes, toLe-part}
 use Rattle.memory.proofs.Laws.{length-part, part-zero, part-suc, part-add, length-splice, splice-none, splice-twice, splice-append, splice-behind, splice-swap, one-store}
 use Rattle.alignment.specs.declared.vertex.Move.{Move}
 use Rattle.product_records.specs.Sums.{sideLabels, sideOver, moveSum, moveFront, moveLabels, moveRecord, MoveFits}
@@ -44,24 +45,8 @@ zeros-split n k t = let s : 72 ≡ 9 * n + (9 * k + (72 - 9 * n - 9 * k)) = omeg
 
 -- ---- a label
 
--- the first bytes of some are those of the number that they stand for
-toLe-take : (n : ℕ) (xs : List ℕ) → n ≤ length xs → ((i : ℕ) → getD xs i 0 < 256) → toLe n (le (take n xs)) ≡ take n xs
-toLe-take zero xs h f = refl
-toLe-take (suc n) [] h f = absurd (omega arith)
-toLe-take (suc n) (x ∷ xs) h f =
-    let y = take n xs in
-    let b : x < 256 = f 0 in
-    let p : (x + 256 * le y) % 256 ≡ x = omega (arith, b) in
-    let q : (x + 256 * le y) / 256 ≡ le y = omega (arith, b) in
-    ap₂ (λ (i j : ℕ). i ∷ toLe n j) p q ∙ ap (λ (z : List ℕ). x ∷ z) (toLe-take n xs (omega arith) (λ i. f (suc i)))
-
--- the same of a part of them
-toLe-part : (a n : ℕ) (xs : List ℕ) → a + n ≤ length xs → ((i : ℕ) → getD xs i 0 < 256) → toLe n (le (part a n xs)) ≡ part a n xs
-unfolding part
-toLe-part a n xs h f = let l = length-drop a xs in toLe-take n (drop a xs) (omega (arith, l)) (λ i. rw (getD-drop a xs i 0) (f (a + i)))
-
 -- a label copied: its length, and its eight bytes as one number
-pub label-copied : (arcs : List ℕ) (from to w : ℕ) (out out2 : List ℕ) → ((i : ℕ) → getD arcs i 0 < 256) → from + 9 ≤ length arcs → to + 9 ≤ length out
+pub label-copied : (arcs : List ℕ) (from to w : ℕ) (out out2 : List ℕ) → Bytes arcs → from + 9 ≤ length arcs → to + 9 ≤ length out
     → w ≡ le (part (from + 1) 8 arcs) → out2 ≡ splice (to + 1) (toLe 8 w) (set out to (getD arcs from 0)) → out2 ≡ splice to (part from 9 arcs) out
 label-copied arcs from to w out out2 bytes h k e f =
     let x = getD arcs from 0 in
