@@ -1,14 +1,14 @@
 -- The four bytes of a state as a number: what comparing it tells, and what the search by it finds.
 use Prim.Native.Nat.{ℕ, zero, suc, _+_, _-_, _*_, _/_, _%_, _≤_, _<_}
-use mathlib.Core.Path.{_≡_, refl, sym, ap, ap₂, _∙_}
+use mathlib.Core.Path.{_≡_, sym, ap, _∙_}
 use mathlib.Core.List.{List, [], _∷_}
 use native.Mathlib.Nat.{add-mul-mod-self-left}
 use native.Mathlib.Omega.{arith}
 use lib.ListN.{length, getD}
 use Rattle.memory.specs.Region.{part, splice}
 use Rattle.memory.specs.Endian.{le, toLe}
-use Rattle.memory.proofs.Laws.{length-part, getD-part}
-use Rattle.memory.proofs.EndianLaws.{le-toLe}
+use Rattle.memory.proofs.Laws.{getD-part}
+use Rattle.memory.proofs.EndianLaws.{Bytes, le-toLe, toLe-part}
 use Rattle.rows.specs.declared.Entered.{Entered}
 use Rattle.rows.specs.declared.Found.the-variants.{At}
 use Rattle.chains.specs.Hash.{bucketOf}
@@ -42,25 +42,10 @@ key-entered count room bucket key hash v xs ys r e h b k t =
 
 -- ---- four bytes and their number
 
--- bytes are those of the number that they stand for
-bytes-back : (xs : List ℕ) → ((i : ℕ) → i < length xs → getD xs i 0 < 256) → toLe (length xs) (le xs) ≡ xs
-bytes-back [] f = refl
-bytes-back (x ∷ xs) f =
-    let b : x < 256 = f 0 (omega arith) in
-    let p : (x + 256 * le xs) % 256 ≡ x = omega arith in
-    let q : (x + 256 * le xs) / 256 ≡ le xs = omega arith in
-    ap₂ (λ (h : ℕ) (t : ℕ). h ∷ toLe (length xs) t) p q ∙ ap (λ (t : List ℕ). x ∷ t) (bytes-back xs (λ i h. f (suc i) (omega arith)))
-
 module _ (at n key : ℕ) (xs : List ℕ) (within : at + 4 ≤ length xs) (read : n ≡ le (part at 4 xs)) where
-  four : length (part at 4 xs) ≡ 4
-  four = length-part at 4 xs within
-
   -- bytes whose number is this
-  pub key-same : ((i : ℕ) → getD xs i 0 < 256) → n ≡ key → part at 4 xs ≡ toLe 4 key
-  key-same bytes e = sym (bytes-back (part at 4 xs) below) ∙ ap (λ (k : ℕ). toLe k (le (part at 4 xs))) four ∙ ap (toLe 4) (sym read ∙ e)
-    where
-      below : (i : ℕ) → i < length (part at 4 xs) → getD (part at 4 xs) i 0 < 256
-      below i h = let b = bytes (at + i) in let e = getD-part at 4 xs i 0 (omega (arith, h, four)) in omega (arith, b, e)
+  pub key-same : Bytes xs → n ≡ key → part at 4 xs ≡ toLe 4 key
+  key-same bytes e = sym (toLe-part at 4 xs within bytes) ∙ ap (toLe 4) (sym read ∙ e)
 
   -- bytes whose number is another
   pub key-other : key < 4294967296 → (n ≡ key → ⊥) → part at 4 xs ≡ toLe 4 key → ⊥
@@ -70,7 +55,7 @@ module _ (at n key : ℕ) (xs : List ℕ) (within : at + 4 ≤ length xs) (read 
 
 module _ (count bucket key : ℕ) (xs : List ℕ) (rows : count * 16 ≤ length xs) where
   -- the state is found
-  pub key-found : (k n : ℕ) → k < count → n ≡ le (part (k * 16) 4 xs) → ((i : ℕ) → getD xs i 0 < 256) → n ≡ key → FindsVertex count bucket key xs (At (record { 0 = k }))
+  pub key-found : (k n : ℕ) → k < count → n ≡ le (part (k * 16) 4 xs) → Bytes xs → n ≡ key → FindsVertex count bucket key xs (At (record { 0 = k }))
   key-found k n h read bytes e =
       finds-record 16 count bucket vertexShape (toLe 4 key) xs k h agrees
     where
