@@ -1,4 +1,4 @@
-// The calls for C. A slice is a pointer and a length; slices of a call must not overlap, but two that are only read may.
+// The calls for C. A slice is a pointer and a length; slices of a call must not overlap, but two only read may.
 use c_words::word::bytes_word;
 use c_words::word::table_word;
 use c_words::word::weight_word;
