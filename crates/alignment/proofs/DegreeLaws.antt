@@ -28,7 +28,7 @@ use Rattle.alignment.proofs.ReadLaws.{source-at, at-source, out-one, ou
 
 module _ (counts : Counts) (first next : List ℕ) (x : ℕ) where
   -- whatever table the chains are of, the first k arcs lead out of x by d steps
-  abbrev StepsTo : ℕ → ℕ → Type 0
+  abbrev pub StepsTo : ℕ → ℕ → Type 0
   StepsTo d k = (arcs : List ℕ) (A : Automaton ℕ) (y : Option ℕ) → LinkedArcs counts arcs first next → ReadsArcs counts arcs A → x ≡ placeNumber y
       → d ≡ length (outBy (chainedArcs next 0 (take k (A .arcs))) y)
 
@@ -37,8 +37,7 @@ module _ (counts : Counts) (first next : List ℕ) (x : ℕ) where
     pub within : j ≤ counts .arcs
     pub few : d ≤ j
     pub leaves : (arcs : List ℕ) → LinkedArcs counts arcs first next → j < counts .arcs → (inChain next j ≡ true) × (sourceIn arcs j ≡ x)
-    pub meaning : (arcs : List ℕ) (A : Automaton ℕ) (y : Option ℕ) → LinkedArcs counts arcs first next → ReadsArcs counts arcs A → x ≡ placeNumber y
-        → d ≡ length (outBy (chainedArcs next 0 (take j (A .arcs))) y)
+    pub meaning : StepsTo d j
 
 module _ (counts : Counts) (first next : List ℕ) (x : ℕ) (w : Walkable counts first next) where
   -- up to the next arc of the chain

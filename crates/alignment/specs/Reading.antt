@@ -40,7 +40,7 @@ pub record ReadsArcs (counts : Counts) (bytes : List ℕ) (A : Automaton ℕ) : 
 abbrev pub LinkedArcs : Counts → List ℕ → List ℕ → List ℕ → Type 0
 LinkedArcs counts bytes first next = Linked (counts .states) (counts .arcs) bytes first next
 
--- they hold those of some table, of which there are few
+-- they hold the arcs of some table, at most 8,192
 pub record Walkable (counts : Counts) (first next : List ℕ) : Type 0 where
   pub few : counts .arcs ≤ 8192
   pub bytes : List ℕ

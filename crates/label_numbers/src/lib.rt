@@ -9,7 +9,7 @@ ghost use mathlib.Core.Bool.{true};
 ghost use Prim.Native.Nat.{_+_, _*_, _≤_, _<_, min};
 ghost use lib.ListN.{length};
 ghost use Rattle.memory.specs.Region.{part};
-ghost use Rattle.label_numbers.specs.Numbers.{Numbers, Numbered};
+ghost use Rattle.label_numbers.specs.Numbers.{wordsAt, Numbers, Numbered};
 
 // Labels without a number: 65,535 is none.
 pub fn no_numbers() -> [u16; 8192]
@@ -63,7 +63,7 @@ fn same_words(arcs: &[u8], i: usize, j: usize, n: usize) -> bool
 // labels.
 fn number_of(arcs: &[u8], d: usize, e: usize, k: usize, words: usize) -> u16
     requires { ⌜ (80 * e + 80 ≤ length (now arcs)) × (k < 1024) × (words ≤ 9) ⌝ }
-    ensures { λ r. ⌜ (r < 1024 → (r ≡ k) × (d < e → part (80 * d + 8) (8 * words) (now (arcs .entry)) ≡ part (80 * e + 8) (8 * words) (now (arcs .entry)))) ⌝ }
+    ensures { λ r. ⌜ (r < 1024 → (r ≡ k) × (d < e → wordsAt words (now (arcs .entry)) d ≡ wordsAt words (now (arcs .entry)) e)) ⌝ }
 {
     if e <= d {
         return k as u16;
