@@ -1,0 +1,44 @@
+-- What request 2.1 of document 02 promises of a forecast.
+use mathlib.Core.Path.{_≡_}
+use mathlib.Core.Bool.{Bool, true, false}
+use mathlib.Core.Option.{some}
+use mathlib.Core.Logic.{_↔_}
+use mathlib.Core.List.{List}
+use Prim.Native.Nat.{ℕ, _-_, _≤_}
+use lib.ListN.{length, getD, getElem?}
+use Rattle.automata.specs.Explore.{Reachable}
+use Rattle.automata.specs.Trim.{atMarks}
+use Rattle.automata.specs.Automaton.{Automaton, Arc}
+use Rattle.automata.specs.TapePair.{TapePair}
+use Rattle.automata.specs.Config.{Config}
+use Rattle.automata.specs.Closing.{closingTables, viable}
+use Rattle.automata.specs.Intersect.{starts, candidates}
+use Rattle.automata.specs.Viable.{EachPair}
+use Rattle.automata.specs.Cycles.{StateOnPath, ArcOnPath, Mixed, MixedSimple}
+use Rattle.automata.specs.Forecast.{onPaths, pathStates, Told, mixed, needs, forecast}
+
+module _ {W : Type 0} (A : Automaton W) where
+  -- the forecast of a pair is not mixed: it tells a delay
+  abbrev pub Tells : TapePair → ℕ → Type 0
+  Tells p d = (t : Told) × (forecast A p ≡ needs d t)
+
+  module _ (ps : List TapePair) where
+    -- the test for viable configurations (document 01: hopeful)
+    abbrev pub viability : Config → Bool
+    viability = viable (closingTables A ps)
+
+    -- a configuration that viable compatible steps lead to, however high the limits
+    abbrev pub ReachedUnlimited : Config → Type 0
+    ReachedUnlimited c = Reachable (candidates A ps viability) (starts A ps viability) c
+
+    -- 2.1: the states and arcs counted are those on successful paths; a pair's forecast is mixed iff some successful path touches both a cycle of
+    -- positive delay and one of negative delay, simple or not; and the delay told is never exceeded, whatever is said of the other pairs.
+    pub record ForecastHolds : Type 0 where
+      pub states-on-paths : (q : ℕ) → (getD (onPaths A) q false ≡ true) ↔ StateOnPath A q
+      pub number-on-paths : pathStates A ≡ length (atMarks (onPaths A) (A .states))
+      pub arcs-on-paths : (e : ℕ) (a : Arc W) → getElem? (A .arcs) e ≡ some a
+          → ((getD (onPaths A) (a .source) false ≡ true) × (getD (onPaths A) (a .target) false ≡ true)) ↔ ArcOnPath A e
+      pub mixed-iff : (p : TapePair) → (forecast A p ≡ mixed) ↔ Mixed A (p .first - 1) (p .second - 1)
+      pub simple-iff : (p : TapePair) → (forecast A p ≡ mixed) ↔ MixedSimple A (p .first - 1) (p .second - 1)
+      pub delays : (c : Config) → ReachedUnlimited c
+          → EachPair ps (c .leftovers) (λ p l. (d : ℕ) → Tells p d → (length (l .first) ≤ d) × (length (l .second) ≤ d))
