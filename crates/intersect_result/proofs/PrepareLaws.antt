@@ -20,34 +20,13 @@ use Rattle.memory.specs.declared.answer.Judged.the-variants.{Fine, Refused}
 use Rattle.memory.specs.Answers.{judgedAs}
 use Rattle.memory.proofs.TableLaws.{judged-sound}
 use Rattle.pairs.specs.declared.PairsJudged.{PairsJudged}
-use Rattle.pairs.specs.PairTests.{pairsAnswer}
+use Rattle.pairs.specs.PairTests.{pairsAnswer, inTurn}
 use Rattle.pairs.specs.Judgement.{KeepJudged}
 use Rattle.pairs.proofs.CallLaws.{intersect-then}
+use Rattle.pairs.proofs.TurnLaws.{turn-then, judged-fine, require-true}
 use Rattle.workspace.specs.declared.room.RoomAnswer.{RoomAnswer}
 use Rattle.workspace.specs.Room.{lentSpace, RoomFor}
-use Rattle.intersect_result.specs.Prepared.{inTurn, Prepares}
-
--- ---- judgements in turn
-
--- the tests before an answer, and the answer
-pub turn-then : {A : Type 0} (p : Answer (Unit {0})) (b : Bool) (n : ℕ) (rest : Answer A)
-    → (p >>= λ (u : Unit {0}). judge b n rest) ≡ ((p >>= λ (u : Unit {0}). require b n) >>= λ (u : Unit {0}). rest)
-turn-then (refused k) b n rest = refl
-turn-then (ok u) true n rest = refl
-turn-then (ok u) false n rest = refl
-
--- a judgement that is no refusal
-judged-fine : (j : Judged) (u : Unit {0}) → judgedAs j ≡ ok u → j ≡ Fine
-judged-fine Fine u e = refl
-judged-fine (Refused why) u e = absurd (refused≢ok e)
-
-require-true : (b : Bool) (n : ℕ) (u : Unit {0}) → require b n ≡ ok u → b ≡ true
-require-true true n u e = refl
-require-true false n u e = absurd (refused≢ok e)
-
--- work space that is too short
-pub turn-short : (t p : Judged) (b : Bool) → t ≡ Fine → p ≡ Fine → b ≡ false → refused refusal.space ≡ inTurn (judgedAs t) (judgedAs p) b
-turn-short t p b e f g = rw (e, f, g)
+use Rattle.intersect_result.specs.Prepared.{Prepares}
 
 -- ---- the call
 module _ (m : Memory) (ps : List Pair) (D states arcs work : ℕ) (t p j : Answer (Unit {0})) (b : Bool)

@@ -1,12 +1,10 @@
 -- What is judged before any configuration is reached.
 use Prim.Native.Nat.{ℕ, _≤_}
 use mathlib.Core.Path.{_≡_}
-use mathlib.Core.Bool.{Bool}
 use mathlib.Core.List.{List}
 use lib.ListN.{length}
-use Rattle.automata.specs.Refusal
 use Rattle.automata.specs.Limits.{maxDelay}
-use Rattle.automata.specs.Answer.{_>>=_, Answer, require}
+use Rattle.automata.specs.Answer.{_>>=_}
 use Rattle.automata.specs.Memory.{Memory, Sound, tableOf}
 use Rattle.automata.specs.TapePair.{Pair}
 use Rattle.automata.specs.IntersectCall.{intersectOn}
@@ -18,10 +16,6 @@ use Rattle.pairs.specs.declared.PairsJudged.{PairsJudged}
 use Rattle.pairs.specs.Judgement.{KeepJudged}
 use Rattle.workspace.specs.Room.{lentSpace, Divides}
 use Rattle.intersect_result.specs.declared.prepare.Prepared.{Prepared}
-
--- a table, the pairs with their limit, and the work space, judged in turn
-abbrev pub inTurn : Answer (Unit {0}) → Answer (Unit {0}) → Bool → Answer (Unit {0})
-inTurn table pairs enough = table >>= λ t. pairs >>= λ p. require enough Refusal.space
 
 -- The first refusal is the call's, and where there is none the call goes on to reach configurations; what then is known of its parts.
 pub record Prepares (m : Memory) (ps : List Pair) (D states arcs work : ℕ) (r : Prepared) : Type 0 where

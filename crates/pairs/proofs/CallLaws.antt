@@ -3,7 +3,7 @@
 use Prim.Native.Nat.{ℕ, _+_, _≤_}
 use mathlib.Core.Path.{_≡_, refl, sym, ap, _∙_}
 use mathlib.Core.Bool.{Bool, true, false}
-use mathlib.Core.List.{List}
+use mathlib.Core.List.{List, map}
 use lib.Dec.{leb}
 use lib.ListN.{length}
 use borrow.Author.Tests.{le-leb}
@@ -17,6 +17,7 @@ use Rattle.automata.specs.Automaton.{Automaton}
 use Rattle.automata.specs.TapePair.{Pair}
 use Rattle.automata.specs.Projection.{isTape}
 use Rattle.automata.specs.IntersectCall.{distinct, named, intersectOn, intersectCall}
+use Rattle.automata.specs.ForecastCall.{forecastOf, forecastCall}
 use Rattle.automata.specs.Join.{Lent, within, separate, joinSteps, join}
 use Rattle.memory.specs.declared.answer.Refusal.{Refusal}
 use Rattle.memory.specs.declared.answer.Judged.{Judged}
@@ -54,6 +55,15 @@ module _ {W : Type 0} (D : ℕ) (enough : Bool) (space : Space) (ps : List Pair)
 
     pub intersect-judged-fine : j ≡ Fine → intersectCall D enough space ps A ≡ judge enough refusal.space (intersectOn D space ps A)
     intersect-judged-fine r = intersect-fine (sym is ∙ ap judgedAs r)
+
+-- ---- the forecast, which reads no limit
+pub forecast-then : {W : Type 0} (enough : Bool) (ps : List Pair) (A : Automaton W) (tapes : ℕ) → A .tapes ≡ tapes
+    → forecastCall enough ps A ≡ (pairsAnswer tapes 0 ps >>= λ (u : Unit {0}). judge enough refusal.space (ok (map (forecastOf A) ps)))
+unfolding forecastCall pairsAnswer
+forecast-then enough ps A tapes e =
+    rw (← e)
+    (three-then (all (isTape (A .tapes)) (named ps)) (and (leb (length ps) maxPairs) (distinct (named ps))) true refusal.tape refusal.pairs
+    refusal.limit (judge enough refusal.space (ok (map (forecastOf A) ps))))
 
 -- ---- the join, of tables with at most eight tapes together
 module _ (S : OrderedSum) (fits : S .W → Bool) (lent : Lent) (ps : List Pair) (A B : Automaton (S .W)) (n m : ℕ) (e : A .tapes ≡ n) (f : B .tapes ≡ m)

@@ -3,3 +3,4 @@ pub mod ListLaws
 pub mod PairLaws
 pub mod TestLaws
 pub mod CallLaws
+pub mod TurnLaws

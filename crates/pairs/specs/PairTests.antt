@@ -7,7 +7,7 @@ use lib.ListN.{length}
 use Rattle.automata.specs.Limits.{maxPairs, maxDelay}
 use Rattle.automata.specs.Refusal
 use Rattle.automata.specs.Lists.{and, all}
-use Rattle.automata.specs.Answer.{Answer, ok, judge}
+use Rattle.automata.specs.Answer.{_>>=_, Answer, ok, judge, require}
 use Rattle.automata.specs.TapePair.{Pair}
 use Rattle.automata.specs.Projection.{isTape}
 use Rattle.automata.specs.IntersectCall.{distinct, named}
@@ -25,3 +25,7 @@ pairsAnswer tapes limit ps = tests (all (isTape tapes) (named ps)) (and (leb (le
 -- one side (6), a limit above 64 (7).
 unfoldable pub joinPairsAnswer : ℕ → ℕ → ℕ → List Pair → Answer (Unit {0})
 joinPairsAnswer n m limit ps = tests (within n m ps) (separate ps) limit
+
+-- A table, the pairs with their limit, and the work space, judged in turn.
+abbrev pub inTurn : Answer (Unit {0}) → Answer (Unit {0}) → Bool → Answer (Unit {0})
+inTurn table pairs enough = table >>= λ t. pairs >>= λ p. require enough Refusal.space

@@ -16,7 +16,9 @@ ghost use Rattle.automata.specs.IntersectCall.{distinct, named};
 ghost use Rattle.automata.specs.Projection.{isTape};
 ghost use Rattle.automata.specs.Join.{within, separate};
 ghost use Rattle.memory.specs.declared.answer.Judged.the-variants as judged;
+ghost use Rattle.memory.specs.Answers.{judgedAs};
 ghost use Rattle.memory.specs.Pairs.{pairsAs};
+ghost use Rattle.pairs.specs.PairTests.{inTurn};
 ghost use Rattle.pairs.specs.PairBytes.{pairsOf, pairAt};
 ghost use Rattle.pairs.specs.Judgement.{Settled, KeepJudged, JoinJudged, Movable, Moved, movedAt};
 
@@ -248,6 +250,23 @@ pub fn judge_join_pairs(bytes: &[u8], n: usize, m: usize, limit: usize) -> Pairs
     let inside = all_within(bytes, n, m);
     let once = join_once(bytes);
     settled(bytes, inside, once, limit)
+}
+
+// The first refusal of a table, of the pairs and their limit, or of the work space.
+pub fn in_turn(table: Judged, pairs: Judged, enough: bool) -> Judged
+    ensures { λ r. ⌜ judgedAs r ≡ inTurn (judgedAs table) (judgedAs pairs) enough ⌝ }
+{
+    let Judged::Fine = table else {
+        return table;
+    };
+    let Judged::Fine = pairs else {
+        return pairs;
+    };
+    if enough {
+        Judged::Fine
+    } else {
+        Judged::Refused(Refusal::Space)
+    }
 }
 
 // One of four pairs with its second tape moved, if it is used.

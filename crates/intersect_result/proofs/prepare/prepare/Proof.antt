@@ -7,7 +7,7 @@ use Rattle.intersect_result.proofs.prepare.prepare.Statement.{statement
 use Rattle.intersect_result.proofs.prepare.prepare.Tie as tie
 use Rattle.intersect_result.proofs.prepare.prepare.Reads as reads
 use Rattle.intersect_result.proofs.prepare.prepare.Lts as lts
-use Rattle.intersect_result.proofs.prepare.in_turn.Reads as in-turn-reads
+use Rattle.pairs.proofs.in_turn.Reads as in-turn-reads
 use Rattle.memory.proofs.judge.judge.Reads as judge-reads
 use Rattle.workspace.proofs.room.room_for.Reads as room-for-reads
 

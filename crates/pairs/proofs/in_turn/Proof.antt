@@ -1,10 +1,10 @@
--- `intersect_result::prepare::in_turn` meets its contract. Assumes nothing.
-use Rattle.intersect_result.proofs.PrepareLaws.{turn-short}
+-- `pairs::in_turn` meets its contract. Assumes nothing.
+use Rattle.pairs.proofs.TurnLaws.{turn-short}
 use borrow.Author.Needs.{needs}
-use Rattle.intersect_result.proofs.prepare.in_turn.Statement.{statement}
-use Rattle.intersect_result.proofs.prepare.in_turn.Tie as tie
-use Rattle.intersect_result.proofs.prepare.in_turn.Reads as reads
-use Rattle.intersect_result.proofs.prepare.in_turn.Lts as lts
+use Rattle.pairs.proofs.in_turn.Statement.{statement}
+use Rattle.pairs.proofs.in_turn.Tie as tie
+use Rattle.pairs.proofs.in_turn.Reads as reads
+use Rattle.pairs.proofs.in_turn.Lts as lts
 
 enum-told : tie.Need-enum-told
 enum-told c = search needs

@@ -1,0 +1,42 @@
+-- `forecast_records::put_parts` meets its contract. Assumes nothing.
+use Rattle.forecast_records.proofs.RecordLaws.{parts-stored}
+use borrow.Author.Needs.{needs}
+use Rattle.forecast_records.proofs.put_parts.Statement.{statement}
+use Rattle.forecast_records.proofs.put_parts.Tie as tie
+use Rattle.forecast_records.proofs.put_parts.Reads as reads
+use Rattle.forecast_records.proofs.put_parts.Lts as lts
+use Rattle.memory.proofs.bytes.put16.Reads as put16-reads
+
+put16-requires : tie.Need-put16-requires
+put16-requires c κs = search needs
+
+add-put16 : tie.Need-add-put16
+add-put16 c = search needs
+
+put16-requires-2 : tie.Need-put16-requires-2
+put16-requires-2 c κs = search needs
+
+add-put16-2 : tie.Need-add-put16-2
+add-put16-2 c = search needs
+
+put16-requires-3 : tie.Need-put16-requires-3
+put16-requires-3 c κs = search needs
+
+same-length : tie.Need-same-length
+same-length c = search needs
+
+returns : tie.Need-returns
+returns c =
+    parts-stored _ _ _ _ _ _ _ _ (c .before .before .before .before .before .before .before .before .before .before .before .before .before .pre) (c .before .before .before .before .before .before .before .before .before .before .put16 .ensures) (c .before .before .before .before .before .before .put162 .ensures) (c .before .before .put163 .ensures)
+
+pub put-parts-spec : {M : Type 1} → statement M
+put-parts-spec =
+    tie.close
+    (tie.spec
+    put16-requires
+    add-put16
+    put16-requires-2
+    add-put16-2
+    put16-requires-3
+    same-length
+    returns)

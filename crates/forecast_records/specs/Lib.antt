@@ -1,0 +1,2 @@
+-- What the contracts of forecasts by value cite.
+pub mod Values
