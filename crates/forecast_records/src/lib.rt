@@ -1,5 +1,5 @@
 // Forecasts by value, and in lent bytes for callers in C.
-use memory::answer::Refusal;
+use memory::answer::Judged;
 use memory::bytes::put16;
 ghost use mathlib.Core.Path.{_≡_};
 ghost use Prim.Native.Nat.{_+_, _*_, _≤_};
@@ -7,7 +7,7 @@ ghost use lib.ListN.{length};
 ghost use Rattle.automata.specs.Calls.Forecast.{forecastSize, forecastParts, forecastRecord, forecastRecords};
 ghost use Rattle.automata.specs.Calls.Outcome.{overwrite};
 ghost use Rattle.memory.specs.Region.{splice};
-ghost use Rattle.forecast_records.specs.Values.{forecastAs, forecastsAs};
+ghost use Rattle.forecast_records.specs.Values.{noForecasts, forecastAs, forecastsAs};
 
 // The bytes of a record, and what it tells: a delay and a number, a delay and "over", or mixed.
 pub const RECORD: usize = 6;
@@ -32,10 +32,26 @@ pub struct ForecastList {
     pub used: usize,
 }
 
-// What a call that forecasts answers: a forecast for each pair, or a refusal.
-pub enum ForecastAnswer {
-    Told(ForecastList),
-    Refused(Refusal),
+// What a call that forecasts answers: a refusal, or, where there is none, a forecast for each pair.
+pub struct ForecastAnswer {
+    pub judged: Judged,
+    pub told: ForecastList,
+}
+
+// No forecasts: four that tell nothing, none of them used.
+pub fn no_forecasts() -> ForecastList
+    ensures { λ r. ⌜ r ≡ noForecasts ⌝ }
+{
+    let none = Forecast {
+        mixed: false,
+        over: false,
+        delay: 0,
+        number: 0,
+    };
+    ForecastList {
+        forecasts: [none; 4],
+        used: 0,
+    }
 }
 
 // A record at a place: which it is, the delay, the number.

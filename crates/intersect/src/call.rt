@@ -15,8 +15,7 @@ ghost use Rattle.automata.specs.Calls.Outcome.{spaceOf, put, madeOf, builtOf, s
 ghost use Rattle.automata.specs.Calls.Intersect.{intersectAnswer, intersectOutcome};
 ghost use Rattle.memory.specs.Answers.{lent, tableAs};
 ghost use Rattle.pairs.specs.PairBytes.{pairsOf};
-ghost use Rattle.pairs.specs.Judgement.{KeepJudged};
-ghost use Rattle.intersect_result.specs.Prepared.{Listed};
+ghost use Rattle.pairs.specs.Judgement.{KeepJudged, Listed};
 
 // The answer of the call on pairs that were judged, with whatever is left in work space.
 fn build(

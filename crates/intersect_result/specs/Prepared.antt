@@ -31,8 +31,3 @@ pub record Prepares (m : Memory) (ps : List Pair) (D states arcs work : ℕ) (r 
 -- so for whatever pairs and limit the list was judged
 abbrev pub PreparesFor : Memory → PairsJudged → ℕ → ℕ → ℕ → Prepared → Type 0
 PreparesFor m listed states arcs work r = (ps : List Pair) (D : ℕ) → KeepJudged ps (m .tapes) D listed → Prepares m ps D states arcs work r
-
--- pairs were judged for a table with so many tapes, with this limit
-pub record Listed (tapes limit : ℕ) (listed : PairsJudged) : Type 0 where
-  pub pairs : List Pair
-  pub judged : KeepJudged pairs tapes limit listed

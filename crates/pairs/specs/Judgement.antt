@@ -51,6 +51,11 @@ pub record ListJudged (ps : List automata.Pair) (limit : ℕ) (expected : Answer
 abbrev pub KeepJudged : List automata.Pair → ℕ → ℕ → PairsJudged → Type 0
 KeepJudged ps tapes limit r = ListJudged ps limit (pairsAnswer tapes limit ps) (Named tapes) r
 
+-- pairs were judged for a table with so many tapes, with this limit
+pub record Listed (tapes limit : ℕ) (listed : PairsJudged) : Type 0 where
+  pub pairs : List automata.Pair
+  pub judged : KeepJudged pairs tapes limit listed
+
 -- for a join of tables with n and m tapes
 abbrev pub JoinJudged : List automata.Pair → ℕ → ℕ → ℕ → PairsJudged → Type 0
 JoinJudged ps n m limit r = ListJudged ps limit (joinPairsAnswer n m limit ps) (Sided n m) r

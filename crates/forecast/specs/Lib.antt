@@ -1,0 +1,2 @@
+-- What the contracts of the call cite.
+pub mod Outcome
