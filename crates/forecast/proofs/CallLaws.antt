@@ -4,25 +4,23 @@ use mathlib.Core.Path.{_≡_, refl, sym, ap, ap₂, _∙_}
 use mathlib.Core.Bool.{Bool, true, false}
 use mathlib.Core.List.{List, map}
 use native.Mathlib.Omega.{arith}
-use lib.Dec.{T, leb, leb→le}
+use lib.Dec.{leb, leb→le}
 use lib.ListN.{length, take, replicate, length-map, length-take}
 use borrow.Author.Tests.{le-leb, lt-leb, leb-true, leb-false}
 use Rattle.automata.specs.Refusal as refusal
-use Rattle.automata.specs.Limits.{maxPairs}
-use Rattle.automata.specs.Lists.{and, all}
+use Rattle.automata.specs.Lists.{and}
 use Rattle.automata.specs.Answer.{_>>=_, Answer, ok, refused, require, judge, forget}
 use Rattle.automata.specs.Automaton.{Automaton, size}
 use Rattle.automata.specs.TapePair.{Pair}
-use Rattle.automata.specs.Projection.{isTape}
-use Rattle.automata.specs.IntersectCall.{distinct, named}
 use Rattle.automata.specs.Memory.{Memory, Sound, tableOf, decodeTable}
 use Rattle.automata.specs.Forecast.{Forecast}
 use Rattle.automata.specs.ForecastCall.{forecastOf, forecastCall}
 use Rattle.automata.specs.Calls.Outcome.{cleared, overwrite, print}
 use Rattle.automata.specs.Calls.Work.{forecastWork, enough}
 use Rattle.automata.specs.Calls.Forecast.{forecastSize, forecastRecords, forecastAnswer, foretoldOf, Foretold, forecastRecorded}
-use Rattle.automata.proofs.TestFacts.{and-true, and-T}
-use Rattle.automata.proofs.AnswerFacts.{bind-ok, judge-ok, ok-injective}
+use Rattle.automata.proofs.TestFacts.{and-true}
+use Rattle.automata.proofs.AnswerFacts.{bind-ok}
+use Rattle.automata.proofs.ForecastCalls.{told-of, told-count}
 use Rattle.automata.proofs.SoundFacts.{sound, tableOf-is, sound-holds}
 use Rattle.memory.specs.declared.answer.Refusal.{Refusal}
 use Rattle.memory.specs.declared.answer.Judged.{Judged}
@@ -118,8 +116,8 @@ module _ (m : Memory) (ps : List Pair) (room : Bool) (w : List ℕ) (listed : Pa
     listed-fine = judged-fine (listed .judged) (next .0) (next .1)
 
     -- the table is one, the pairs name its tapes, and the work space is enough
-    pub told-of : Sound m × Named (m .tapes) (listed .pairs) × (forecastWork (m .states) ≤ length w)
-    told-of = (judged-sound m (first .1), k .tapes-named listed-fine, leb-true (forecastWork (m .states)) (length w) (and-true room _ (require-true space refusal.space tt (next .2)) .1))
+    pub may-tell : Sound m × Named (m .tapes) (listed .pairs) × (forecastWork (m .states) ≤ length w)
+    may-tell = (judged-sound m (first .1), k .tapes-named listed-fine, leb-true (forecastWork (m .states)) (length w) (and-true room _ (require-true space refusal.space tt (next .2)) .1))
 
     -- the forecasts of the pairs
     pub answer-told : (l : ForecastList) → forecastsAs l ≡ map (forecastOf (tableOf m)) (pairsAs (listed .pairs)) → answerAs (record { judged = j; told = l }) ≡ forecastAnswer m ps room w
@@ -158,23 +156,13 @@ room-is bytes result = go (leb (length bytes / 2) (length result / 6)) refl
         sym (lt-leb (forecastSize * length (pairsOf bytes)) (length result)
         (omega (arith, pairs-count bytes, leb-false (length bytes / 2) (length result / 6) q)))
 
--- forecasts told are as many as the pairs, and there is room
-answer-room : (m : Memory) (ps : List Pair) (room : Bool) (w : List ℕ) (fs : List Forecast) → forecastAnswer m ps room w ≡ ok fs → T room × (length fs ≡ length ps)
-unfolding forecastAnswer forecastCall
-answer-room m ps room w fs e =
-    let (A, _, e₀) = bind-ok (decodeTable m) (λ A. forecastCall (and room (enough (forecastWork (size A)) w)) ps A) fs e in
-    let (_, e₁) = judge-ok (all (isTape (A .tapes)) (named ps)) _ _ fs e₀ in
-    let (_, e₂) = judge-ok (and (leb (length ps) maxPairs) (distinct (named ps))) _ _ fs e₁ in
-    let (t, e₃) = judge-ok (and room (enough (forecastWork (size A)) w)) _ _ fs e₂ in
-    (and-T room (enough (forecastWork (size A)) w) t .0, sym (ap length (ok-injective (map (forecastOf A) ps) fs e₃)) ∙ length-map ps (forecastOf A))
-
--- so their records fit
+-- the records of forecasts that are told fit
 pub answer-recordable : (m : Memory) (ps : List Pair) (room : Bool) (w result : List ℕ) (a : Answer (List Forecast)) → a ≡ forecastAnswer m ps room w
     → room ≡ enough (forecastSize * length ps) result → Recordable a (length result)
 answer-recordable m ps room w result (refused n) e f = tt
 answer-recordable m ps room w result (ok fs) e f =
-    let (t, n) = answer-room m ps room w fs (sym e) in
-    rw n (leb→le (forecastSize * length ps) (length result) (rw f at t))
+    let t = told-of m ps room w fs (sym e) in
+    omega (arith, told-count m ps room fs t, leb→le (forecastSize * length ps) (length result) (rw f at (t .roomy)))
 
 -- an answer and what it leaves are the outcome
 pub call-recorded : (m : Memory) (ps : List Pair) (room : Bool) (w u result out : List ℕ) (a : Answer (List Forecast)) → room ≡ enough (forecastSize * length ps) result

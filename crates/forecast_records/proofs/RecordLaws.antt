@@ -4,15 +4,14 @@ use mathlib.Core.Path.{_≡_, refl, sym, ap, _∙_}
 use mathlib.Core.Bool.{Bool, true, false}
 use mathlib.Core.List.{List, [], _∷_, _++_, map, append-nil}
 use native.Mathlib.Omega.{arith}
-use lib.ListN.{length, getD, take, length-append, length-take, length-map}
+use lib.ListN.{length, getD, take, length-take, length-map}
 use lib.Seq.{take-suc}
 use Rattle.automata.specs.Lists.{concat}
-use Rattle.automata.specs.Forecast as automata
-use Rattle.automata.specs.Forecast.{number, over, mixed, needs}
 use Rattle.automata.specs.Calls.Forecast.{forecastSize, forecastParts, forecastRecord, forecastRecords}
 use Rattle.automata.specs.Calls.Outcome.{overwrite}
 use Rattle.automata.proofs.ListFacts.{map-append}
 use Rattle.automata.proofs.AppendFacts.{concat-append}
+use Rattle.automata.proofs.ForecastCalls.{length-record, length-records}
 use Rattle.memory.specs.Region.{splice}
 use Rattle.memory.specs.Endian.{toLe}
 use Rattle.memory.proofs.Laws.{splice-append, splice-front, splice-none}
@@ -41,16 +40,6 @@ pub record-number : (at : ℕ) (f : Forecast) (w v : List ℕ) → f .mixed ≡ 
 record-number at f w v e h g = rw (e, h) g
 
 -- ---- several
-
--- a record has its size, and several as many times that
-pub length-record : (f : automata.Forecast) → length (forecastRecord f) ≡ forecastSize
-length-record (needs d (number n)) = refl
-length-record (needs d over) = refl
-length-record mixed = refl
-
-pub length-records : (fs : List automata.Forecast) → length (forecastRecords fs) ≡ forecastSize * length fs
-length-records [] = refl
-length-records (f ∷ fs) = omega (arith, length-append (forecastRecord f) (forecastRecords fs), length-record f, length-records fs)
 
 -- a record behind others
 module _ (fs : List Forecast) (h : ℕ) (d : Forecast) (lt : h < length fs) where

@@ -1,4 +1,4 @@
--- Refusals of the auto-intersection: 8, 9 and 10 exactly in their cases, in terms of what can be reached.
+-- Refusals of the auto-intersection: 8, 9 and 10 exactly in their cases, in terms of what can be reached; and of the forecast.
 use mathlib.Core.Path.{_≡_, sym, subst}
 use mathlib.Core.Logic.{_↔_, _⊎_, inl, inr, ⊎-elim}
 use mathlib.Core.Bool.{Bool, true}
@@ -17,7 +17,8 @@ use Rattle.automata.specs.Closing.{closingTables, viable}
 use Rattle.automata.specs.Explore.{Edge, edges}
 use Rattle.automata.specs.Intersect.{starts, candidates, out, reachedConfigs, delayed, intersect}
 use Rattle.automata.specs.IntersectCall.{named, intersectOn, intersectCall}
-use Rattle.laws.specs.Refused.{MoreThan, Reached, ReachedStep, BuildRefused, build-states, build-arcs, build-delay, BuildCallRefused, build-tape, build-pairs, build-limit, build-work, build-itself}
+use Rattle.automata.specs.ForecastCall.{forecastCall}
+use Rattle.laws.specs.Refused.{MoreThan, Reached, ReachedStep, BuildRefused, build-states, build-arcs, build-delay, BuildCallRefused, build-tape, build-pairs, build-limit, build-work, build-itself, ForecastRefused, forecast-tape, forecast-pairs, forecast-space}
 use Rattle.automata.proofs.ListFacts
 use Rattle.automata.proofs.ViableFacts
 use Rattle.automata.proofs.Configurations.{configs-decided}
@@ -143,3 +144,23 @@ build-call-refused D enough space ps A n = (why, answer n)
     answer _ (build-itself t u v w k h) = judge-passes _ (asks-tapes (A .tapes) (named ps)) _ _ _ t
         (judge-passes _ (asks-pairs ps) _ _ _ u
         (judge-on (leb D 64) _ _ _ (le-leb D 64 v) (judge-on enough _ _ _ w (build-only D space ps A k .1 h))))
+
+-- the forecast refuses by its tests alone
+pub forecast-refused : {W : Type 0} (enough : Bool) (ps : List Pair) (A : Automaton W) (n : ℕ) → (forecastCall enough ps A ≡ refused n) ↔ ForecastRefused enough ps A n
+unfolding forecastCall
+forecast-refused enough ps A n = (why, answer n)
+  where
+    why : forecastCall enough ps A ≡ refused n → ForecastRefused enough ps A n
+    why e = ⊎-elim (λ (x, q). subst (ForecastRefused enough ps A) q (forecast-tape x))
+        (λ (t, e). ⊎-elim (λ (x, q). subst (ForecastRefused enough ps A) q (forecast-pairs t x))
+        (λ (u, e). ⊎-elim (λ (x, q). subst (ForecastRefused enough ps A) q (forecast-space t u x))
+        (λ (_, e). absurd (refused≢ok (sym e)))
+        (judge-cases enough _ _ n e))
+        (judge-asks _ (asks-pairs ps) _ _ n e))
+        (judge-asks _ (asks-tapes (A .tapes) (named ps)) _ _ n e)
+
+    answer : (k : ℕ) → ForecastRefused enough ps A k → forecastCall enough ps A ≡ refused k
+    answer _ (forecast-tape x) = judge-stops _ (asks-tapes (A .tapes) (named ps)) _ _ x
+    answer _ (forecast-pairs t x) = judge-passes _ (asks-tapes (A .tapes) (named ps)) _ _ _ t (judge-stops _ (asks-pairs ps) _ _ x)
+    answer _ (forecast-space t u x) = judge-passes _ (asks-tapes (A .tapes) (named ps)) _ _ _ t
+        (judge-passes _ (asks-pairs ps) _ _ _ u (judge-refuses enough _ _ x))

@@ -1,8 +1,9 @@
 -- Each public call refuses with a number exactly in that number's case, on bytes.
-use mathlib.Core.Path.{_≡_, ap}
+use mathlib.Core.Path.{_≡_, sym, ap}
+use mathlib.Core.Bool.{Bool, true}
 use mathlib.Core.Logic.{_↔_, _⊎_, ⊎-elim, Iff·trans}
 use mathlib.Core.List.{List}
-use Prim.Native.Nat.{ℕ}
+use Prim.Native.Nat.{ℕ, _*_}
 use native.Mathlib.Omega.{arith}
 use lib.ListN.{length}
 use Rattle.automata.specs.Answer.{_>>=_, Answer, ok, refused, judge}
@@ -10,8 +11,11 @@ use Rattle.automata.specs.OrderedSum.{ℕ-sum}
 use Rattle.automata.specs.Automaton.{Automaton, size}
 use Rattle.automata.specs.Table.{weightFits}
 use Rattle.automata.specs.TapePair.{Pair}
+use Rattle.automata.specs.Lists.{and}
+use Rattle.automata.specs.Forecast.{Forecast}
 use Rattle.automata.specs.Memory.{Memory, decodeTable}
 use Rattle.automata.specs.IntersectCall.{intersectCall}
+use Rattle.automata.specs.ForecastCall.{forecastCall}
 use Rattle.automata.specs.Product.{product}
 use Rattle.automata.specs.Join.{join}
 use Rattle.automata.specs.Union.{union}
@@ -20,7 +24,7 @@ use Rattle.automata.specs.TableText.{writeTable}
 use Rattle.automata.specs.LookupCall.{lookupCall}
 use Rattle.automata.specs.Refusal
 use Rattle.automata.specs.Calls.Outcome.{Slices, spaceOf, put, build, conclude, print}
-use Rattle.automata.specs.Calls.Work.{buildWork, productWork, lookupWork, enough}
+use Rattle.automata.specs.Calls.Work.{buildWork, productWork, lookupWork, forecastWork, enough}
 use Rattle.automata.specs.Calls.Read.{readAnswer, readOutcome}
 use Rattle.automata.specs.Calls.Intersect.{intersectAnswer, intersectOutcome}
 use Rattle.automata.specs.Calls.Product.{productAnswer, productOutcome}
@@ -30,9 +34,11 @@ use Rattle.automata.specs.Calls.Project.{projectAnswer, projectOutcome}
 use Rattle.automata.specs.Calls.Drop.{inMask, dropAnswer, dropOutcome}
 use Rattle.automata.specs.Calls.Write.{writeAnswer, writeOutcome}
 use Rattle.automata.specs.Calls.Lookup.{lines, lookupAnswer, lookupOutcome}
+use Rattle.automata.specs.Calls.Forecast.{forecastSize, forecastRecords, forecastAnswer, forecastOutcome, forecastRecorded}
 use Rattle.laws.specs.TableRefused.{ReadRefused}
 use Rattle.laws.specs.Refused.{
   BuildCallRefused,
+  ForecastRefused,
   ProductCallRefused,
   JoinRefused,
   UnionRefused,
@@ -51,10 +57,10 @@ use Rattle.laws.specs.CallsRefused.{
   good-tables,
   CallsRefused,
 }
-use Rattle.automata.proofs.AnswerFacts.{then-refuses}
+use Rattle.automata.proofs.AnswerFacts.{refused≢ok, then-refuses}
 use Rattle.laws.proofs.Lemmas.Judging.{bind-cases, then-on}
 use Rattle.laws.proofs.TableRefused.{read-refused, table-refused}
-use Rattle.laws.proofs.BuildRefused.{build-call-refused}
+use Rattle.laws.proofs.BuildRefused.{build-call-refused, forecast-refused}
 use Rattle.laws.proofs.ProductRefused.{product-call-refused}
 use Rattle.laws.proofs.JoinRefused.{join-refused}
 use Rattle.laws.proofs.ColumnsRefused.{union-refused, project-refused, drop-refused}
@@ -65,6 +71,12 @@ pub put-refused : (r : Answer (Automaton ℕ)) (s : Slices) (n : ℕ) → (put r
 unfolding put
 put-refused (ok A) s n = (λ e. let z : _≡_ {A = ℕ} 0 1 = cc in absurd (omega arith), λ e. let z : _≡_ {A = ℕ} 0 1 = cc in absurd (omega arith))
 put-refused (refused m) s n = (λ e. let z : m ≡ n = cc in ap refused z, λ e. let z : m ≡ n = cc in ap refused z)
+
+-- the same of a text
+print-refused : (r : Answer (List ℕ)) (output : List ℕ) (n : ℕ) → (print r output .answer ≡ refused n) ↔ (r ≡ refused n)
+unfolding print
+print-refused (ok x) output n = (λ e. let z : _≡_ {A = ℕ} 0 1 = cc in absurd (omega arith), λ e. let z : _≡_ {A = ℕ} 0 1 = cc in absurd (omega arith))
+print-refused (refused m) output n = (λ e. let z : m ≡ n = cc in ap refused z, λ e. let z : m ≡ n = cc in ap refused z)
 
 -- a table, then the operation
 one-table : {X : Type 0} (m : Memory) (k : Automaton ℕ → Answer X) (why : Automaton ℕ → ℕ → Type 0) → ((A : Automaton ℕ) (n : ℕ) → (k A ≡ refused n) ↔ why A n)
@@ -108,6 +120,33 @@ intersect-refused m ps D s work n = Iff·trans (put-refused (intersectAnswer m p
     (λ A. BuildCallRefused D (enough (buildWork (spaceOf s) (size A)) work) (spaceOf s) ps A)
     (λ A. build-call-refused D (enough (buildWork (spaceOf s) (size A)) work) (spaceOf s) ps A) n)
 
+-- a table, then the forecasts, whatever is asked of the space
+forecast-answer-refused : (m : Memory) (ps : List Pair) (room : Bool) (work : List ℕ) (n : ℕ)
+    → (forecastAnswer m ps room work ≡ refused n) ↔ OneTableRefused m (λ A. ForecastRefused (and room (enough (forecastWork (size A)) work)) ps A) n
+unfolding forecastAnswer
+forecast-answer-refused m ps room work n =
+    one-table m (λ A. forecastCall (and room (enough (forecastWork (size A)) work)) ps A) (λ A. ForecastRefused (and room (enough (forecastWork (size A)) work)) ps A)
+    (λ A. forecast-refused (and room (enough (forecastWork (size A)) work)) ps A) n
+
+forecast-call-refused : (m : Memory) (ps : List Pair) (work : List ℕ) (n : ℕ)
+    → (forecastOutcome m ps work .answer ≡ refused n) ↔ OneTableRefused m (λ A. ForecastRefused (enough (forecastWork (size A)) work) ps A) n
+unfolding forecastOutcome
+forecast-call-refused m ps work n = forecast-answer-refused m ps true work n
+
+-- records are refused as what they are records of
+recorded-refused : (m : Memory) (ps : List Pair) (result work : List ℕ) (n : ℕ)
+    → (forecastRecorded m ps result work .written .answer ≡ refused n)
+    ↔ OneTableRefused m (λ A. ForecastRefused (and (enough (forecastSize * length ps) result) (enough (forecastWork (size A)) work)) ps A) n
+unfolding forecastRecorded
+recorded-refused m ps result work n =
+    let a = forecastAnswer m ps (enough (forecastSize * length ps) result) work in
+    Iff·trans (print-refused (a >>= λ fs. ok (forecastRecords fs)) result n)
+    (Iff·trans (recorded a) (forecast-answer-refused m ps (enough (forecastSize * length ps) result) work n))
+  where
+    recorded : (a : Answer (List Forecast)) → ((a >>= λ fs. ok (forecastRecords fs)) ≡ refused n) ↔ (a ≡ refused n)
+    recorded (ok fs) = (λ e. absurd (refused≢ok (sym e)), λ e. absurd (refused≢ok (sym e)))
+    recorded (refused k) = (λ e. let z : k ≡ n = cc in ap refused z, λ e. let z : k ≡ n = cc in ap refused z)
+
 product-refused : (a b : Memory) (s : Slices) (work : List ℕ) (n : ℕ)
     → (productOutcome a b s work .made .answer ≡ refused n)
     ↔ TwoTablesRefused a b (ProductCallRefused ℕ-sum weightFits (enough (productWork (spaceOf s)) work) (spaceOf s)) n
@@ -143,11 +182,6 @@ unfolding dropOutcome dropAnswer
 drop-call-refused m mask s n = Iff·trans (put-refused (dropAnswer m mask (spaceOf s)) s n)
     (one-table m (dropTapes (spaceOf s) (inMask mask)) (DropRefused (spaceOf s) (inMask mask)) (drop-refused (spaceOf s) (inMask mask)) n)
 
-print-refused : (r : Answer (List ℕ)) (output : List ℕ) (n : ℕ) → (print r output .answer ≡ refused n) ↔ (r ≡ refused n)
-unfolding print
-print-refused (ok x) output n = (λ e. let z : _≡_ {A = ℕ} 0 1 = cc in absurd (omega arith), λ e. let z : _≡_ {A = ℕ} 0 1 = cc in absurd (omega arith))
-print-refused (refused m) output n = (λ e. let z : m ≡ n = cc in ap refused z, λ e. let z : m ≡ n = cc in ap refused z)
-
 write-call-refused : (m : Memory) (output : List ℕ) (n : ℕ) → (writeOutcome m output .answer ≡ refused n) ↔ OneTableRefused m (WriteRefused output) n
 unfolding writeOutcome writeAnswer
 write-call-refused m output n = Iff·trans (print-refused (writeAnswer m output) output n)
@@ -165,6 +199,8 @@ calls-refused = record {
   table = table-refused;
   read = read-call-refused;
   intersect = intersect-refused;
+  forecast = forecast-call-refused;
+  forecastRecorded = recorded-refused;
   product = product-refused;
   join = join-call-refused;
   union = union-call-refused;

@@ -31,6 +31,10 @@ use Rattle.laws.specs.Refused.{
   build-limit,
   build-work,
   build-itself,
+  ForecastRefused,
+  forecast-tape,
+  forecast-pairs,
+  forecast-space,
   ProductRefused,
   product-states,
   product-arcs,
@@ -128,6 +132,11 @@ build-call-listed _ (build-limit _ _ _) = (omega arith, omega arith)
 build-call-listed _ (build-work _ _ _ _) = (omega arith, omega arith)
 build-call-listed _ (build-itself _ _ _ _ n h) = build-listed n h
 
+forecast-listed : {W : Type 0} {enough : Bool} {ps : List Pair} {A : Automaton W} (n : ℕ) → ForecastRefused enough ps A n → Listed n
+forecast-listed _ (forecast-tape _) = (omega arith, omega arith)
+forecast-listed _ (forecast-pairs _ _) = (omega arith, omega arith)
+forecast-listed _ (forecast-space _ _ _) = (omega arith, omega arith)
+
 product-listed : {S : OrderedSum} {fits : S .W → Bool} {space : Space} {A B : Automaton (S .W)} (n : ℕ) → ProductRefused S fits space A B n → Listed n
 product-listed _ (product-states _) = (omega arith, omega arith)
 product-listed _ (product-arcs _ _) = (omega arith, omega arith)
@@ -203,6 +212,8 @@ listed-refusals = record {
   read = λ x s n e. text-listed (spaceOf s) x n (calls-refused .read x s n .0 e);
   write = λ m output n e. one-listed m _ (λ A. write-listed) n (calls-refused .write m output n .0 e);
   intersect = λ m ps D s work n e. one-listed m _ (λ A. build-call-listed) n (calls-refused .intersect m ps D s work n .0 e);
+  forecast = λ m ps work n e. one-listed m _ (λ A. forecast-listed) n (calls-refused .forecast m ps work n .0 e);
+  forecastRecorded = λ m ps result work n e. one-listed m _ (λ A. forecast-listed) n (calls-refused .forecastRecorded m ps result work n .0 e);
   product = λ a b s work n e. two-listed a b _ (λ A B. product-call-listed) n (calls-refused .product a b s work n .0 e);
   join = λ a b ps D p s work n e. two-listed a b _ (λ A B. join-listed) n (calls-refused .join a b ps D p s work n .0 e);
   union = λ a b s n e. two-listed a b _ (λ A B. union-listed) n (calls-refused .union a b s n .0 e);

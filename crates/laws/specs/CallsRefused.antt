@@ -2,7 +2,9 @@
 use mathlib.Core.Path.{_≡_}
 use mathlib.Core.Logic.{_↔_}
 use mathlib.Core.List.{List}
-use Prim.Native.Nat.{ℕ}
+use Prim.Native.Nat.{ℕ, _*_}
+use lib.ListN.{length}
+use Rattle.automata.specs.Lists.{and}
 use Rattle.automata.specs.Answer.{ok, refused}
 use Rattle.automata.specs.OrderedSum.{ℕ-sum}
 use Rattle.automata.specs.Automaton.{Automaton, size}
@@ -10,7 +12,7 @@ use Rattle.automata.specs.Table.{weightFits}
 use Rattle.automata.specs.TapePair.{Pair}
 use Rattle.automata.specs.Memory.{Memory, decodeTable}
 use Rattle.automata.specs.Calls.Outcome.{Slices, spaceOf}
-use Rattle.automata.specs.Calls.Work.{buildWork, productWork, enough}
+use Rattle.automata.specs.Calls.Work.{buildWork, productWork, forecastWork, enough}
 use Rattle.automata.specs.Calls.Read.{readOutcome}
 use Rattle.automata.specs.Calls.Intersect.{intersectOutcome}
 use Rattle.automata.specs.Calls.Product.{productOutcome}
@@ -20,8 +22,9 @@ use Rattle.automata.specs.Calls.Project.{projectOutcome}
 use Rattle.automata.specs.Calls.Drop.{inMask, dropOutcome}
 use Rattle.automata.specs.Calls.Write.{writeOutcome}
 use Rattle.automata.specs.Calls.Lookup.{lookupOutcome}
+use Rattle.automata.specs.Calls.Forecast.{forecastOutcome, forecastSize, forecastRecorded}
 use Rattle.laws.specs.TableRefused.{ReadRefused, TableRefused}
-use Rattle.laws.specs.Refused.{BuildCallRefused, ProductCallRefused, JoinRefused, UnionRefused, ProjectRefused, DropRefused, WriteRefused, LookupRefused}
+use Rattle.laws.specs.Refused.{BuildCallRefused, ForecastRefused, ProductCallRefused, JoinRefused, UnionRefused, ProjectRefused, DropRefused, WriteRefused, LookupRefused}
 
 -- Why a call on one table refuses: the table is refused, else the call refuses it.
 pub data OneTableRefused (m : Memory) (why : Automaton ℕ → ℕ → Type 0) : ℕ → Type 0 where
@@ -42,6 +45,11 @@ pub record CallsRefused : Type 0 where
   pub intersect : (m : Memory) (ps : List Pair) (D : ℕ) (s : Slices) (work : List ℕ) (n : ℕ)
       → (intersectOutcome m ps D s work .made .answer ≡ refused n)
       ↔ OneTableRefused m (λ A. BuildCallRefused D (enough (buildWork (spaceOf s) (size A)) work) (spaceOf s) ps A) n
+  pub forecast : (m : Memory) (ps : List Pair) (work : List ℕ) (n : ℕ)
+      → (forecastOutcome m ps work .answer ≡ refused n) ↔ OneTableRefused m (λ A. ForecastRefused (enough (forecastWork (size A)) work) ps A) n
+  pub forecastRecorded : (m : Memory) (ps : List Pair) (result work : List ℕ) (n : ℕ)
+      → (forecastRecorded m ps result work .written .answer ≡ refused n)
+      ↔ OneTableRefused m (λ A. ForecastRefused (and (enough (forecastSize * length ps) result) (enough (forecastWork (size A)) work)) ps A) n
   pub product : (a b : Memory) (s : Slices) (work : List ℕ) (n : ℕ)
       → (productOutcome a b s work .made .answer ≡ refused n)
       ↔ TwoTablesRefused a b (ProductCallRefused ℕ-sum weightFits (enough (productWork (spaceOf s)) work) (spaceOf s)) n

@@ -16,6 +16,7 @@ use Rattle.automata.specs.Calls.Union.{unionOutcome}
 use Rattle.automata.specs.Calls.Project.{projectOutcome}
 use Rattle.automata.specs.Calls.Drop.{dropOutcome}
 use Rattle.automata.specs.Calls.Lookup.{lookupOutcome}
+use Rattle.automata.specs.Calls.Forecast.{forecastOutcome, forecastRecorded}
 
 -- the refusals of a table: short, form, size, state
 abbrev pub OfTable : ℕ → Type 0
@@ -32,6 +33,8 @@ pub record ListedRefusals : Type 0 where
   pub read : (x : List ℕ) (s : Slices) (n : ℕ) → readOutcome x s .answer ≡ refused n → OfTable n ⊎ ((n ≡ 8) ⊎ (n ≡ 9))
   pub write : (m : Memory) (output : List ℕ) (n : ℕ) → writeOutcome m output .answer ≡ refused n → Listed n
   pub intersect : (m : Memory) (ps : List Pair) (D : ℕ) (s : Slices) (work : List ℕ) (n : ℕ) → intersectOutcome m ps D s work .made .answer ≡ refused n → Listed n
+  pub forecast : (m : Memory) (ps : List Pair) (work : List ℕ) (n : ℕ) → forecastOutcome m ps work .answer ≡ refused n → Listed n
+  pub forecastRecorded : (m : Memory) (ps : List Pair) (result work : List ℕ) (n : ℕ) → forecastRecorded m ps result work .written .answer ≡ refused n → Listed n
   pub product : (a b : Memory) (s : Slices) (work : List ℕ) (n : ℕ) → productOutcome a b s work .made .answer ≡ refused n → Listed n
   pub join : (a b : Memory) (ps : List Pair) (D : ℕ) (p s : Slices) (work : List ℕ) (n : ℕ) → joinOutcome a b ps D p s work .made .answer ≡ refused n → Listed n
   pub union : (a b : Memory) (s : Slices) (n : ℕ) → unionOutcome a b s .answer ≡ refused n → Listed n

@@ -107,6 +107,14 @@ pub data BuildCallRefused {W : Type 0} (D : ℕ) (enough : Bool) (space : Space)
   build-itself : TapesThere (A .tapes) (named ps) → PairsApart ps → D ≤ maxDelay → enough ≡ true
       → (n : ℕ) → BuildRefused A (limited D ps) space n → BuildCallRefused D enough space ps A n
 
+-- ---- the forecast
+
+-- why the call refuses, of a table that was judged good; no limit is read
+pub data ForecastRefused {W : Type 0} (enough : Bool) (ps : List Pair) (A : Automaton W) : ℕ → Type 0 where
+  forecast-tape : ¬ TapesThere (A .tapes) (named ps) → ForecastRefused enough ps A Refusal.tape
+  forecast-pairs : TapesThere (A .tapes) (named ps) → ¬ PairsApart ps → ForecastRefused enough ps A Refusal.pairs
+  forecast-space : TapesThere (A .tapes) (named ps) → PairsApart ps → enough ≡ false → ForecastRefused enough ps A Refusal.space
+
 -- ---- the product
 
 module _ (S : OrderedSum) (A B : Automaton (S .W)) where

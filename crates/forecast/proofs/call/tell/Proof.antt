@@ -1,5 +1,5 @@
 -- `forecast::call::tell` meets its contract. Assumes nothing.
-use Rattle.forecast.proofs.CallLaws.{used-none, answer-refused, told-of, answer-told}
+use Rattle.forecast.proofs.CallLaws.{used-none, answer-refused, may-tell, answer-told}
 use denote.Ref.{now}
 use borrow.Author.Needs.{needs}
 use Rattle.forecast.proofs.call.tell.Statement.{statement}
@@ -32,7 +32,7 @@ returns c =
 forecasts-of-requires : tie.Need-forecasts-of-requires
 forecasts-of-requires c κs =
     let s = c .before .before .before .before .before .before .before .before in
-    told-of _ (s .pre .pairs) (s .args .room) (now (s .args .work)) (s .args .listed) (s .pre .judged) _ (c .before .before .before .first-refusal .ensures) (c .before .enum-told .given .1)
+    may-tell _ (s .pre .pairs) (s .args .room) (now (s .args .work)) (s .args .listed) (s .pre .judged) _ (c .before .before .before .first-refusal .ensures) (c .before .enum-told .given .1)
 
 same-length : tie.Need-same-length
 same-length c = search needs
