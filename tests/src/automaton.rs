@@ -56,24 +56,37 @@ impl Automaton {
         of
     }
 
+    /// For each state whether a path leads to it from one with an initial weight: a search forwards from the initial states.
+    pub fn accessible(&self) -> Vec<bool> {
+        let mut targets = vec![Vec::new(); self.states.len()];
+        for arc in &self.arcs {
+            targets[arc.source].push(arc.target);
+        }
+        searched(self.states.iter().map(|state| state.initial.is_some()).collect(), &targets)
+    }
+
     /// For each state whether a path leads from it to one with a final weight: a search backwards from the final states.
     pub fn coaccessible(&self) -> Vec<bool> {
         let mut sources = vec![Vec::new(); self.states.len()];
         for arc in &self.arcs {
             sources[arc.target].push(arc.source);
         }
-        let mut marked: Vec<bool> = self.states.iter().map(|state| state.final_weight.is_some()).collect();
-        let mut stack: Vec<usize> = (0..marked.len()).filter(|&state| marked[state]).collect();
-        while let Some(state) = stack.pop() {
-            for &source in &sources[state] {
-                if !marked[source] {
-                    marked[source] = true;
-                    stack.push(source);
-                }
+        searched(self.states.iter().map(|state| state.final_weight.is_some()).collect(), &sources)
+    }
+}
+
+/// The states marked, and all that a search from them finds.
+fn searched(mut marked: Vec<bool>, neighbours: &[Vec<usize>]) -> Vec<bool> {
+    let mut stack: Vec<usize> = (0..marked.len()).filter(|&state| marked[state]).collect();
+    while let Some(state) = stack.pop() {
+        for &next in &neighbours[state] {
+            if !marked[next] {
+                marked[next] = true;
+                stack.push(next);
             }
         }
-        marked
     }
+    marked
 }
 
 /// Whether a byte is a symbol: A to Z or 0 to 9.

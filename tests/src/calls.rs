@@ -6,11 +6,12 @@
 use crate::agree::agree;
 use crate::automaton::{Automaton, Room};
 use crate::columns;
+use crate::forecast::{self, FORECAST_BYTES};
 use crate::intersect;
 use crate::join;
 use crate::lookup;
 use crate::memory::{encode_arcs, encode_states, judge, LentTable, ARC_BYTES, STATE_BYTES};
-use crate::pairs::{judge_intersect, judge_join};
+use crate::pairs::{judge_intersect, judge_join, judge_pairs};
 use crate::product;
 use crate::refusal::{refuse_if, Refusal};
 use crate::text;
@@ -70,6 +71,14 @@ pub struct LookupOutcome {
     pub work: Vec<u8>,
 }
 
+/// What a forecast answers (how many bytes it tells) and leaves behind.
+#[derive(Clone, Debug, PartialEq, Eq)]
+pub struct ForecastOutcome {
+    pub answer: Result<u64, Refusal>,
+    pub result: Vec<u8>,
+    pub work: Vec<u8>,
+}
+
 /// `bytes` over the front of `space`.
 fn over(space: &[u8], bytes: &[u8]) -> Vec<u8> {
     [bytes, &space[bytes.len()..]].concat()
@@ -123,6 +132,11 @@ pub fn join_work(between: Room, room: Room) -> u128 {
 /// Work of a lookup (docs/SPACE.md): 8 bytes a cell.
 pub fn lookup_work(automaton: &Automaton, tuple: &[Vec<u8>]) -> u128 {
     8 * lookup::cells(automaton, tuple)
+}
+
+/// Work of a forecast: 64 bytes a state of the table read.
+pub fn forecast_work(states_read: u64) -> u128 {
+    64 * u128::from(states_read)
 }
 
 /// Reading: the text of a table into result space.
@@ -232,6 +246,25 @@ pub fn lookup(table: &LentTable, tuple: &[u8], work: &[u8]) -> LookupOutcome {
         Ok(lookup::lookup(&automaton, &tuple))
     };
     LookupOutcome { answer: found(), work: zeros(work) }
+}
+
+/// The pairs of a list lent as bytes, two a pair; a last byte alone is no pair.
+pub fn pairs_of_bytes(bytes: &[u8]) -> Vec<(u64, u64)> {
+    bytes.chunks_exact(2).map(|pair| (u64::from(pair[0]), u64::from(pair[1]))).collect()
+}
+
+/// Forecast: the table, the whole list of pairs (5, 6), the work and the result (13). A record for each pair, in list order,
+/// over the front of the result.
+pub fn forecast(table: &LentTable, pairs: &[u8], result: &[u8], work: &[u8]) -> ForecastOutcome {
+    let told = || {
+        let automaton = judge(table)?;
+        let pairs = judge_pairs(&pairs_of_bytes(pairs), automaton.tapes)?;
+        judge_space(work.len(), forecast_work(automaton.states.len() as u64))?;
+        judge_space(result.len(), (FORECAST_BYTES * pairs.len()) as u128)?;
+        Ok(pairs.iter().flat_map(|&pair| forecast::forecast(&automaton, pair).record()).collect())
+    };
+    let TextOutcome { answer, output } = text_outcome(told(), result);
+    ForecastOutcome { answer, result: output, work: zeros(work) }
 }
 
 /// `agree` on its whole input.

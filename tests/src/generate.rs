@@ -14,8 +14,11 @@ pub struct Case {
     pub limit: u64,
 }
 
+/// A table and pairs.
+pub type Subject = (Automaton, Vec<(u64, u64)>);
+
 /// The ends of an arc, before it has labels.
-type Ends = (usize, usize);
+pub type Ends = (usize, usize);
 
 /// How many states and arcs a shape may have.
 #[derive(Clone, Copy)]
@@ -33,7 +36,7 @@ fn symbol(random: &mut Random, alphabet: usize) -> u8 {
 }
 
 /// A string of `length` symbols.
-fn word(random: &mut Random, alphabet: usize, length: usize) -> Label {
+pub fn word(random: &mut Random, alphabet: usize, length: usize) -> Label {
     (0..length).map(|_| symbol(random, alphabet)).collect()
 }
 
@@ -44,7 +47,7 @@ fn label(random: &mut Random, alphabet: usize) -> Label {
 }
 
 /// A weight: mostly small, sometimes at an edge of its range.
-fn weight(random: &mut Random) -> u64 {
+pub fn weight(random: &mut Random) -> u64 {
     match random.below(12) {
         0 => MOST_WEIGHT,
         1 => 0,
@@ -203,6 +206,26 @@ fn states(random: &mut Random, count: usize) -> Vec<State> {
     (0..count).map(|number| state(random, number)).collect()
 }
 
+/// Arcs with the labels of the columns, the tapes in a random order, some arcs repeated, at most 512; and the pairs, the first two
+/// columns being the first of them, and so on.
+pub fn placed(random: &mut Random, ends: &[Ends], columns: &[Vec<Label>], pair_count: usize) -> (Vec<Arc>, Vec<(u64, u64)>) {
+    let places = random.shuffled(&(0..columns.len()).collect::<Vec<usize>>());
+    let pairs = (0..pair_count).map(|pair| (places[2 * pair] as u64 + 1, places[2 * pair + 1] as u64 + 1)).collect();
+    let mut arcs: Vec<Arc> = Vec::new();
+    for (number, &(source, target)) in ends.iter().enumerate() {
+        let mut labels = vec![Label::new(); columns.len()];
+        for (column, &place) in columns.iter().zip(&places) {
+            labels[place] = column[number].clone();
+        }
+        arcs.push(Arc { source, target, weight: weight(random), labels });
+        if random.chance(5) && arcs.len() < 512 {
+            arcs.push(arcs[arcs.len() - 1].clone());
+        }
+    }
+    arcs.truncate(512);
+    (arcs, pairs)
+}
+
 /// A table on a graph with one style of labels for each of several pairs, the tapes in a random order; some arcs repeated.
 fn graph_case(random: &mut Random) -> Case {
     let size = size(random);
@@ -219,20 +242,7 @@ fn graph_case(random: &mut Random) -> Case {
         let alphabet = random.range(1, 10);
         columns.push(ends.iter().map(|_| label(random, alphabet)).collect());
     }
-    let places = random.shuffled(&(0..columns.len()).collect::<Vec<usize>>());
-    let pairs = (0..pair_count).map(|pair| (places[2 * pair] as u64 + 1, places[2 * pair + 1] as u64 + 1)).collect();
-    let mut arcs: Vec<Arc> = Vec::new();
-    for (number, &(source, target)) in ends.iter().enumerate() {
-        let mut labels = vec![Label::new(); columns.len()];
-        for (column, &place) in columns.iter().zip(&places) {
-            labels[place] = column[number].clone();
-        }
-        arcs.push(Arc { source, target, weight: weight(random), labels });
-        if random.chance(5) && arcs.len() < 512 {
-            arcs.push(arcs[arcs.len() - 1].clone());
-        }
-    }
-    arcs.truncate(512);
+    let (arcs, pairs) = placed(random, &ends, &columns, pair_count);
     Case {
         automaton: Automaton { tapes: columns.len(), states: states(random, size.states), arcs },
         pairs,

@@ -1,7 +1,8 @@
-//! The second implementation of Tomchoen, written from document 01 alone, on plain Rust types.
+//! The second implementation of Tomchoen, written from document 01 and document 02's request 2.1 alone, on plain Rust types.
 //!
-//! `text`, `memory`: tables as texts and as records; `intersect`, `product`, `join`, `columns`, `lookup`: the calls on automata;
-//! `calls`: the same calls on lent bytes; `agree`: the program from text to text. The rest makes and checks test inputs.
+//! `text`, `memory`: tables as texts and as records; `intersect`, `product`, `join`, `columns`, `lookup`, `forecast`: the calls
+//! on automata; `calls`: the same calls on lent bytes; `agree`: the program from text to text. The rest makes and checks test
+//! inputs.
 
 #![forbid(unsafe_code)]
 
@@ -12,6 +13,8 @@ pub mod calls;
 pub mod closing;
 pub mod columns;
 pub mod damage;
+pub mod forecast;
+pub mod forecast_cases;
 pub mod generate;
 pub mod intersect;
 pub mod join;

@@ -27,13 +27,19 @@ fn judged(pairs: &[(u64, u64)]) -> Vec<Pair> {
     pairs.iter().map(|&(first, second)| (first as usize, second as usize)).collect()
 }
 
-/// Judges the pairs of keeping by 5, 6, and D by 7: all tapes in 1..n, and all differ.
-pub fn judge_intersect(pairs: &[(u64, u64)], tapes: usize, limit: u64) -> Result<Vec<Pair>, Refusal> {
+/// Judges pairs on one table by 5, 6: all tapes in 1..n, and all differ.
+pub fn judge_pairs(pairs: &[(u64, u64)], tapes: usize) -> Result<Vec<Pair>, Refusal> {
     let named = || pairs.iter().flat_map(|&(first, second)| [first, second]);
     refuse_if(named().any(|tape| !is_tape(tape, tapes)), Refusal::Tape)?;
     refuse_if(pairs.len() > MOST_PAIRS || has_repeat(named()), Refusal::Pairs)?;
-    refuse_if(limit > MOST_LIMIT, Refusal::Limit)?;
     Ok(judged(pairs))
+}
+
+/// Judges the pairs of keeping by 5, 6, and D by 7.
+pub fn judge_intersect(pairs: &[(u64, u64)], tapes: usize, limit: u64) -> Result<Vec<Pair>, Refusal> {
+    let pairs = judge_pairs(pairs, tapes)?;
+    refuse_if(limit > MOST_LIMIT, Refusal::Limit)?;
+    Ok(pairs)
 }
 
 /// Judges the pairs of a join by 5, 6, and D by 7: each side's tapes in its range, and distinct on that side.

@@ -4,9 +4,11 @@
 //! byte, with `outcome`.
 
 use crate::automaton::{Arc, Automaton, Room, State};
-use crate::calls::{self, JoinRequest, LookupOutcome, ResultSpace, TableOutcome, TextOutcome};
+use crate::calls::{self, ForecastOutcome, JoinRequest, LookupOutcome, ResultSpace, TableOutcome, TextOutcome};
 use crate::columns::project;
 use crate::damage::damaged_table;
+use crate::forecast::FORECAST_BYTES;
+use crate::forecast_cases::forecast_case;
 use crate::generate::{bad_pairs, case, corridor_arcs, limit, small_case, Case};
 use crate::intersect::intersect;
 use crate::join::join;
@@ -28,6 +30,7 @@ pub enum Request {
     Project { table: LentTable, tapes: Vec<u64>, result: ResultSpace },
     DropTapes { table: LentTable, marked: u8, result: ResultSpace },
     Lookup { table: LentTable, tuple: Vec<u8>, work: Vec<u8> },
+    Forecast { table: LentTable, pairs: Vec<u8>, result: Vec<u8>, work: Vec<u8> },
 }
 
 /// What a call answers and leaves behind.
@@ -36,6 +39,7 @@ pub enum Outcome {
     Table(TableOutcome),
     Text(TextOutcome),
     Lookup(LookupOutcome),
+    Forecast(ForecastOutcome),
 }
 
 /// The outcome of a request.
@@ -52,6 +56,7 @@ pub fn outcome(request: &Request) -> Outcome {
         Request::Project { table, tapes, result } => Outcome::Table(calls::project(table, tapes, result)),
         Request::DropTapes { table, marked, result } => Outcome::Table(calls::drop_tapes(table, *marked, result)),
         Request::Lookup { table, tuple, work } => Outcome::Lookup(calls::lookup(table, tuple, work)),
+        Request::Forecast { table, pairs, result, work } => Outcome::Forecast(calls::forecast(table, pairs, result, work)),
     }
 }
 
@@ -298,6 +303,29 @@ fn lookup_request(random: &mut Random) -> Request {
     Request::Lookup { table: lent(random, &automaton), tuple, work }
 }
 
+/// Pairs as bytes, a tape above 255 as 255; sometimes with a byte alone behind them, which is no pair.
+fn bytes_of_pairs(random: &mut Random, pairs: &[(u64, u64)]) -> Vec<u8> {
+    let mut bytes: Vec<u8> = pairs.iter().flat_map(|&(first, second)| [first.min(255) as u8, second.min(255) as u8]).collect();
+    if random.chance(15) {
+        bytes.push(random.below(10) as u8);
+    }
+    bytes
+}
+
+/// A request for a forecast.
+pub fn forecast_request(random: &mut Random) -> Request {
+    let (automaton, mut pairs) = forecast_case(random);
+    match random.below(100) {
+        0..=2 => pairs.clear(),
+        3..=10 => pairs = bad_pairs(random, &pairs, automaton.tapes),
+        _ => {}
+    }
+    let length = near(random, FORECAST_BYTES * pairs.len());
+    let work = work_near(random, calls::forecast_work(automaton.states.len() as u64));
+    let pairs = bytes_of_pairs(random, &pairs);
+    Request::Forecast { table: lent(random, &automaton), pairs, result: filled(random, length), work }
+}
+
 /// One tape, all states initial, none or the first of them final, and so many loops and steps to the next state.
 fn wheel(states: usize, arcs: usize, ends: bool) -> Automaton {
     let arc = |number: usize| Arc {
@@ -360,7 +388,7 @@ pub fn request(random: &mut Random) -> Request {
     if random.chance(1) {
         return large_request(random);
     }
-    match random.below(20) {
+    match random.below(22) {
         0 => read_request(random),
         1 => write_request(random),
         2..=6 => intersect_request(random),
@@ -369,6 +397,7 @@ pub fn request(random: &mut Random) -> Request {
         14 => union_request(random),
         15 => project_request(random),
         16 => drop_request(random),
-        _ => lookup_request(random),
+        17..=19 => lookup_request(random),
+        _ => forecast_request(random),
     }
 }

@@ -9,7 +9,7 @@ use tomchoen_tests::memory::{encode, judge, LentTable, ARC_BYTES, STATE_BYTES};
 use tomchoen_tests::random::Random;
 use tomchoen_tests::refusal::Refusal;
 use tomchoen_tests::requests::{outcome, request, Outcome, Request};
-use tomchoen_tests::sample::{first_to_last, p, q, s, table};
+use tomchoen_tests::sample::{first_to_last, p, q, s, table, Row};
 use tomchoen_tests::text::write;
 
 /// Space of so many records and a few bytes more, filled with a mark.
@@ -300,6 +300,54 @@ fn order_of_a_lookup() {
 }
 
 #[test]
+fn order_of_a_forecast() {
+    let call = |table: &LentTable, pairs: &[u8], result: usize, bytes: usize| {
+        let outcome = calls::forecast(table, pairs, &work(result), &work(bytes));
+        assert_eq!(outcome.work, vec![0; bytes]);
+        let told = outcome.answer.map_or(0, |told| told as usize);
+        assert_eq!(outcome.result[told..], work(result)[told..]);
+        outcome.answer.map(|told| outcome.result[..told as usize].to_vec())
+    };
+    let table = encode(&p());
+    assert_eq!(call(&malformed(), &[9, 9], 0, 0), Err(Refusal::Form));
+    assert_eq!(call(&LentTable { states: 4, ..table.clone() }, &[9, 9], 0, 0), Err(Refusal::Short));
+    assert_eq!(call(&with_arc_byte(0, 3), &[9, 9], 0, 0), Err(Refusal::State));
+    assert_eq!(call(&table, &[1, 1, 2, 2, 3, 3, 1, 2, 1, 2, 1, 4], 0, 0), Err(Refusal::Tape));
+    assert_eq!(call(&table, &[1, 1, 0, 2], 0, 0), Err(Refusal::Tape));
+    assert_eq!(call(&table, &[1, 2, 2, 3], 0, 0), Err(Refusal::Pairs));
+    assert_eq!(call(&table, &[1, 1], 0, 0), Err(Refusal::Pairs));
+    assert_eq!(call(&table, &[1, 3], 6, 191), Err(Refusal::Space));
+    assert_eq!(call(&table, &[1, 3], 5, 192), Err(Refusal::Space));
+    assert_eq!(call(&table, &[1, 3], 6, 192), Ok(vec![1, 0, 2, 0, 39, 0]));
+    assert_eq!(call(&table, &[1, 2], 20, 999), Ok(vec![1, 0, 2, 0, 183, 0]));
+    // no pairs ask for work, too; a byte alone is no pair
+    assert_eq!(call(&table, &[], 0, 191), Err(Refusal::Space));
+    assert_eq!(call(&table, &[], 0, 192), Ok(Vec::new()));
+    assert_eq!(call(&table, &[9], 3, 192), Ok(Vec::new()));
+    assert_eq!(call(&table, &[1, 3, 1], 6, 192), Ok(vec![1, 0, 2, 0, 39, 0]));
+    assert_eq!(call(&encode(&Automaton::empty(2)), &[2, 1], 6, 0), Ok(vec![1, 0, 0, 0, 0, 0]));
+}
+
+#[test]
+fn forecasts_of_four_pairs() {
+    // 33 states in a row: on tapes 1 and 2 even, on 3 and 4 loops of both signs, on 5 and 6 one symbol, on 7 and 8 two
+    let mut rows: Vec<Row> =
+        (1..33).map(|state| (state - 1, state, 0, &["A", "B", "", "", "AAAAAAAA", "", "", "AAAAAAAB"][..])).collect();
+    rows.push((0, 0, 0, &["", "", "A", "", "", "", "", ""]));
+    rows.push((32, 32, 0, &["", "", "", "A", "", "", "", ""]));
+    let table = encode(&first_to_last(8, 33, &rows));
+    let outcome = calls::forecast(&table, &[3, 4, 8, 7, 5, 6, 2, 1], &work(26), &work(64 * 33));
+    assert_eq!(outcome.answer, Ok(24));
+    assert_eq!(outcome.result[..6], [3, 0, 0, 0, 0, 0]);
+    assert_eq!(outcome.result[6..12], [2, 0, 0, 1, 0, 0]);
+    assert_eq!(outcome.result[12..18], [1, 0, 0, 1, 0x21, 0x42]);
+    assert_eq!(outcome.result[18..24], [1, 0, 0, 0, 33, 0]);
+    assert_eq!(outcome.result[24..], [0xa5; 2]);
+    let five = calls::forecast(&table, &[3, 4, 8, 7, 5, 6, 2, 1, 1, 2], &work(30), &work(64 * 33));
+    assert_eq!((five.answer, five.result), (Err(Refusal::Pairs), work(30)));
+}
+
+#[test]
 fn damaged_tables_never_fail_and_good_ones_come_back() {
     for seed in 0..20_000 {
         let mut random = Random::new(seed);
@@ -323,7 +371,17 @@ fn lent_by(request: &Request) -> (ResultSpace, usize) {
         | Request::DropTapes { result, .. } => (result.clone(), 0),
         Request::Intersect { result, work, .. } | Request::Product { result, work, .. } => (result.clone(), work.len()),
         Request::Join { request, .. } => (request.result.clone(), request.work.len()),
-        Request::Write { .. } | Request::Lookup { .. } => panic!("no table is given"),
+        Request::Write { .. } | Request::Lookup { .. } | Request::Forecast { .. } => panic!("no table is given"),
+    }
+}
+
+/// Whether six bytes are a forecast: which of the three, a delay that a table can have, a number; zeros where it tells none.
+fn is_forecast_record(record: &[u8]) -> bool {
+    let [which, delay, number] = [0, 2, 4].map(|at| u16::from_le_bytes([record[at], record[at + 1]]));
+    match which {
+        1 => delay <= 8_184,
+        2 => delay <= 8_184 && number == 0,
+        _ => which == 3 && delay == 0 && number == 0,
     }
 }
 
@@ -349,6 +407,14 @@ fn random_requests_leave_every_byte_as_stated() {
             }
             (Outcome::Lookup(outcome), Request::Lookup { work, .. }) => {
                 assert_eq!(outcome.work, vec![0; work.len()]);
+                count(outcome.answer.err());
+            }
+            (Outcome::Forecast(outcome), Request::Forecast { pairs, result, work, .. }) => {
+                assert_eq!(outcome.work, vec![0; work.len()]);
+                let told = outcome.answer.map_or(0, |told| told as usize);
+                assert_eq!(outcome.result[told..], result[told..]);
+                assert!(outcome.answer.is_err() || told == 6 * (pairs.len() / 2));
+                assert!(outcome.result[..told].chunks(6).all(is_forecast_record));
                 count(outcome.answer.err());
             }
             _ => panic!("an outcome of another call"),

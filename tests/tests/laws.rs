@@ -1,10 +1,12 @@
 //! The second implementation against plain definitions on random tables: every path followed, rounds of relaxation, lists.
 
-use std::collections::BTreeMap;
+use std::collections::{BTreeMap, BTreeSet};
 use tomchoen_tests::accounts::{accounts, path_count, Account};
 use tomchoen_tests::automaton::{Arc, Automaton, Room, State};
 use tomchoen_tests::closing::{arc_delay, closing_delays, Closing};
 use tomchoen_tests::columns::{drop_tapes, project, union};
+use tomchoen_tests::forecast::{forecast, Forecast};
+use tomchoen_tests::forecast_cases::forecast_case;
 use tomchoen_tests::generate::{random_pairs, small_case, Case};
 use tomchoen_tests::intersect::intersect;
 use tomchoen_tests::join::join;
@@ -411,4 +413,201 @@ fn some_pairs_first() {
         let most = affordable(&case.automaton, 6);
         assert_eq!(accounts(&then, most), accounts(&at_once, most), "seed {seed}");
     }
+}
+
+/// Whether some successful path shares a state with each of two sets of states: a search over the last state of a path and which of
+/// the sets it has touched.
+fn touches(automaton: &Automaton, sets: [&[bool]; 2]) -> bool {
+    let after = |touched: [bool; 2], state: usize| [touched[0] || sets[0][state], touched[1] || sets[1][state]];
+    let starts = (0..automaton.states.len()).filter(|&state| automaton.states[state].initial.is_some());
+    let mut paths: Vec<(usize, [bool; 2])> = starts.map(|state| (state, after([false; 2], state))).collect();
+    let mut taken = 0;
+    while taken < paths.len() {
+        let (state, touched) = paths[taken];
+        if touched == [true; 2] && automaton.states[state].final_weight.is_some() {
+            return true;
+        }
+        for arc in automaton.arcs.iter().filter(|arc| arc.source == state) {
+            let next = (arc.target, after(touched, arc.target));
+            if !paths.contains(&next) {
+                paths.push(next);
+            }
+        }
+        taken += 1;
+    }
+    false
+}
+
+/// Whether some successful path has a state.
+fn on_successful_path(automaton: &Automaton, state: usize) -> bool {
+    let set: Vec<bool> = (0..automaton.states.len()).map(|other| other == state).collect();
+    touches(automaton, [&set, &set])
+}
+
+/// Whether some successful path has an arc: the arc is cut in two, and the state between asked for.
+fn arc_on_successful_path(automaton: &Automaton, number: usize) -> bool {
+    let mut cut = automaton.clone();
+    let between = cut.states.len();
+    cut.states.push(State::default());
+    cut.arcs.push(Arc { source: between, ..cut.arcs[number].clone() });
+    cut.arcs[number].target = between;
+    on_successful_path(&cut, between)
+}
+
+/// The cycles without a state twice, as their states and the sign of their delay: every run of arcs from its least state is followed
+/// until it comes back to a state. `None` where the runs are many.
+fn simple_cycles(automaton: &Automaton, pair: Pair) -> Option<BTreeSet<(Vec<bool>, i64)>> {
+    let mut cycles = BTreeSet::new();
+    let mut runs = 0;
+    for start in 0..automaton.states.len() {
+        let mut stack = vec![(start, vec![false; automaton.states.len()], 0)];
+        while let Some((state, mut passed, delay)) = stack.pop() {
+            runs += 1;
+            if runs > 20_000 {
+                return None;
+            }
+            passed[state] = true;
+            for arc in automaton.arcs.iter().filter(|arc| arc.source == state) {
+                let delay = delay + arc_delay(&arc.labels, pair);
+                if arc.target == start {
+                    cycles.insert((passed.clone(), delay.signum()));
+                } else if arc.target > start && !passed[arc.target] {
+                    stack.push((arc.target, passed.clone(), delay));
+                }
+            }
+        }
+    }
+    Some(cycles)
+}
+
+/// Mixed, word for word, with cycles that have no state twice; `None` where there are too many runs to follow.
+fn mixed_by_simple_cycles(automaton: &Automaton, pair: Pair) -> Option<bool> {
+    let cycles = simple_cycles(automaton, pair)?;
+    let of_sign = |sign: i64| cycles.iter().filter(move |cycle| cycle.1 == sign);
+    Some(of_sign(1).any(|one| of_sign(-1).any(|two| touches(automaton, [&one.0, &two.0]))))
+}
+
+/// The states on some closed run whose delay has a sign: from each state the greatest delays of runs of so many arcs that a cycle
+/// can make up for the way to it and back.
+fn on_closed_runs(automaton: &Automaton, pair: Pair, sign: i64) -> Vec<bool> {
+    let count = automaton.states.len();
+    let on_closed_run = |state: usize| {
+        let mut greatest: Vec<Option<i64>> = vec![None; count];
+        greatest[state] = Some(0);
+        (0..2 * count + 16 * count * count).any(|_| {
+            let mut longer = vec![None; count];
+            for arc in &automaton.arcs {
+                let delay = greatest[arc.source].map(|delay| delay + sign * arc_delay(&arc.labels, pair));
+                longer[arc.target] = longer[arc.target].max(delay);
+            }
+            greatest = longer;
+            greatest[state] > Some(0)
+        })
+    };
+    (0..count).map(on_closed_run).collect()
+}
+
+/// Mixed, word for word, with any closed runs for cycles: two such runs that a path touches may be taken to begin where it does.
+fn mixed_by_closed_runs(automaton: &Automaton, pair: Pair) -> bool {
+    let [rising, falling] = [1, -1].map(|sign| on_closed_runs(automaton, pair, sign));
+    touches(automaton, [&rising, &falling])
+}
+
+/// The delay and the number of states of a pair that is not mixed, word for word; `None` is "over".
+fn needs_word_for_word(automaton: &Automaton, pair: Pair) -> (u64, Option<u64>) {
+    let states = (0..automaton.states.len()).filter(|&state| on_successful_path(automaton, state)).count() as u64;
+    let arcs = (0..automaton.arcs.len()).filter(|&arc| arc_on_successful_path(automaton, arc));
+    let sizes = arcs.map(|arc| arc_delay(&automaton.arcs[arc].labels, pair).unsigned_abs());
+    let delay = if states == 0 { 0 } else { (states - 1) * sizes.max().unwrap_or(0) };
+    let on_tape = |symbol: u8, tape: usize| automaton.arcs.iter().any(|arc| arc.labels[tape - 1].contains(&symbol));
+    let symbols = (b'A'..=b'Z').chain(b'0'..=b'9').filter(|&symbol| on_tape(symbol, pair.0) || on_tape(symbol, pair.1)).count();
+    let mut leftovers = vec![1_u128];
+    for length in 1..=delay as u32 {
+        let words = (symbols as u128).checked_pow(length).filter(|&words| words <= 65_535);
+        leftovers.push(2 * words.unwrap_or(65_536));
+    }
+    let number = automaton.states.len() as u128 * leftovers.iter().sum::<u128>();
+    (delay, (number <= 65_535).then_some(number as u64))
+}
+
+/// A table and pairs for a forecast, of few states and arcs.
+fn small_forecast_case(random: &mut Random) -> (Automaton, Vec<Pair>) {
+    loop {
+        let (automaton, pairs) = forecast_case(random);
+        if automaton.states.len() <= 40 && automaton.arcs.len() <= 50 {
+            return (automaton, pairs.iter().map(|&(first, second)| (first as usize, second as usize)).collect());
+        }
+    }
+}
+
+#[test]
+fn a_forecast_word_for_word() {
+    let (mut mixed, mut over, mut long, mut passed_over) = (0, 0, 0, 0);
+    for seed in 0..6_000 {
+        let (automaton, pairs) = small_forecast_case(&mut Random::new(seed));
+        for pair in pairs {
+            let Some(is_mixed) = mixed_by_simple_cycles(&automaton, pair) else {
+                passed_over += 1;
+                continue;
+            };
+            let (delay, number) = needs_word_for_word(&automaton, pair);
+            let expected = if is_mixed { Forecast::Mixed } else { Forecast::Needs { delay, number } };
+            assert_eq!(forecast(&automaton, pair), expected, "seed {seed}");
+            mixed += usize::from(is_mixed);
+            over += usize::from(!is_mixed && number.is_none());
+            long += usize::from(!is_mixed && delay > 64);
+        }
+    }
+    println!("{mixed} mixed, {over} over, {long} above 64, {passed_over} passed over");
+    assert!(mixed > 1_000 && over > 1_000 && long > 100 && passed_over < 60, "{mixed}, {over}, {long}, {passed_over}");
+}
+
+#[test]
+fn any_closed_runs_for_cycles() {
+    let mut mixed = 0;
+    for seed in 0..6_000 {
+        let (automaton, pairs) = small_forecast_case(&mut Random::new(seed));
+        for pair in pairs.into_iter().filter(|_| automaton.states.len() <= 7) {
+            let expected = mixed_by_closed_runs(&automaton, pair);
+            assert_eq!(forecast(&automaton, pair) == Forecast::Mixed, expected, "seed {seed}");
+            mixed += usize::from(expected);
+        }
+    }
+    assert!(mixed > 500, "only {mixed} mixed");
+}
+
+#[test]
+fn forecasts_of_turned_pairs_and_reversed_tables() {
+    for seed in 0..4_000 {
+        let (automaton, pairs) = small_forecast_case(&mut Random::new(seed));
+        let mut reversed = automaton.clone();
+        for state in &mut reversed.states {
+            std::mem::swap(&mut state.initial, &mut state.final_weight);
+        }
+        for arc in &mut reversed.arcs {
+            std::mem::swap(&mut arc.source, &mut arc.target);
+        }
+        for pair in pairs {
+            assert_eq!(forecast(&automaton, (pair.1, pair.0)), forecast(&automaton, pair), "seed {seed}");
+            assert_eq!(forecast(&reversed, pair), forecast(&automaton, pair), "seed {seed}");
+        }
+    }
+}
+
+#[test]
+fn what_is_forecast_suffices_for_a_build() {
+    let mut built = 0;
+    for seed in 0..4_000 {
+        let (automaton, pairs) = small_forecast_case(&mut Random::new(seed));
+        for pair in pairs {
+            let Forecast::Needs { delay: limit @ 0..=64, number: Some(states @ 0..=1_024) } = forecast(&automaton, pair) else {
+                continue;
+            };
+            let arcs = states * automaton.arcs.len() as u64;
+            let kept = intersect(&automaton, &[pair], limit, Room { states, arcs });
+            assert!(kept.is_ok() || (kept == Err(Refusal::ArcsFull) && arcs > 8_192), "seed {seed}: {kept:?}");
+            built += 1;
+        }
+    }
+    assert!(built > 1_500, "only {built} tables built");
 }

@@ -1,15 +1,16 @@
-//! The worked cases of document 01 and its example of `agree`.
+//! The worked cases of document 01 and its example of `agree`; forecasts worked on paper.
 
 use tomchoen_tests::accounts::accounts;
 use tomchoen_tests::agree::agree;
-use tomchoen_tests::automaton::{Automaton, Room, MOST_WEIGHT};
+use tomchoen_tests::automaton::{Automaton, Room, State, MOST_WEIGHT};
 use tomchoen_tests::calls;
+use tomchoen_tests::forecast::{forecast, leftovers, Forecast};
 use tomchoen_tests::intersect::intersect;
 use tomchoen_tests::memory::encode;
 use tomchoen_tests::pairs::judge_intersect;
 use tomchoen_tests::product::product;
 use tomchoen_tests::refusal::Refusal;
-use tomchoen_tests::sample::{first_to_last, p, q, r, s, table, tuple};
+use tomchoen_tests::sample::{first_to_last, p, q, r, s, table, tuple, Row};
 use tomchoen_tests::text::{pair_line, read, write};
 
 /// Keeping with ample space.
@@ -137,4 +138,142 @@ fn r_on_lent_bytes() {
     assert_eq!(short.answer, Err(Refusal::Space));
     assert_eq!(short.result, space(129, 193));
     assert!(short.work.iter().all(|&byte| byte == 0));
+}
+
+/// A forecast of a delay and a number of states.
+fn needs(delay: u64, number: u64) -> Forecast {
+    Forecast::Needs { delay, number: Some(number) }
+}
+
+/// A forecast of a delay and "over".
+fn over(delay: u64) -> Forecast {
+    Forecast::Needs { delay, number: None }
+}
+
+/// A chain of so many states, each arc with these labels, and so many states more.
+fn chain(states: usize, labels: &[&str], more: usize) -> Automaton {
+    let rows: Vec<Row> = (1..states).map(|state| (state - 1, state, 0, labels)).collect();
+    let mut automaton = first_to_last(2, states, &rows);
+    automaton.states.extend(vec![State::default(); more]);
+    automaton
+}
+
+#[test]
+fn forecasts_of_the_worked_tables() {
+    // P: delays 1, 0, -1 on three states; A and B in use on tapes 1 and 3, X, Y and Z too on tape 2
+    assert_eq!(forecast(&p(), (1, 3)), needs(2, 3 * (1 + 2 * (2 + 4))));
+    assert_eq!(forecast(&p(), (3, 1)), needs(2, 39));
+    assert_eq!(forecast(&p(), (1, 2)), needs(2, 3 * (1 + 2 * (5 + 25))));
+    assert_eq!(forecast(&p(), (2, 3)), needs(2, 183));
+    assert_eq!(forecast(&q(), (1, 2)), needs(1, 2 * (1 + 2)));
+    assert_eq!(forecast(&q(), (2, 1)), needs(1, 6));
+    assert_eq!(forecast(&r(), (1, 2)), Forecast::Mixed);
+    assert_eq!(forecast(&r(), (2, 1)), Forecast::Mixed);
+    assert_eq!(forecast(&s(), (1, 2)), needs(0, 2));
+}
+
+#[test]
+fn bounds_on_leftovers() {
+    assert_eq!([leftovers(0, 0), leftovers(36, 0), leftovers(1, 1), leftovers(1, 64)], [1, 1, 3, 129]);
+    assert_eq!([leftovers(2, 3), leftovers(3, 2), leftovers(36, 2)], [29, 25, 2_665]);
+    assert_eq!([leftovers(2, 8_184), leftovers(36, 8_184)], [u64::MAX; 2]);
+}
+
+#[test]
+fn forecasts_of_one_state() {
+    let one = |rows: &[Row]| forecast(&first_to_last(2, 1, rows), (1, 2));
+    assert_eq!(one(&[]), needs(0, 1));
+    assert_eq!(one(&[(0, 0, 0, &["A", "B"])]), needs(0, 1));
+    assert_eq!(one(&[(0, 0, 0, &["A", ""])]), needs(0, 1));
+    assert_eq!(one(&[(0, 0, 0, &["", "A"]), (0, 0, 0, &["", "ABC"])]), needs(0, 1));
+    assert_eq!(one(&[(0, 0, 0, &["", "ABC"]), (0, 0, 0, &["A", ""])]), Forecast::Mixed);
+    assert_eq!(forecast(&table(2, &[(None, Some(0))], &[(0, 0, 0, &["A", ""]), (0, 0, 0, &["", "A"])]), (1, 2)), needs(0, 1));
+}
+
+#[test]
+fn forecasts_of_loops_in_a_row() {
+    let row = |first: &[&str], second: &[&str]| {
+        let rows: &[Row] = &[(0, 0, 0, first), (0, 1, 0, &["", ""]), (1, 1, 0, second)];
+        forecast(&first_to_last(2, 2, rows), (1, 2))
+    };
+    assert_eq!(row(&["A", ""], &["AA", ""]), needs(2, 2 * 5));
+    assert_eq!(row(&["", "AA"], &["", "A"]), needs(2, 10));
+    assert_eq!(row(&["A", "B"], &["", "A"]), needs(1, 2 * 5));
+    assert_eq!(row(&["A", ""], &["", "A"]), Forecast::Mixed);
+    assert_eq!(row(&["", "A"], &["A", ""]), Forecast::Mixed);
+}
+
+#[test]
+fn forecasts_of_rings() {
+    // both ways round are even; then one rises by one; then a ring that rises and one that falls share a state
+    let ring = |labels: [&[&str]; 4]| {
+        let rows: &[Row] =
+            &[(0, 1, 0, labels[0]), (1, 0, 0, labels[1]), (1, 2, 0, labels[2]), (2, 1, 0, labels[3]), (2, 3, 0, &["", ""])];
+        forecast(&first_to_last(2, 4, rows), (1, 2))
+    };
+    assert_eq!(ring([&["AA", ""], &["", "AA"], &["", "A"], &["A", ""]]), needs(6, 4 * 13));
+    assert_eq!(ring([&["AA", ""], &["", "A"], &["", "A"], &["A", ""]]), needs(6, 52));
+    assert_eq!(ring([&["AA", ""], &["", "A"], &["", "AA"], &["A", ""]]), Forecast::Mixed);
+    assert_eq!(ring([&["", ""], &["", "A"], &["A", ""], &["", ""]]), Forecast::Mixed);
+}
+
+#[test]
+fn cycles_of_both_signs_on_two_branches() {
+    let rows: &[Row] = &[
+        (0, 1, 0, &["", ""]),
+        (0, 2, 0, &["", ""]),
+        (1, 1, 0, &["A", ""]),
+        (2, 2, 0, &["", "A"]),
+        (1, 3, 0, &["", ""]),
+        (2, 3, 0, &["", ""]),
+        (3, 3, 0, &["A", "A"]),
+    ];
+    assert_eq!(forecast(&first_to_last(2, 4, rows), (1, 2)), needs(3, 4 * 7));
+    // a path from one branch to the other, and a way back from the last state to the first
+    assert_eq!(forecast(&first_to_last(2, 4, &[rows, &[(2, 1, 0, &["", ""])]].concat()), (1, 2)), Forecast::Mixed);
+    assert_eq!(forecast(&first_to_last(2, 4, &[rows, &[(3, 0, 0, &["", ""])]].concat()), (1, 2)), Forecast::Mixed);
+}
+
+#[test]
+fn cycles_of_both_signs_at_a_dead_end() {
+    // 0 to 1 is successful; 2 leads nowhere, 3 is not led to; their long labels do not count, their symbols do
+    let rows: &[Row] = &[
+        (0, 0, 0, &["A", ""]),
+        (0, 1, 0, &["AB", "B"]),
+        (1, 2, 0, &["", "CCCC"]),
+        (2, 2, 0, &["", "CCCC"]),
+        (3, 3, 0, &["", "D"]),
+        (3, 0, 0, &["", "DDDDDDDD"]),
+    ];
+    assert_eq!(forecast(&first_to_last(2, 2, &rows[..2]), (1, 2)), needs(1, 2 * 5));
+    let weights = [(Some(0), None), (None, Some(0)), (None, None), (None, None)];
+    assert_eq!(forecast(&table(2, &weights, rows), (1, 2)), needs(1, 4 * 9));
+    let mut led_to = weights;
+    led_to[2].1 = Some(0);
+    assert_eq!(forecast(&table(2, &led_to, rows), (1, 2)), Forecast::Mixed);
+    let mut leading = weights;
+    leading[3].0 = Some(0);
+    assert_eq!(forecast(&table(2, &leading, rows), (1, 2)), Forecast::Mixed);
+}
+
+#[test]
+fn forecasts_over_and_long() {
+    assert_eq!(forecast(&chain(65, &["A", ""], 0), (1, 2)), needs(64, 65 * 129));
+    assert_eq!(forecast(&chain(66, &["A", ""], 0), (1, 2)), needs(65, 66 * 131));
+    assert_eq!(forecast(&chain(17, &["", "AAAAAAAA"], 238), (1, 2)), needs(128, 65_535));
+    assert_eq!(forecast(&chain(17, &["", "AAAAAAAA"], 239), (1, 2)), over(128));
+    assert_eq!(forecast(&chain(2, &["AB", ""], 1_022), (1, 2)), needs(2, 1_024 * 13));
+    assert_eq!(forecast(&chain(10, &["A", "ABC"], 0), (1, 2)), over(18));
+    assert_eq!(forecast(&chain(1_024, &["AAAAAAAA", ""], 0), (1, 2)), over(8_184));
+    assert_eq!(forecast(&chain(1_024, &["ABCDEFGH", ""], 0), (1, 2)), over(8_184));
+    assert_eq!(forecast(&chain(1_024, &["ABCDEFGH", "ABCDEFGH"], 0), (1, 2)), needs(0, 1_024));
+}
+
+#[test]
+fn forecasts_without_states_or_pairs() {
+    assert_eq!(forecast(&Automaton::empty(2), (1, 2)), needs(0, 0));
+    let lone = table(2, &[(Some(0), None), (None, Some(0))], &[(1, 0, 0, &["A", ""])]);
+    assert_eq!(forecast(&lone, (1, 2)), needs(0, 2));
+    let none = calls::forecast(&encode(&r()), &[], &[7; 3], &[7; 128]);
+    assert_eq!((none.answer, none.result, none.work), (Ok(0), vec![7; 3], vec![0; 128]));
 }

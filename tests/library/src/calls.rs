@@ -1,6 +1,6 @@
 //! The calls of the static library, safe: vectors in, answers and vectors out.
 
-use tomchoen_tests::calls::{Counts, LookupOutcome, ResultSpace, TableOutcome, TextOutcome};
+use tomchoen_tests::calls::{Counts, ForecastOutcome, LookupOutcome, ResultSpace, TableOutcome, TextOutcome};
 use tomchoen_tests::memory::LentTable;
 use tomchoen_tests::refusal::Refusal;
 use tomchoen_tests::requests::{Outcome, Request};
@@ -44,6 +44,10 @@ extern "C" {
     fn tomchoen_lookup(
         tapes: usize, states: usize, arcs: usize, state_bytes: *const u8, s: usize, arc_bytes: *const u8, a: usize,
         tuple: *const u8, t: usize, work: *mut u8, w: usize,
+    ) -> u64;
+    fn tomchoen_forecast(
+        tapes: usize, states: usize, arcs: usize, state_bytes: *const u8, s: usize, arc_bytes: *const u8, a: usize,
+        pairs: *const u8, p: usize, result: *mut u8, r: usize, work: *mut u8, w: usize,
     ) -> u64;
 }
 
@@ -166,6 +170,13 @@ pub fn outcome(request: &Request) -> Outcome {
             let answer = table!(tomchoen_lookup(table, tuple.as_ptr(), tuple.len(), work.as_mut_ptr(), work.len()));
             let answer = if answer == 255 { Ok(None) } else { told(answer).map(Some) };
             Outcome::Lookup(LookupOutcome { answer, work })
+        }
+        Request::Forecast { table, pairs, result, work } => {
+            let (mut result, mut work) = (result.clone(), work.clone());
+            let answer = table!(tomchoen_forecast(
+                table, pairs.as_ptr(), pairs.len(), result.as_mut_ptr(), result.len(), work.as_mut_ptr(), work.len()
+            ));
+            Outcome::Forecast(ForecastOutcome { answer: told(answer), result, work })
         }
     }
 }

@@ -7,10 +7,11 @@
 //! Exit status: 0 without a difference, 1 with one, 2 where the comparison could not be made.
 
 
-use std::collections::BTreeMap;
+use std::collections::{BTreeMap, BTreeSet};
 use std::process::ExitCode;
 use std::{env, fs, io};
 use tomchoen_library_tests::{calls, laws};
+use tomchoen_tests::forecast::FORECAST_BYTES;
 use tomchoen_tests::random::Random;
 use tomchoen_tests::requests::{self, Outcome, Request};
 
@@ -44,6 +45,20 @@ fn options(mut words: impl Iterator<Item = String>) -> Result<Options, String> {
     Ok(options)
 }
 
+/// Which forecasts stand in the records, each kind once.
+fn forecasts(records: &[u8]) -> String {
+    let kinds: BTreeSet<&str> = records
+        .chunks(FORECAST_BYTES)
+        .map(|record| match record[0] {
+            1 => "number",
+            2 => "over",
+            3 => "mixed",
+            _ => "none of the three",
+        })
+        .collect();
+    if kinds.is_empty() { "no pairs".to_string() } else { kinds.into_iter().collect::<Vec<&str>>().join(", ") }
+}
+
 /// The name of the call, and what it answered.
 fn kind(request: &Request, outcome: &Outcome) -> String {
     let call = match request {
@@ -56,12 +71,17 @@ fn kind(request: &Request, outcome: &Outcome) -> String {
         Request::Project { .. } => "project",
         Request::DropTapes { .. } => "drop",
         Request::Lookup { .. } => "lookup",
+        Request::Forecast { .. } => "forecast",
     };
     let refusal = match outcome {
         Outcome::Table(made) => made.answer.err(),
         Outcome::Text(text) => text.answer.err(),
         Outcome::Lookup(found) => match found.answer {
             Ok(None) => return format!("{call}: none"),
+            answer => answer.err(),
+        },
+        Outcome::Forecast(told) => match told.answer {
+            Ok(bytes) => return format!("{call}: {}", forecasts(&told.result[..told.result.len().min(bytes as usize)])),
             answer => answer.err(),
         },
     };
