@@ -1,18 +1,26 @@
 -- The number with which a function for C answers determines the answer of its call.
-use mathlib.Core.Path.{_≡_, refl, _∙_, ap}
+use mathlib.Core.Path.{_≡_, refl, sym, _∙_, ap, ap₂}
 use mathlib.Core.Logic.{_⊎_, inl, inr}
-use mathlib.Core.Bool.{true}
+use mathlib.Core.Bool.{Bool, true}
 use mathlib.Core.Option.{Option, none, some}
-use mathlib.Core.List.{List}
-use Prim.Native.Nat.{ℕ, _+_, _*_, _≤_, _/_, _%_}
+use mathlib.Core.List.{List, [], _∷_, _++_, map, append-assoc}
+use Prim.Native.Nat.{ℕ, zero, suc, _+_, _*_, _≤_, _<_, _/_, _%_}
+use native.Mathlib.Nat.{add-zero}
 use native.Mathlib.Omega.{arith}
 use lib.Dec.{eqb}
+use lib.ListN.{length, getD, drop}
+use lib.Seq.{getD-drop, drop-drop}
 use borrow.Author.Tests.{eq-eqb, ne-eqb}
-use Rattle.automata.specs.Lists.{if}
-use Rattle.automata.specs.Answer.{Answer, ok, refused}
+use Rattle.automata.specs.Lists.{if, All}
+use Rattle.automata.specs.Answer.{_>>=_, Answer, ok, refused}
 use Rattle.automata.specs.Automaton.{Automaton}
 use Rattle.automata.specs.Table.{Counts}
-use Rattle.automata.specs.Calls.Outcome.{Slices, TableCounts, spaceOf, put, build, conclude}
+use Rattle.automata.specs.TapePair.{Pair}
+use Rattle.automata.specs.Memory.{Memory, tableOf}
+use Rattle.automata.specs.Forecast.{number, over, Forecast, mixed, needs}
+use Rattle.automata.specs.ForecastCall.{forecastOf}
+use Rattle.automata.specs.Calls.Outcome.{Slices, TableCounts, cleared, spaceOf, put, build, conclude, print}
+use Rattle.automata.specs.Calls.Work.{enough}
 use Rattle.automata.specs.Calls.Read.{readAnswer, readOutcome}
 use Rattle.automata.specs.Calls.Write.{writeOutcome}
 use Rattle.automata.specs.Calls.Intersect.{intersectAnswer, intersectOutcome}
@@ -22,12 +30,17 @@ use Rattle.automata.specs.Calls.Union.{unionAnswer, unionOutcome}
 use Rattle.automata.specs.Calls.Project.{projectAnswer, projectOutcome}
 use Rattle.automata.specs.Calls.Drop.{dropAnswer, dropOutcome}
 use Rattle.automata.specs.Calls.Lookup.{lookupOutcome}
+use Rattle.automata.specs.Calls.Forecast.{forecastAnswer, forecastSize, forecastRecord, forecastRecords, forecastRecorded}
+use Rattle.automata.proofs.WellFormedFacts.{well-formed}
+use Rattle.automata.proofs.SoundFacts.{sound-well-formed}
+use Rattle.automata.proofs.ForecastRanges.{Small, forecast-small}
+use Rattle.automata.proofs.ForecastCalls.{ToldOf, told-of, length-records}
 use Rattle.laws.specs.Storable.{Storable}
 use Rattle.laws.specs.ListedRefusals.{OfTable, Listed}
 use Rattle.laws.proofs.ListedRefusals.{listed-refusals}
 use Rattle.laws.proofs.Lemmas.CallTables.{read-fits, intersect-fits, product-fits, join-fits, union-fits, project-fits, drop-fits}
-use Rattle.c_words.specs.Words.{tableWord, bytesWord, weightWord}
-use Rattle.c_words.specs.WordParts.{lowByte, above, countsIn, tableTold, bytesTold, weightTold, WordsTell}
+use Rattle.c_words.specs.Words.{tableWord, bytesWord, weightWord, toldRecorded}
+use Rattle.c_words.specs.WordParts.{lowByte, above, countsIn, tableTold, bytesTold, weightTold, twoBytes, forecastIn, forecastsIn, forecastsTold, WordsTell}
 
 -- a test that passes, and one that fails
 passes : {A : Type 0} (m n : ℕ) (x y : A) → m ≡ n → if (eqb m n) x y ≡ x
@@ -104,6 +117,88 @@ weight-back (refused n) l =
     fails (lowByte n) 0 (ok (some (above n))) (if (eqb (lowByte n) 255) (ok none) (refused (lowByte n))) (λ e. absurd (omega arith))
     ∙ fails (lowByte n) 255 (ok none) (refused (lowByte n)) (λ e. absurd (omega arith)) ∙ ap refused small
 
+-- ---- the records of forecasts
+
+-- two bytes behind others
+two-shift : (at k : ℕ) (r : List ℕ) → twoBytes (at + k) r ≡ twoBytes k (drop at r)
+two-shift at k r =
+    let e : at + k + 1 ≡ at + (k + 1) = omega arith in
+    ap₂ (λ (x y : ℕ). x + 256 * y) (sym (getD-drop at r k 0)) (ap (λ (i : ℕ). getD r i 0) e ∙ sym (getD-drop at r (k + 1) 0))
+
+-- a record behind others
+record-shift : (at : ℕ) (r : List ℕ) → forecastIn at r ≡ forecastIn 0 (drop at r)
+unfolding forecastIn
+record-shift at r =
+    let e : twoBytes at r ≡ twoBytes 0 (drop at r) = ap (λ (i : ℕ). twoBytes i r) (sym (add-zero at)) ∙ two-shift at 0 r in
+    rw (e, two-shift at 2 r, two-shift at 4 r)
+
+records-shift : (n at : ℕ) (r : List ℕ) → forecastsIn at n r ≡ forecastsIn 0 n (drop at r)
+unfolding forecastsIn
+records-shift zero at r = refl
+records-shift (suc n) at r =
+    let e : forecastsIn (at + forecastSize) n r ≡ forecastsIn forecastSize n (drop at r)
+    = records-shift n (at + forecastSize) r ∙ ap (forecastsIn 0 n) (sym (drop-drop forecastSize at r)) ∙ sym (records-shift n forecastSize (drop at r)) in
+    ap₂ (λ (f : Forecast) (fs : List Forecast). f ∷ fs) (record-shift at r) e
+
+-- a number of two bytes
+two-back : (n : ℕ) → n < 65536 → n % 256 + 256 * (n / 256 % 256) ≡ n
+two-back n h = omega arith
+
+-- the forecast of a record
+record-back : (f : Forecast) (rest : List ℕ) → Small f → forecastIn 0 (forecastRecord f ++ rest) ≡ f
+unfolding forecastIn
+record-back (needs d (number n)) rest (a, b) = ap₂ (λ (x y : ℕ). needs x (number y)) (two-back d a) (two-back n b)
+record-back (needs d over) rest a = ap (λ (x : ℕ). needs x over) (two-back d a)
+record-back mixed rest s = refl
+
+-- the forecasts of several
+records-back : (fs : List Forecast) (rest : List ℕ) → All Small fs → forecastsIn 0 (length fs) (forecastRecords fs ++ rest) ≡ fs
+unfolding forecastsIn
+records-back [] rest h = refl
+records-back (f ∷ fs) rest h =
+    ap₂ (λ (g : Forecast) (gs : List Forecast). g ∷ gs)
+    (ap (forecastIn 0) (append-assoc (forecastRecord f) (forecastRecords fs) rest) ∙ record-back f (forecastRecords fs ++ rest) (h .0))
+    (records-shift (length fs) forecastSize ((forecastRecord f ++ forecastRecords fs) ++ rest) ∙ ap (forecastsIn 0 (length fs)) (behind f) ∙ records-back fs rest (h .1))
+  where
+    behind : (g : Forecast) → drop forecastSize ((forecastRecord g ++ forecastRecords fs) ++ rest) ≡ forecastRecords fs ++ rest
+    behind (needs d (number n)) = refl
+    behind (needs d over) = refl
+    behind mixed = refl
+
+-- forecasts that were told are small
+told-small : (m : Memory) (ps : List Pair) (room : Bool) (fs : List Forecast) → ToldOf m ps room fs → All Small fs
+unfolding forecastOf
+told-small m ps room fs t = rw (t .are) (go ps)
+  where
+    go : (qs : List Pair) → All Small (map (forecastOf (tableOf m)) qs)
+    go [] = tt
+    go (q ∷ qs) = (forecast-small (tableOf m) (well-formed (tableOf m) (sound-well-formed m (t .judged))) _, go qs)
+
+forecasts-back : (m : Memory) (ps : List Pair) (result work : List ℕ)
+    → forecastsTold (toldRecorded (forecastRecorded m ps result work)) ≡ forecastAnswer m ps (enough (forecastSize * length ps) result) work
+unfolding forecastsTold forecastRecorded print
+forecasts-back m ps result work = go (forecastAnswer m ps room work) refl
+  where
+    room : Bool
+    room = enough (forecastSize * length ps) result
+
+    recorded-refused : (n : ℕ) → forecastAnswer m ps room work ≡ refused n → print (forecastAnswer m ps room work >>= λ fs. ok (forecastRecords fs)) result .answer ≡ refused n
+    recorded-refused n e = ap (λ (a : Answer (List Forecast)). print (a >>= λ fs. ok (forecastRecords fs)) result .answer) e
+
+    go : (a : Answer (List Forecast)) → forecastAnswer m ps room work ≡ a
+        → forecastsTold (toldRecorded (record { written = print (a >>= λ fs. ok (forecastRecords fs)) result; work = cleared work })) ≡ a
+    go (ok fs) e =
+        let k = length (forecastRecords fs) in
+        let low : 256 * k % 256 ≡ 0 = omega arith in
+        let count : 256 * k / 256 / forecastSize ≡ length fs = omega (arith, length-records fs) in
+        passes (lowByte (256 * k)) 0 _ _ low
+        ∙ ap (λ (n : ℕ). ok (forecastsIn 0 n (forecastRecords fs ++ drop k result))) count
+        ∙ ap ok (records-back fs (drop k result) (told-small m ps room fs (told-of m ps room work fs e)))
+    go (refused n) e =
+        let (a, b) = listed-refusals .forecastRecorded m ps result work n (recorded-refused n e) in
+        let small : n % 256 ≡ n = omega arith in
+        fails (lowByte n) 0 _ _ (λ e. absurd (omega arith)) ∙ ap refused small
+
 -- ---- the calls
 
 -- an answer put into slices
@@ -132,5 +227,6 @@ words-tell = record {
   union = λ a b s. put-back (unionAnswer a b (spaceOf s)) s (union-fits a b (spaceOf s)) (listed-refusals .union a b s);
   project = λ m js s. put-back (projectAnswer m js (spaceOf s)) s (project-fits m js (spaceOf s)) (listed-refusals .project m js s);
   drop = λ m mask s. put-back (dropAnswer m mask (spaceOf s)) s (drop-fits m mask (spaceOf s)) (listed-refusals .dropTapes m mask s);
+  forecast = forecasts-back;
   lookup = λ m text work. weight-back (lookupOutcome m text work .answer) (listed-refusals .lookup m text work);
 }

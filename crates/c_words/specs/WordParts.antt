@@ -1,9 +1,10 @@
 -- What a caller in C takes from the number that a function answers with, by the macros of include/tomchoen.h.
 use mathlib.Core.Path.{_≡_}
 use mathlib.Core.Option.{Option, none, some}
-use mathlib.Core.List.{List}
-use Prim.Native.Nat.{ℕ, _/_, _%_}
+use mathlib.Core.List.{List, [], _∷_}
+use Prim.Native.Nat.{ℕ, zero, suc, _+_, _*_, _/_, _%_}
 use lib.Dec.{eqb}
+use lib.ListN.{length, getD}
 use Rattle.automata.specs.Lists.{if}
 use Rattle.automata.specs.Answer.{Answer, ok, refused}
 use Rattle.automata.specs.TapePair.{Pair}
@@ -18,7 +19,10 @@ use Rattle.automata.specs.Calls.Union.{unionOutcome}
 use Rattle.automata.specs.Calls.Project.{projectOutcome}
 use Rattle.automata.specs.Calls.Drop.{dropOutcome}
 use Rattle.automata.specs.Calls.Lookup.{lookupOutcome}
-use Rattle.c_words.specs.Words.{toldMade, toldBuilt, toldJoined, toldWritten, toldFound}
+use Rattle.automata.specs.Calls.Work.{enough}
+use Rattle.automata.specs.Calls.Forecast.{toldOver, toldMixed, forecastSize, forecastAnswer, forecastRecorded}
+use Rattle.automata.specs.Forecast.{number, over, Forecast, mixed, needs}
+use Rattle.c_words.specs.Words.{ToldRecorded, toldMade, toldBuilt, toldJoined, toldWritten, toldFound, toldRecorded}
 
 -- ---- the parts of a number
 
@@ -48,8 +52,29 @@ bytesTold w = if (eqb (lowByte w) 0) (ok (above w)) (refused (lowByte w))
 unfoldable pub weightTold : ℕ → Answer (Option ℕ)
 weightTold w = if (eqb (lowByte w) 0) (ok (some (above w))) (if (eqb (lowByte w) 255) (ok none) (refused (lowByte w)))
 
+-- TOMCHOEN_FORECAST, TOMCHOEN_DELAY_OF and TOMCHOEN_NUMBER_OF: the number in the two bytes at a place
+abbrev pub twoBytes : ℕ → List ℕ → ℕ
+twoBytes at result = getD result at 0 + 256 * getD result (at + 1) 0
+
+-- the forecast in the record at a place
+unfoldable pub forecastIn : ℕ → List ℕ → Forecast
+forecastIn at result =
+    if (eqb (twoBytes at result) toldMixed) mixed
+    (needs (twoBytes (at + 2) result) (if (eqb (twoBytes at result) toldOver) over (number (twoBytes (at + 4) result))))
+
+-- those of so many records from a place on
+unfoldable pub forecastsIn : ℕ → ℕ → List ℕ → List Forecast
+forecastsIn at zero result = []
+forecastsIn at (suc n) result = forecastIn at result ∷ forecastsIn (at + forecastSize) n result
+
+-- of `forecast`: the forecasts in as many records as there are bytes for
+unfoldable pub forecastsTold : ToldRecorded → Answer (List Forecast)
+forecastsTold o =
+    let w = o .written .word in
+    if (eqb (lowByte w) 0) (ok (forecastsIn 0 (above w / forecastSize) (o .written .output))) (refused (lowByte w))
+
 -- The number with which a function of `tomchoen_*` answers, as its contract gives it, tells the answer of its call: the
--- counts, the number of bytes, the weight, none, or the refusal. One field for each of the nine.
+-- counts, the number of bytes, the weight, none, or the refusal; with the result space of a forecast, its forecasts. One field for each of the ten.
 pub record WordsTell : Type 0 where
   pub read : (text : List ℕ) (s : Slices) → tableTold (toldMade (readOutcome text s) .word) ≡ readOutcome text s .answer
   pub write : (m : Memory) (output : List ℕ) → bytesTold (toldWritten (writeOutcome m output) .word) ≡ writeOutcome m output .answer
@@ -63,3 +88,5 @@ pub record WordsTell : Type 0 where
   pub project : (m : Memory) (js : List ℕ) (s : Slices) → tableTold (toldMade (projectOutcome m js s) .word) ≡ projectOutcome m js s .answer
   pub drop : (m : Memory) (mask : ℕ) (s : Slices) → tableTold (toldMade (dropOutcome m mask s) .word) ≡ dropOutcome m mask s .answer
   pub lookup : (m : Memory) (text work : List ℕ) → weightTold (toldFound (lookupOutcome m text work) .word) ≡ lookupOutcome m text work .answer
+  pub forecast : (m : Memory) (ps : List Pair) (result work : List ℕ)
+      → forecastsTold (toldRecorded (forecastRecorded m ps result work)) ≡ forecastAnswer m ps (enough (forecastSize * length ps) result) work

@@ -4,6 +4,7 @@ use mathlib.Core.Option.{Option, none, some}
 use mathlib.Core.List.{List}
 use Prim.Native.Nat.{ℕ, _+_, _*_, _≤_, _<_}
 use Rattle.automata.specs.Answer.{Answer, ok, refused}
+use Rattle.automata.specs.Calls.Forecast.{Recorded}
 use Rattle.automata.specs.Calls.Outcome.{Slices, TableCounts, Made, Built, Joined, Written, Found, slicesOf}
 
 -- ---- the numbers
@@ -110,3 +111,16 @@ tellsFound word work = record { word = word; work = work }
 -- of an outcome
 abbrev pub toldFound : Found → ToldFound
 toldFound o = record { word = weightWord (o .answer); work = o .work }
+
+-- a number for the answer of a forecast, the result space and work space
+pub record ToldRecorded : Type 0 where
+  pub written : ToldWritten
+  pub work : List ℕ
+
+-- the same by its parts
+abbrev pub tellsRecorded : ℕ → List ℕ → List ℕ → ToldRecorded
+tellsRecorded word result work = record { written = tellsWritten word result; work = work }
+
+-- of an outcome
+abbrev pub toldRecorded : Recorded → ToldRecorded
+toldRecorded o = record { written = toldWritten (o .written); work = o .work }

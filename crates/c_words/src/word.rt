@@ -1,6 +1,9 @@
 // An answer as one number, for callers in C: in the low byte 0 or the number of the refusal, above it what is told.
+use forecast_records::ForecastAnswer;
+use forecast_records::RECORD;
 use lookup::call::WeightAnswer;
 use memory::answer::Counts;
+use memory::answer::Judged;
 use memory::answer::TableAnswer;
 use memory::answer::refusal_number;
 use text::WriteAnswer;
@@ -9,6 +12,8 @@ ghost use Prim.Native.Nat.{_+_, _*_, _≤_, _<_};
 ghost use Rattle.memory.specs.Answers.{tableAs};
 ghost use Rattle.text.specs.Answers.{writtenAs};
 ghost use Rattle.lookup.specs.Answers.{weightAs};
+ghost use Rattle.automata.specs.Calls.Forecast.{recordBytes};
+ghost use Rattle.forecast_records.specs.Values.{answerAs};
 ghost use Rattle.c_words.specs.Words.{tableWord, bytesWord, weightWord, CountsFit, BytesFit, WeightFits};
 
 // The counts of a table: tapes from bit 8 on, states from bit 16 on, arcs from bit 32 on.
@@ -58,5 +63,18 @@ pub fn weight_word(answer: WeightAnswer) -> u64
         WeightAnswer::Weight(w) => shifted(w),
         WeightAnswer::Nothing => 255,
         WeightAnswer::Refused(why) => refusal_number(why) as u64,
+    }
+}
+
+// The number of bytes of the records of forecasts, from bit 8 on, or the refusal's number.
+pub fn forecast_word(answer: ForecastAnswer) -> u64
+    requires { ⌜ answer .told .used ≤ 4 ⌝ }
+    ensures { λ r. ⌜ r ≡ bytesWord (recordBytes (answerAs answer)) ⌝ }
+{
+    let judged = answer.judged;
+    let list = answer.told;
+    match judged {
+        Judged::Fine => shifted((RECORD * list.used) as u64),
+        Judged::Refused(why) => refusal_number(why) as u64,
     }
 }

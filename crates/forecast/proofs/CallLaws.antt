@@ -5,7 +5,7 @@ use mathlib.Core.Bool.{Bool, true, false}
 use mathlib.Core.List.{List, map}
 use native.Mathlib.Omega.{arith}
 use lib.Dec.{leb, leb→le}
-use lib.ListN.{length, take, replicate, length-map, length-take}
+use lib.ListN.{length, replicate}
 use borrow.Author.Tests.{le-leb, lt-leb, leb-true, leb-false}
 use Rattle.automata.specs.Refusal as refusal
 use Rattle.automata.specs.Lists.{and}
@@ -17,7 +17,7 @@ use Rattle.automata.specs.Forecast.{Forecast}
 use Rattle.automata.specs.ForecastCall.{forecastOf, forecastCall}
 use Rattle.automata.specs.Calls.Outcome.{cleared, overwrite, print}
 use Rattle.automata.specs.Calls.Work.{forecastWork, enough}
-use Rattle.automata.specs.Calls.Forecast.{forecastSize, forecastRecords, forecastAnswer, foretoldOf, Foretold, forecastRecorded}
+use Rattle.automata.specs.Calls.Forecast.{forecastSize, forecastRecords, forecastAnswer, foretoldOf, Foretold, recordBytes, recordedOf, forecastRecorded}
 use Rattle.automata.proofs.TestFacts.{and-true}
 use Rattle.automata.proofs.AnswerFacts.{bind-ok}
 use Rattle.automata.proofs.ForecastCalls.{told-of, told-count}
@@ -37,8 +37,9 @@ use Rattle.pairs.proofs.CallLaws.{forecast-then}
 use Rattle.pairs.proofs.TurnLaws.{turn-then, judged-fine, require-true}
 use Rattle.forecast_records.specs.declared.ForecastList.{ForecastList}
 use Rattle.forecast_records.specs.declared.ForecastAnswer.{ForecastAnswer}
-use Rattle.forecast_records.specs.Values.{noForecasts, forecastAs, forecastsAs, answerAs}
-use Rattle.forecast.specs.Outcome.{Recordable, recorded, recordedBy}
+use Rattle.forecast_records.specs.Values.{noForecasts, forecastsAs, answerAs}
+use Rattle.forecast_records.proofs.RecordLaws.{used-count}
+use Rattle.forecast.specs.Outcome.{Recordable, recorded}
 
 -- ---- the space
 
@@ -138,7 +139,7 @@ call-cleared a b w u v e f g = ap₂ foretoldOf e (g ∙ ap (λ (n : ℕ). repli
 pub records-fit : (a : ForecastAnswer) (n : ℕ) → a .judged ≡ Fine → length (a .told .forecasts) ≡ 4 → a .told .used ≤ 4 → Recordable (answerAs a) n → forecastSize * a .told .used ≤ n
 records-fit a n fine four few r =
     let q : forecastSize * length (forecastsAs (a .told)) ≤ n = rw fine at r in
-    omega (arith, q, length-map (take (a .told .used) (a .told .forecasts)) forecastAs, length-take (a .told .used) (a .told .forecasts), four)
+    omega (arith, q, used-count (a .told) four few)
 
 -- and are what the answer leaves
 pub records-put : (a : ForecastAnswer) (w v : List ℕ) → a .judged ≡ Fine → w ≡ overwrite (forecastRecords (forecastsAs (a .told))) v → w ≡ recorded (answerAs a) v
@@ -166,13 +167,13 @@ answer-recordable m ps room w result (ok fs) e f =
 
 -- an answer and what it leaves are the outcome
 pub call-recorded : (m : Memory) (ps : List Pair) (room : Bool) (w u result out : List ℕ) (a : Answer (List Forecast)) → room ≡ enough (forecastSize * length ps) result
-    → foretoldOf a u ≡ foretoldOf (forecastAnswer m ps room w) (cleared w) → out ≡ recorded a result → recordedBy a out u ≡ forecastRecorded m ps result w
+    → foretoldOf a u ≡ foretoldOf (forecastAnswer m ps room w) (cleared w) → out ≡ recorded a result → recordedOf (recordBytes a) out u ≡ forecastRecorded m ps result w
 unfolding forecastRecorded print
 call-recorded m ps room w u result out a f e g =
     let x : a ≡ forecastAnswer m ps (enough (forecastSize * length ps) result) w
     = ap (λ (o : Foretold). o .answer) e ∙ ap (λ (b : Bool). forecastAnswer m ps b w) f in
-    ap₂ (recordedBy a) g (ap (λ (o : Foretold). o .work) e) ∙ go a ∙ ap (λ (b : Answer (List Forecast)). record { written = print (b >>= λ fs. ok (forecastRecords fs)) result; work = cleared w }) x
+    ap₂ (recordedOf (recordBytes a)) g (ap (λ (o : Foretold). o .work) e) ∙ go a ∙ ap (λ (b : Answer (List Forecast)). record { written = print (b >>= λ fs. ok (forecastRecords fs)) result; work = cleared w }) x
   where
-    go : (b : Answer (List Forecast)) → recordedBy b (recorded b result) (cleared w) ≡ record { written = print (b >>= λ fs. ok (forecastRecords fs)) result; work = cleared w }
+    go : (b : Answer (List Forecast)) → recordedOf (recordBytes b) (recorded b result) (cleared w) ≡ record { written = print (b >>= λ fs. ok (forecastRecords fs)) result; work = cleared w }
     go (ok fs) = refl
     go (refused n) = refl

@@ -2,10 +2,10 @@
 use mathlib.Core.List.{List}
 use Prim.Native.Nat.{ℕ, _*_, _≤_}
 use lib.ListN.{length}
-use Rattle.automata.specs.Answer.{_>>=_, Answer, ok, refused}
+use Rattle.automata.specs.Answer.{Answer, ok, refused}
 use Rattle.automata.specs.Forecast.{Forecast}
 use Rattle.automata.specs.Calls.Outcome.{overwrite}
-use Rattle.automata.specs.Calls.Forecast.{forecastSize, forecastRecords, Recorded}
+use Rattle.automata.specs.Calls.Forecast.{forecastSize, forecastRecords}
 
 -- the records of the forecasts fit so many bytes
 abbrev pub Recordable : Answer (List Forecast) → ℕ → Type 0
@@ -16,10 +16,3 @@ Recordable (refused n) size = Unit {0}
 abbrev pub recorded : Answer (List Forecast) → List ℕ → List ℕ
 recorded (ok fs) result = overwrite (forecastRecords fs) result
 recorded (refused n) result = result
-
--- an answer with the bytes of its records told, the result space and the work space
-abbrev pub recordedBy : Answer (List Forecast) → List ℕ → List ℕ → Recorded
-recordedBy answer result work = record {
-  written = record { answer = answer >>= λ fs. ok (length (forecastRecords fs)); output = result };
-  work = work;
-}

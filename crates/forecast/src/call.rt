@@ -22,13 +22,13 @@ ghost use Rattle.automata.specs.Memory.{decodeTable};
 ghost use Rattle.automata.specs.TapePair.{Pair};
 ghost use Rattle.automata.specs.Calls.Outcome.{cleared};
 ghost use Rattle.automata.specs.Calls.Work.{forecastWork};
-ghost use Rattle.automata.specs.Calls.Forecast.{forecastSize, forecastAnswer, forecastRecorded, foretoldOf};
+ghost use Rattle.automata.specs.Calls.Forecast.{forecastSize, forecastAnswer, forecastRecorded, foretoldOf, recordBytes, recordedOf};
 ghost use Rattle.memory.specs.Answers.{judgedAs, lent};
 ghost use Rattle.pairs.specs.PairBytes.{pairsOf};
 ghost use Rattle.pairs.specs.PairTests.{inTurn};
 ghost use Rattle.pairs.specs.Judgement.{KeepJudged, Listed};
 ghost use Rattle.forecast_records.specs.Values.{answerAs};
-ghost use Rattle.forecast.specs.Outcome.{recordedBy, Recordable, recorded};
+ghost use Rattle.forecast.specs.Outcome.{Recordable, recorded};
 
 // The bytes of work space that a forecast needs for each state.
 const STATE_WORK: usize = 64;
@@ -122,7 +122,7 @@ pub fn forecast_into(
     result: &mut [u8],
     work: &mut [u8],
 ) -> ForecastAnswer
-    ensures { λ r. ⌜ recordedBy (answerAs r) (now (result .exit)) (now (work .exit)) ≡ forecastRecorded (lent counts (now (states .entry)) (now (arcs .entry))) (pairsOf (now (pairs .entry))) (now (result .entry)) (now (work .entry)) ⌝ }
+    ensures { λ r. ⌜ (r .told .used ≤ 4) × (recordedOf (recordBytes (answerAs r)) (now (result .exit)) (now (work .exit)) ≡ forecastRecorded (lent counts (now (states .entry)) (now (arcs .entry))) (pairsOf (now (pairs .entry))) (now (result .entry)) (now (work .entry))) ⌝ }
 {
     let listed = judge_pairs(pairs, counts.tapes, 0);
     let room = pairs.len() / 2 <= result.len() / RECORD;

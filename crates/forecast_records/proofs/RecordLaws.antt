@@ -7,16 +7,20 @@ use native.Mathlib.Omega.{arith}
 use lib.ListN.{length, getD, take, length-take, length-map}
 use lib.Seq.{take-suc}
 use Rattle.automata.specs.Lists.{concat}
-use Rattle.automata.specs.Calls.Forecast.{forecastSize, forecastParts, forecastRecord, forecastRecords}
+use Rattle.automata.specs.Answer.{ok}
+use Rattle.automata.specs.Calls.Forecast.{forecastSize, forecastParts, forecastRecord, forecastRecords, recordBytes}
 use Rattle.automata.specs.Calls.Outcome.{overwrite}
 use Rattle.automata.proofs.ListFacts.{map-append}
 use Rattle.automata.proofs.AppendFacts.{concat-append}
 use Rattle.automata.proofs.ForecastCalls.{length-record, length-records}
+use Rattle.memory.specs.declared.answer.Judged.the-variants.{Fine}
 use Rattle.memory.specs.Region.{splice}
 use Rattle.memory.specs.Endian.{toLe}
 use Rattle.memory.proofs.Laws.{splice-append, splice-front, splice-none}
 use Rattle.forecast_records.specs.declared.Forecast.{Forecast}
-use Rattle.forecast_records.specs.Values.{forecastAs}
+use Rattle.forecast_records.specs.declared.ForecastList.{ForecastList}
+use Rattle.forecast_records.specs.declared.ForecastAnswer.{ForecastAnswer}
+use Rattle.forecast_records.specs.Values.{forecastAs, forecastsAs, answerAs}
 
 -- ---- one record
 
@@ -40,6 +44,14 @@ pub record-number : (at : ℕ) (f : Forecast) (w v : List ℕ) → f .mixed ≡ 
 record-number at f w v e h g = rw (e, h) g
 
 -- ---- several
+
+-- the forecasts that are used, of four
+pub used-count : (l : ForecastList) → length (l .forecasts) ≡ 4 → l .used ≤ 4 → length (forecastsAs l) ≡ l .used
+used-count l four few = omega (arith, length-map (take (l .used) (l .forecasts)) forecastAs, length-take (l .used) (l .forecasts), four)
+
+-- the bytes of the records of an answer without a refusal
+pub bytes-told : (a : ForecastAnswer) → a .judged ≡ Fine → length (a .told .forecasts) ≡ 4 → a .told .used ≤ 4 → recordBytes (answerAs a) ≡ ok (forecastSize * a .told .used)
+bytes-told a fine four few = rw fine (ap ok (length-records (forecastsAs (a .told)) ∙ ap (λ (n : ℕ). forecastSize * n) (used-count (a .told) four few)))
 
 -- a record behind others
 module _ (fs : List Forecast) (h : ℕ) (d : Forecast) (lt : h < length fs) where

@@ -65,10 +65,18 @@ forecastRecord mixed = forecastParts toldMixed 0 0
 abbrev pub forecastRecords : List Forecast → List ℕ
 forecastRecords fs = concat (map forecastRecord fs)
 
+-- their number of bytes, or the refusal
+abbrev pub recordBytes : Answer (List Forecast) → Answer ℕ
+recordBytes a = a >>= λ fs. ok (length (forecastRecords fs))
+
 -- the number of bytes written or a refusal, the result space, and the work space
 pub record Recorded : Type 0 where
   pub written : Written
   pub work : List ℕ
+
+-- the same by its parts, as a contract names them
+abbrev pub recordedOf : Answer ℕ → List ℕ → List ℕ → Recorded
+recordedOf answer result work = record { written = record { answer = answer; output = result }; work = work }
 
 -- The whole outcome: 13 also where the result space is shorter than the records of all pairs; "a refusal returns only its number", the result
 -- space past the records keeps its bytes.

@@ -37,7 +37,7 @@ returns c =
     let s = c .before .before .before .before .before .before .before .before .before .before .before .before .before .before in
     let j = c .before .before .before .before .before .before .before .before .judge-pairs in
     let f = c .before .before .before .before .before .before .forecast-judged in
-    call-recorded _ (pairsOf (now (s .args .pairs))) _ (now (s .args .work)) _ (now (s .args .result)) _ _ (room-is (now (s .args .pairs)) (now (s .args .result))) (f .ensures .1 _ (j .ensures)) (c .before .before .record-answer .ensures)
+    (f .ensures .0, call-recorded _ (pairsOf (now (s .args .pairs))) _ (now (s .args .work)) _ (now (s .args .result)) _ _ (room-is (now (s .args .pairs)) (now (s .args .result))) (f .ensures .1 _ (j .ensures)) (c .before .before .record-answer .ensures))
 
 pub forecast-into-spec : {M : Type 1} → statement M
 forecast-into-spec =
