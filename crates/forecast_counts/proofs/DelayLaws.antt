@@ -1,0 +1,108 @@
+-- The greatest size of an arc's delay on successful paths, and the sum of powers.
+use Prim.Native.Nat.{ℕ, zero, suc, _+_, _-_, _*_, _<_, _≤_, max}
+use mathlib.Core.Path.{_≡_, refl, sym, ap, ap₂, _∙_}
+use mathlib.Core.Bool.{Bool, true, false, not}
+use mathlib.Core.List.{List, [], _∷_}
+use native.Mathlib.Omega.{arith}
+use native.Mathlib.Nat.{mul-le-mul}
+use native.Mathlib.Numerals.{add-one}
+use borrow.Author.Tests.{lt-ltb, le-ltb}
+use lib.Dec.{ltb}
+use lib.ListN.{length, getD}
+use Rattle.automata.specs.Lists.{if, and}
+use Rattle.automata.specs.Forecast.{cappedSum}
+use Rattle.relaxation.specs.declared.Edge.{Edge}
+use Rattle.relaxation.specs.Edges.{edgeAt, edges}
+use Rattle.forecast_counts.specs.Counts.{onPathAt, marksFrom, delaySize, raised, greatestOf, cut}
+use Rattle.forecast_counts.proofs.PathLaws.{mark-of}
+
+-- ---- one arc
+
+not-true : (b : Bool) → not b ≡ true → b ≡ false
+not-true false e = refl
+not-true true e = sym e
+
+not-false : (b : Bool) → not b ≡ false → b ≡ true
+not-false true e = refl
+not-false false e = sym e
+
+module _ (size best : ℕ) where
+  -- it is not greater
+  pub raised-small : (on : Bool) (d : ℕ) → size ≡ d → size ≤ best → best ≡ raised on d best
+  raised-small true d e l = omega arith
+  raised-small false d e l = refl
+
+  -- its source, or its target, is not on a successful path
+  pub raised-source : (a x y : Bool) → a ≡ x → not a ≡ true → best ≡ raised (and x y) size best
+  raised-source a x y f n = rw (← f, not-true a n)
+
+  pub raised-target : (a b x y : Bool) → a ≡ x → not a ≡ false → b ≡ y → not b ≡ true → best ≡ raised (and x y) size best
+  raised-target a b x y f n g m = rw (← f, not-false a n, ← g, not-true b m)
+
+  -- it is greater, and both are
+  pub raised-up : (a b x y : Bool) (d : ℕ) → size ≡ d → best < size → a ≡ x → not a ≡ false → b ≡ y → not b ≡ false → size ≡ raised (and x y) d best
+  raised-up a b x y d e l f n g m = rw (← f, not-false a n, ← g, not-false b m) (omega arith)
+
+-- ---- all arcs
+
+-- an edge taken before the others, or after them
+raised-swap : (on : Bool) (size best rest : ℕ) → max (raised on size best) rest ≡ max best (raised on size rest)
+raised-swap true size best rest = omega arith
+raised-swap false size best rest = refl
+
+-- before the first turn
+pub max-zero : (n : ℕ) → max 0 n ≡ n
+max-zero n = omega arith
+
+-- the first of the edges
+edges-first : (first second from left rest : ℕ) (arcs : List ℕ) (e : Edge) → left ≡ suc rest → e ≡ edgeAt first second from arcs
+    → edges first second from left arcs ≡ e ∷ edges first second (from + 80) rest arcs
+unfolding edges
+edges-first first second from left rest arcs e l f = rw (l, f)
+
+greatest-first : (n : ℕ) (w : List ℕ) (e : Edge) (es : List Edge) → e .source < n → e .target < n
+    → greatestOf (marksFrom 0 n w) (e ∷ es) ≡ raised (and (onPathAt (64 * e .source) w) (onPathAt (64 * e .target) w)) (delaySize (e .up) (e .down)) (greatestOf (marksFrom 0 n w) es)
+unfolding greatestOf
+greatest-first n w e es s t =
+    ap₂ (λ (x y : Bool). raised (and x y) (delaySize (e .up) (e .down)) (greatestOf (marksFrom 0 n w) es)) (mark-of n w (e .source) s) (mark-of n w (e .target) t)
+
+-- a turn takes one arc more
+pub greatest-turn : (n first second from left rest best r : ℕ) (arcs w : List ℕ) (e : Edge) → left ≡ suc rest → e ≡ edgeAt first second from arcs
+    → e .source < n → e .target < n → r ≡ raised (and (onPathAt (64 * e .source) w) (onPathAt (64 * e .target) w)) (delaySize (e .up) (e .down)) best
+    → max r (greatestOf (marksFrom 0 n w) (edges first second (from + 80) rest arcs)) ≡ max best (greatestOf (marksFrom 0 n w) (edges first second from left arcs))
+greatest-turn n first second from left rest best r arcs w e l f s t h =
+    let on = and (onPathAt (64 * e .source) w) (onPathAt (64 * e .target) w) in
+    let m = greatestOf (marksFrom 0 n w) (edges first second (from + 80) rest arcs) in
+    let x : greatestOf (marksFrom 0 n w) (edges first second from left arcs) ≡ raised on (delaySize (e .up) (e .down)) m
+    = ap (greatestOf (marksFrom 0 n w)) (edges-first first second from left rest arcs e l f) ∙ greatest-first n w e (edges first second (from + 80) rest arcs) s t in
+    rw (h, x) (raised-swap on (delaySize (e .up) (e .down)) best m)
+
+-- at the end no arc is left
+pub greatest-end : (first second from left best : ℕ) (arcs : List ℕ) (marks : List Bool) → left ≡ 0
+    → best ≡ max best (greatestOf marks (edges first second from left arcs))
+unfolding greatestOf edges
+greatest-end first second from left best arcs marks l = rw l (omega arith)
+
+-- ---- the sum of powers
+
+-- a product that fits
+pub product-fits : (s x : ℕ) → s ≤ 256 → x ≤ 65536 → s * (1 + x) ≤ 16777472
+product-fits s x h k = omega (arith, mul-le-mul h (one-more x k))
+  where
+    one-more : (x : ℕ) → x ≤ 65536 → 1 + x ≤ 65537
+    one-more x k = omega arith
+
+-- the cap, and the number itself
+pub cut-over : (cap n : ℕ) → cap < n → cap ≡ cut cap n
+cut-over cap n h = rw (lt-ltb _ _ h)
+
+pub cut-within : (cap n : ℕ) → n ≤ cap → n ≡ cut cap n
+cut-within cap n h = rw (le-ltb _ _ h)
+
+-- a turn of the sum
+pub sum-turn : (s done sum r : ℕ) → sum ≡ cappedSum 65536 s done → r ≡ cut 65536 (s * (1 + sum)) → r ≡ cappedSum 65536 s (done + 1)
+sum-turn s done sum r e f = f ∙ (rw (e, add-one done))
+
+-- the sum at the end
+pub sum-end : (s done delay sum : ℕ) → done ≤ delay → delay ≤ done → sum ≡ cappedSum 65536 s done → sum ≡ cappedSum 65536 s delay
+sum-end s done delay sum h k e = let d : done ≡ delay = omega arith in rw d at e

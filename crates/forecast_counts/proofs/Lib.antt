@@ -1,0 +1,3 @@
+-- Laws of the counts: of states and arcs, of the sum of powers, and of symbols.
+pub mod PathLaws
+pub mod DelayLaws

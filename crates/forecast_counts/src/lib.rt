@@ -1,0 +1,175 @@
+// What a forecast of space counts: in the work space, where each state has 64 bytes, and in the arc records.
+
+use memory::bytes::get16;
+use relaxation::Edge;
+use relaxation::edge_at;
+ghost use mathlib.Core.Path.{_≡_};
+ghost use Prim.Native.Nat.{_+_, _*_, _≤_, _<_};
+ghost use lib.ListN.{length};
+ghost use Rattle.automata.specs.Lists.{if, and};
+ghost use Rattle.automata.specs.Trim.{rank};
+ghost use Rattle.automata.specs.Forecast.{cappedSum};
+ghost use Rattle.relaxation.specs.Edges.{edges, ReadableArcs};
+ghost use Rattle.forecast_counts.specs.Counts.{onPathAt, marksFrom, endlessAt, bothAt, bothFrom, delaySize, raised, greatestOf, cut};
+
+// Places in a state's 64 bytes. The least closing delay forwards stands at place 0.
+const OPPOSITE_AFTER: usize = 4;
+
+const LEAST_BEFORE: usize = 8;
+
+const OPPOSITE_BEFORE: usize = 12;
+
+const TO_FINAL: usize = 32;
+
+const FROM_INITIAL: usize = 36;
+
+// What stands there for a delay that is endless, and for one that is missing.
+const ENDLESS: u16 = 0;
+
+const MISSING: u16 = 65535;
+
+// Whether the state whose 64 bytes start at `at` lies on a successful path.
+fn on_path(work: &[u8], at: usize) -> bool
+    requires { ⌜ at + 38 ≤ length (now work) ⌝ }
+    ensures { λ r. ⌜ r ≡ onPathAt at (now (work .entry)) ⌝ }
+{
+    if get16(work, at + FROM_INITIAL) == MISSING {
+        return false;
+    }
+    get16(work, at + TO_FINAL) != MISSING
+}
+
+// 1 for what is so, else 0.
+fn one_if(so: bool) -> usize
+    ensures { λ r. ⌜ (r ≡ if so 1 0) × (r ≤ 1) ⌝ }
+{
+    if so { 1 } else { 0 }
+}
+
+// How many of the first states lie on successful paths.
+pub fn path_states(work: &[u8], states: usize) -> usize
+    requires { ⌜ 64 * states ≤ length (now work) ⌝ }
+    ensures { λ r. ⌜ r ≡ rank (marksFrom 0 states (now (work .entry))) states ⌝ }
+{
+    let mut found: usize = 0;
+    let mut at: usize = 0;
+    let mut left = states;
+    while 0 < left {
+        let on = on_path(work, at);
+        found += one_if(on);
+        at += 64;
+        left -= 1;
+    }
+    found
+}
+
+// Whether the closing delays at the places `a` and `b` are both endless.
+fn endless_at(work: &[u8], a: usize, b: usize) -> bool
+    requires { ⌜ (a + 2 ≤ length (now work)) × (b + 2 ≤ length (now work)) ⌝ }
+    ensures { λ r. ⌜ r ≡ endlessAt a b (now (work .entry)) ⌝ }
+{
+    if get16(work, a) != ENDLESS {
+        return false;
+    }
+    get16(work, b) == ENDLESS
+}
+
+// Whether cycles of both signs meet at the state whose 64 bytes start at `at`.
+fn both_at(work: &[u8], at: usize) -> bool
+    requires { ⌜ at + 14 ≤ length (now work) ⌝ }
+    ensures { λ r. ⌜ r ≡ bothAt at (now (work .entry)) ⌝ }
+{
+    if endless_at(work, at + OPPOSITE_BEFORE, at) {
+        return true;
+    }
+    endless_at(work, at + LEAST_BEFORE, at + OPPOSITE_AFTER)
+}
+
+// Whether cycles of both signs meet at one of the first states.
+pub fn meets_both(work: &[u8], states: usize) -> bool
+    requires { ⌜ 64 * states ≤ length (now work) ⌝ }
+    ensures { λ r. ⌜ r ≡ bothFrom 0 states (now (work .entry)) ⌝ }
+{
+    let mut at: usize = 0;
+    let mut left = states;
+    while 0 < left {
+        if both_at(work, at) {
+            return true;
+        }
+        at += 64;
+        left -= 1;
+    }
+    false
+}
+
+// The size of an arc's delay, by the lengths of its labels on two tapes.
+fn delay_size(up: u8, down: u8) -> u8
+    ensures { λ r. ⌜ r ≡ delaySize up down ⌝ }
+{
+    if up < down { down - up } else { up - down }
+}
+
+// The greater of a number and the size of an arc's delay, where the arc lies on a successful path; else the number.
+fn raise(work: &[u8], e: Edge, best: u8) -> u8
+    requires { ⌜ (64 * e .source + 64 ≤ length (now work)) × (64 * e .target + 64 ≤ length (now work)) ⌝ }
+    ensures { λ r. ⌜ r ≡ raised (and (onPathAt (64 * e .source) (now (work .entry))) (onPathAt (64 * e .target) (now (work .entry)))) (delaySize (e .up) (e .down)) best ⌝ }
+{
+    let size = delay_size(e.up, e.down);
+    if size <= best {
+        return best;
+    }
+    if !on_path(work, 64 * e.source as usize) {
+        return best;
+    }
+    if !on_path(work, 64 * e.target as usize) {
+        return best;
+    }
+    size
+}
+
+// The greatest size of an arc's delay on two tapes, among the arcs on successful paths.
+pub fn greatest_delay(
+    arcs: &[u8],
+    count: usize,
+    first: usize,
+    second: usize,
+    work: &[u8],
+    states: usize,
+) -> u8
+    requires { ⌜ ReadableArcs states (now arcs) count first second × (64 * states ≤ length (now work)) ⌝ }
+    ensures { λ r. ⌜ r ≡ greatestOf (marksFrom 0 states (now (work .entry))) (edges first second 0 count (now (arcs .entry))) ⌝ }
+{
+    let mut best: u8 = 0;
+    let mut from: usize = 0;
+    let mut left = count;
+    while 0 < left {
+        let e = edge_at(arcs, from, first, second);
+        best = raise(work, e, best);
+        from += 80;
+        left -= 1;
+    }
+    best
+}
+
+// One term more in the sum of powers, by one multiplication and one addition, or 65,536 where it is more.
+fn next_sum(symbols: usize, sum: usize) -> usize
+    requires { ⌜ (symbols ≤ 256) × (sum ≤ 65536) ⌝ }
+    ensures { λ r. ⌜ (r ≡ cut 65536 (symbols * (1 + sum))) × (r ≤ 65536) ⌝ }
+{
+    let next = symbols * (1 + sum);
+    if 65536 < next { 65536 } else { next }
+}
+
+// The sum s + s² + .. + s^D of the symbols s and the delay D, or 65,536 where it is more.
+pub fn capped_sum(symbols: usize, delay: usize) -> usize
+    requires { ⌜ symbols ≤ 256 ⌝ }
+    ensures { λ r. ⌜ r ≡ cappedSum 65536 symbols delay ⌝ }
+{
+    let mut sum: usize = 0;
+    let mut done: usize = 0;
+    while done < delay {
+        sum = next_sum(symbols, sum);
+        done += 1;
+    }
+    sum
+}
