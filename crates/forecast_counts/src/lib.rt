@@ -5,11 +5,16 @@ use relaxation::Edge;
 use relaxation::edge_at;
 ghost use mathlib.Core.Path.{_≡_};
 ghost use Prim.Native.Nat.{_+_, _*_, _≤_, _<_};
-ghost use lib.ListN.{length};
+ghost use mathlib.Core.List.{[]};
+ghost use lib.Dec.{eqb};
+ghost use lib.ListN.{length, getD};
 ghost use Rattle.automata.specs.Lists.{if, and};
+ghost use Rattle.automata.specs.Explore.{insertAll};
 ghost use Rattle.automata.specs.Trim.{rank};
 ghost use Rattle.automata.specs.Forecast.{cappedSum};
 ghost use Rattle.relaxation.specs.Edges.{edges, ReadableArcs};
+ghost use Rattle.memory.specs.Region.{part};
+ghost use Rattle.forecast_counts.specs.Symbols.{labelAt, symbolsFrom, ShortLabels, noted, marked};
 ghost use Rattle.forecast_counts.specs.Counts.{onPathAt, marksFrom, endlessAt, bothAt, bothFrom, delaySize, raised, greatestOf, cut};
 
 // Places in a state's 64 bytes. The least closing delay forwards stands at place 0.
@@ -149,6 +154,65 @@ pub fn greatest_delay(
         left -= 1;
     }
     best
+}
+
+// Each of the `count` bytes at `at` marks its place in the table of symbols.
+fn note_bytes(seen: &mut [u8], bytes: &[u8], at: usize, count: usize)
+    requires { ⌜ (length (now seen) ≡ 256) × (at + count ≤ length (now bytes)) ⌝ }
+    ensures { λ _. ⌜ now (seen .exit) ≡ noted (now (seen .entry)) (part at count (now (bytes .entry))) ⌝ }
+{
+    let mut from = at;
+    let mut left = count;
+    while 0 < left {
+        seen[bytes[from] as usize] = 1;
+        from += 1;
+        left -= 1;
+    }
+}
+
+// The symbols of an arc's label on one tape are noted.
+fn note_label(seen: &mut [u8], arcs: &[u8], at: usize, tape: usize)
+    requires { ⌜ (length (now seen) ≡ 256) × (at + 80 ≤ length (now arcs)) × (tape < 8) × (getD (now arcs) (at + 8 + 9 * tape) 0 ≤ 8) ⌝ }
+    ensures { λ _. ⌜ now (seen .exit) ≡ noted (now (seen .entry)) (labelAt tape at (now (arcs .entry))) ⌝ }
+{
+    let count = arcs[at + 8 + 9 * tape] as usize;
+    note_bytes(seen, arcs, at + 9 + 9 * tape, count);
+}
+
+// Those of all labels on two tapes.
+fn note_arcs(seen: &mut [u8], arcs: &[u8], count: usize, first: usize, second: usize)
+    requires { ⌜ (length (now seen) ≡ 256) × ShortLabels (now arcs) count first second ⌝ }
+    ensures { λ _. ⌜ now (seen .exit) ≡ noted (now (seen .entry)) (symbolsFrom first second 0 count (now (arcs .entry))) ⌝ }
+{
+    let mut from: usize = 0;
+    let mut left = count;
+    while 0 < left {
+        note_label(seen, arcs, from, first);
+        note_label(seen, arcs, from, second);
+        from += 80;
+        left -= 1;
+    }
+}
+
+// How many places are marked.
+fn count_marks(seen: &[u8]) -> usize
+    ensures { λ r. ⌜ r ≡ marked (now (seen .entry)) ⌝ }
+{
+    let mut found: usize = 0;
+    for i in 0..seen.len() {
+        found += one_if(seen[i] == 1);
+    }
+    found
+}
+
+// How many different symbols stand on two tapes of the arcs.
+pub fn symbols_used(arcs: &[u8], count: usize, first: usize, second: usize) -> usize
+    requires { ⌜ ShortLabels (now arcs) count first second ⌝ }
+    ensures { λ r. ⌜ (r ≡ length (insertAll eqb [] (symbolsFrom first second 0 count (now (arcs .entry))))) × (r ≤ 256) ⌝ }
+{
+    let mut seen = [0u8; 256];
+    note_arcs(&mut seen, arcs, count, first, second);
+    count_marks(&seen)
 }
 
 // One term more in the sum of powers, by one multiplication and one addition, or 65,536 where it is more.
