@@ -13,7 +13,7 @@ use Rattle.automata.specs.Lists.{if, and}
 use Rattle.automata.specs.Forecast.{cappedSum}
 use Rattle.relaxation.specs.declared.Edge.{Edge}
 use Rattle.relaxation.specs.Edges.{edgeAt, edges}
-use Rattle.forecast_counts.specs.Counts.{onPathAt, marksFrom, delaySize, raised, greatestOf, cut}
+use Rattle.forecast_counts.specs.Counts.{onPathAt, marksFrom, delaySize, arcOnPath, raised, greatestOf, cut}
 use Rattle.forecast_counts.proofs.PathLaws.{mark-of}
 
 -- ---- one arc
@@ -26,22 +26,28 @@ not-false : (b : Bool) → not b ≡ false → b ≡ true
 not-false true e = refl
 not-false false e = sym e
 
-module _ (size best : ℕ) where
-  -- it is not greater
-  pub raised-small : (on : Bool) (d : ℕ) → size ≡ d → size ≤ best → best ≡ raised on d best
-  raised-small true d e l = omega arith
-  raised-small false d e l = refl
+-- its source is not on a successful path, and is
+pub arc-not : (source target : ℕ) (w : List ℕ) (a : Bool) → a ≡ onPathAt (64 * source) w → not a ≡ true → false ≡ arcOnPath source target w
+arc-not source target w a e n = rw (← e, not-true a n)
 
-  -- its source, or its target, is not on a successful path
-  pub raised-source : (a x y : Bool) → a ≡ x → not a ≡ true → best ≡ raised (and x y) size best
-  raised-source a x y f n = rw (← f, not-true a n)
+pub arc-if : (source target : ℕ) (w : List ℕ) (a r : Bool) → a ≡ onPathAt (64 * source) w → not a ≡ false → r ≡ onPathAt (64 * target) w → r ≡ arcOnPath source target w
+arc-if source target w a r e n f = rw (← e, not-false a n) f
 
-  pub raised-target : (a b x y : Bool) → a ≡ x → not a ≡ false → b ≡ y → not b ≡ true → best ≡ raised (and x y) size best
-  raised-target a b x y f n g m = rw (← f, not-false a n, ← g, not-true b m)
+module _ (size best d : ℕ) (e : size ≡ d) (on : Bool) where
+  -- its delay is not greater
+  pub raised-small : size ≤ best → best ≡ raised on d best
+  raised-small l = go on
+    where
+      go : (b : Bool) → best ≡ raised b d best
+      go true = omega arith
+      go false = refl
 
-  -- it is greater, and both are
-  pub raised-up : (a b x y : Bool) (d : ℕ) → size ≡ d → best < size → a ≡ x → not a ≡ false → b ≡ y → not b ≡ false → size ≡ raised (and x y) d best
-  raised-up a b x y d e l f n g m = rw (← f, not-false a n, ← g, not-false b m) (omega arith)
+  -- it is greater, and the arc lies on a successful path or does not
+  pub raised-on : (a : Bool) → a ≡ on → a ≡ true → best < size → size ≡ raised on d best
+  raised-on a f t l = rw (← f, t) (omega arith)
+
+  pub raised-off : (a : Bool) → a ≡ on → a ≡ false → best ≡ raised on d best
+  raised-off a f t = rw (← f, t)
 
 -- ---- all arcs
 
@@ -61,17 +67,17 @@ unfolding edges
 edges-first first second from left rest arcs e l f = rw (l, f)
 
 greatest-first : (n : ℕ) (w : List ℕ) (e : Edge) (es : List Edge) → e .source < n → e .target < n
-    → greatestOf (marksFrom 0 n w) (e ∷ es) ≡ raised (and (onPathAt (64 * e .source) w) (onPathAt (64 * e .target) w)) (delaySize (e .up) (e .down)) (greatestOf (marksFrom 0 n w) es)
+    → greatestOf (marksFrom 0 n w) (e ∷ es) ≡ raised (arcOnPath (e .source) (e .target) w) (delaySize (e .up) (e .down)) (greatestOf (marksFrom 0 n w) es)
 unfolding greatestOf
 greatest-first n w e es s t =
     ap₂ (λ (x y : Bool). raised (and x y) (delaySize (e .up) (e .down)) (greatestOf (marksFrom 0 n w) es)) (mark-of n w (e .source) s) (mark-of n w (e .target) t)
 
 -- a turn takes one arc more
 pub greatest-turn : (n first second from left rest best r : ℕ) (arcs w : List ℕ) (e : Edge) → left ≡ suc rest → e ≡ edgeAt first second from arcs
-    → e .source < n → e .target < n → r ≡ raised (and (onPathAt (64 * e .source) w) (onPathAt (64 * e .target) w)) (delaySize (e .up) (e .down)) best
+    → e .source < n → e .target < n → r ≡ raised (arcOnPath (e .source) (e .target) w) (delaySize (e .up) (e .down)) best
     → max r (greatestOf (marksFrom 0 n w) (edges first second (from + 80) rest arcs)) ≡ max best (greatestOf (marksFrom 0 n w) (edges first second from left arcs))
 greatest-turn n first second from left rest best r arcs w e l f s t h =
-    let on = and (onPathAt (64 * e .source) w) (onPathAt (64 * e .target) w) in
+    let on = arcOnPath (e .source) (e .target) w in
     let m = greatestOf (marksFrom 0 n w) (edges first second (from + 80) rest arcs) in
     let x : greatestOf (marksFrom 0 n w) (edges first second from left arcs) ≡ raised on (delaySize (e .up) (e .down)) m
     = ap (greatestOf (marksFrom 0 n w)) (edges-first first second from left rest arcs e l f) ∙ greatest-first n w e (edges first second (from + 80) rest arcs) s t in

@@ -1,5 +1,5 @@
 -- What a forecast counts in the work space. Each state has 64 bytes there, with numbers of two bytes at the places named here.
-use Prim.Native.Nat.{ℕ, zero, suc, _+_, _-_, max}
+use Prim.Native.Nat.{ℕ, zero, suc, _+_, _-_, _*_, max}
 use mathlib.Core.Bool.{Bool, false, not}
 use mathlib.Core.List.{List, [], _∷_}
 use lib.Dec.{eqb, ltb}
@@ -61,6 +61,10 @@ bothFrom at (suc n) w = let rest = bothFrom (at + 64) n w in or (bothAt at w) re
 -- the size of an arc's delay, by the lengths of its labels on two tapes
 abbrev pub delaySize : ℕ → ℕ → ℕ
 delaySize up down = max (up - down) (down - up)
+
+-- an arc lies on a successful path: both its states do
+abbrev pub arcOnPath : ℕ → ℕ → List ℕ → Bool
+arcOnPath source target w = and (onPathAt (64 * source) w) (onPathAt (64 * target) w)
 
 -- the greater of a size and a number, where the arc lies on a successful path; else the number
 abbrev pub raised : Bool → ℕ → ℕ → ℕ

@@ -8,16 +8,17 @@ ghost use Prim.Native.Nat.{_+_, _*_, _≤_, _<_};
 ghost use mathlib.Core.List.{[]};
 ghost use lib.Dec.{eqb};
 ghost use lib.ListN.{length, getD};
-ghost use Rattle.automata.specs.Lists.{if, and};
+ghost use Rattle.automata.specs.Lists.{if};
 ghost use Rattle.automata.specs.Explore.{insertAll};
 ghost use Rattle.automata.specs.Trim.{rank};
 ghost use Rattle.automata.specs.Forecast.{cappedSum};
 ghost use Rattle.relaxation.specs.Edges.{edges, ReadableArcs};
 ghost use Rattle.memory.specs.Region.{part};
 ghost use Rattle.forecast_counts.specs.Symbols.{labelAt, symbolsFrom, ShortLabels, noted, marked};
-ghost use Rattle.forecast_counts.specs.Counts.{onPathAt, marksFrom, endlessAt, bothAt, bothFrom, delaySize, raised, greatestOf, cut};
+ghost use Rattle.forecast_counts.specs.Counts.{onPathAt, marksFrom, endlessAt, bothAt, bothFrom, delaySize, arcOnPath, raised, greatestOf, cut};
 
-// Places in a state's 64 bytes. The least closing delay forwards stands at place 0.
+// Places in a state's 64 bytes: closing delays of the automaton (after) and of its reversal (before), whether a final
+// state can be reached, and whether an initial state leads here. The least closing delay of the automaton is at place 0.
 const OPPOSITE_AFTER: usize = 4;
 
 const LEAST_BEFORE: usize = 8;
@@ -114,22 +115,28 @@ fn delay_size(up: u8, down: u8) -> u8
     if up < down { down - up } else { up - down }
 }
 
+// Whether both states of an arc lie on successful paths.
+fn arc_on_path(work: &[u8], e: Edge) -> bool
+    requires { ⌜ (64 * e .source + 64 ≤ length (now work)) × (64 * e .target + 64 ≤ length (now work)) ⌝ }
+    ensures { λ r. ⌜ r ≡ arcOnPath (e .source) (e .target) (now (work .entry)) ⌝ }
+{
+    if !on_path(work, 64 * e.source as usize) {
+        return false;
+    }
+    on_path(work, 64 * e.target as usize)
+}
+
 // The greater of a number and the size of an arc's delay, where the arc lies on a successful path; else the number.
 fn raise(work: &[u8], e: Edge, best: u8) -> u8
     requires { ⌜ (64 * e .source + 64 ≤ length (now work)) × (64 * e .target + 64 ≤ length (now work)) ⌝ }
-    ensures { λ r. ⌜ r ≡ raised (and (onPathAt (64 * e .source) (now (work .entry))) (onPathAt (64 * e .target) (now (work .entry)))) (delaySize (e .up) (e .down)) best ⌝ }
+    ensures { λ r. ⌜ r ≡ raised (arcOnPath (e .source) (e .target) (now (work .entry))) (delaySize (e .up) (e .down)) best ⌝ }
 {
     let size = delay_size(e.up, e.down);
     if size <= best {
         return best;
     }
-    if !on_path(work, 64 * e.source as usize) {
-        return best;
-    }
-    if !on_path(work, 64 * e.target as usize) {
-        return best;
-    }
-    size
+    let on = arc_on_path(work, e);
+    if on { size } else { best }
 }
 
 // The greatest size of an arc's delay on two tapes, among the arcs on successful paths.

@@ -28,14 +28,26 @@ note-label-requires c κs =
     let l = c .before .before .loop in
     let s = c .before .before .before .before .before .pre in
     let t = c .before .loop-test .taken in
-    (l .inv .2 ∙ s .0, omega (arith, l .inv .1, s .1 .lent, t), s .1 .first-tape, short-first _ _ _ _ (s .1) _ (l .left) t (l .inv .0) (l .inv .1))
+    let f = short-first _ _ _ _ (s .1) _ (l .left) t (l .inv .0) (l .inv .1) in
+    let g = short-second _ _ _ _ (s .1) _ (l .left) t (l .inv .0) (l .inv .1) in (
+      l .inv .2 ∙ s .0,
+      omega (arith, l .inv .1, s .1 .lent, t),
+      omega (arith, s .1 .first-tape, s .1 .second-tape),
+      omega (arith, f, g),
+    )
 
 note-label-requires-2 : tie.Need-note-label-requires-2 Inv-loop μ-loop
 note-label-requires-2 c κs =
     let l = c .before .before .before .before .before .before .loop in
     let s = c .before .before .before .before .before .before .before .before .before .pre in
     let t = c .before .before .before .before .before .loop-test .taken in
-    (c .before .before .before .note-label .kept .0 ∙ l .inv .2 ∙ s .0, omega (arith, l .inv .1, s .1 .lent, t), s .1 .second-tape, short-second _ _ _ _ (s .1) _ (l .left) t (l .inv .0) (l .inv .1))
+    let f = short-first _ _ _ _ (s .1) _ (l .left) t (l .inv .0) (l .inv .1) in
+    let g = short-second _ _ _ _ (s .1) _ (l .left) t (l .inv .0) (l .inv .1) in (
+      c .before .before .before .note-label .kept .0 ∙ l .inv .2 ∙ s .0,
+      omega (arith, l .inv .1, s .1 .lent, t),
+      omega (arith, s .1 .first-tape, s .1 .second-tape),
+      omega (arith, f, g),
+    )
 
 add-from : tie.Need-add-from Inv-loop μ-loop
 add-from c = let l = c .before .before .before .before .before .before .before .before .before .loop in omega (arith, l .inv .1, c .before .before .before .before .before .before .before .before .before .before .before .before .pre .1 .lent, c .before .before .before .before .before .before .before .before .loop-test .taken)
