@@ -1,15 +1,13 @@
 -- The greatest size of an arc's delay on successful paths, and the sum of powers.
-use Prim.Native.Nat.{ℕ, zero, suc, _+_, _-_, _*_, _<_, _≤_, max}
+use Prim.Native.Nat.{ℕ, suc, _+_, _-_, _*_, _<_, _≤_, max}
 use mathlib.Core.Path.{_≡_, refl, sym, ap, ap₂, _∙_}
 use mathlib.Core.Bool.{Bool, true, false, not}
-use mathlib.Core.List.{List, [], _∷_}
+use mathlib.Core.List.{List, _∷_}
 use native.Mathlib.Omega.{arith}
 use native.Mathlib.Nat.{mul-le-mul}
 use native.Mathlib.Numerals.{add-one}
 use borrow.Author.Tests.{lt-ltb, le-ltb}
-use lib.Dec.{ltb}
-use lib.ListN.{length, getD}
-use Rattle.automata.specs.Lists.{if, and}
+use Rattle.automata.specs.Lists.{and}
 use Rattle.automata.specs.Forecast.{cappedSum}
 use Rattle.relaxation.specs.declared.Edge.{Edge}
 use Rattle.relaxation.specs.Edges.{edgeAt, edges}
@@ -18,18 +16,21 @@ use Rattle.forecast_counts.proofs.PathLaws.{mark-of}
 
 -- ---- one arc
 
+-- what the negation of a test tells
 not-true : (b : Bool) → not b ≡ true → b ≡ false
 not-true false e = refl
 not-true true e = sym e
 
+-- the same where it fails
 not-false : (b : Bool) → not b ≡ false → b ≡ true
 not-false true e = refl
 not-false false e = sym e
 
--- its source is not on a successful path, and is
+-- its source is not on a successful path
 pub arc-not : (source target : ℕ) (w : List ℕ) (a : Bool) → a ≡ onPathAt (64 * source) w → not a ≡ true → false ≡ arcOnPath source target w
 arc-not source target w a e n = rw (← e, not-true a n)
 
+-- its source is: it is the target's turn
 pub arc-if : (source target : ℕ) (w : List ℕ) (a r : Bool) → a ≡ onPathAt (64 * source) w → not a ≡ false → r ≡ onPathAt (64 * target) w → r ≡ arcOnPath source target w
 arc-if source target w a r e n f = rw (← e, not-false a n) f
 
@@ -42,10 +43,11 @@ module _ (size best d : ℕ) (e : size ≡ d) (on : Bool) where
       go true = omega arith
       go false = refl
 
-  -- it is greater, and the arc lies on a successful path or does not
+  -- it is greater, and the arc lies on a successful path
   pub raised-on : (a : Bool) → a ≡ on → a ≡ true → best < size → size ≡ raised on d best
   raised-on a f t l = rw (← f, t) (omega arith)
 
+  -- the arc does not lie on one
   pub raised-off : (a : Bool) → a ≡ on → a ≡ false → best ≡ raised on d best
   raised-off a f t = rw (← f, t)
 
@@ -66,6 +68,7 @@ edges-first : (first second from left rest : ℕ) (arcs : List ℕ) (e : Edge) �
 unfolding edges
 edges-first first second from left rest arcs e l f = rw (l, f)
 
+-- the first of the edges, by the marks in the work space
 greatest-first : (n : ℕ) (w : List ℕ) (e : Edge) (es : List Edge) → e .source < n → e .target < n
     → greatestOf (marksFrom 0 n w) (e ∷ es) ≡ raised (arcOnPath (e .source) (e .target) w) (delaySize (e .up) (e .down)) (greatestOf (marksFrom 0 n w) es)
 unfolding greatestOf
@@ -98,10 +101,11 @@ product-fits s x h k = omega (arith, mul-le-mul h (one-more x k))
     one-more : (x : ℕ) → x ≤ 65536 → 1 + x ≤ 65537
     one-more x k = omega arith
 
--- the cap, and the number itself
+-- a number above the cap
 pub cut-over : (cap n : ℕ) → cap < n → cap ≡ cut cap n
 cut-over cap n h = rw (lt-ltb _ _ h)
 
+-- and one that is not
 pub cut-within : (cap n : ℕ) → n ≤ cap → n ≡ cut cap n
 cut-within cap n h = rw (le-ltb _ _ h)
 

@@ -1,16 +1,16 @@
 -- The states on successful paths, and those where cycles of both signs meet.
-use Prim.Native.Nat.{ℕ, zero, suc, _+_, _*_, _<_, _≤_}
+use Prim.Native.Nat.{ℕ, zero, suc, _+_, _*_, _<_}
 use mathlib.Core.Path.{_≡_, refl, sym, ap, _∙_}
 use mathlib.Core.Logic.{_≢_}
 use mathlib.Core.Bool.{Bool, true, false, not}
-use mathlib.Core.List.{List, [], _∷_}
+use mathlib.Core.List.{List}
 use native.Mathlib.Omega.{arith}
 use lib.Dec.{eqb}
 use lib.ListN.{length, getD}
 use lib.Seq.{ext-getD}
 use Rattle.memory.specs.Region.{part}
 use Rattle.memory.specs.Endian.{le}
-use Rattle.automata.specs.Lists.{if, and, or}
+use Rattle.automata.specs.Lists.{if, and}
 use Rattle.automata.specs.Trim.{rank}
 use Rattle.automata.proofs.TestFacts.{eqb-false}
 use Rattle.forecast_counts.specs.Counts.{onPathAt, marksFrom, endlessAt, bothAt, bothFrom}
@@ -25,17 +25,19 @@ off-path at v w e f = rw (← e, f)
 pub on-path-if : (at v u : ℕ) (w : List ℕ) → v ≡ le (part (at + 36) 2 w) → v ≢ 65535 → u ≡ le (part (at + 32) 2 w) → not (eqb u 65535) ≡ onPathAt at w
 on-path-if at v u w e f g = rw (← e, eqb-false v 65535 f, ← g)
 
--- the first delay is not endless, and is
+-- the first delay is not endless
 pub endless-not : (a b v : ℕ) (w : List ℕ) → v ≡ le (part a 2 w) → v ≢ 0 → false ≡ endlessAt a b w
 endless-not a b v w e f = rw (← e, eqb-false v 0 f)
 
+-- it is: both are if the second is
 pub endless-if : (a b v u : ℕ) (w : List ℕ) → v ≡ le (part a 2 w) → v ≡ 0 → u ≡ le (part b 2 w) → eqb u 0 ≡ endlessAt a b w
 endless-if a b v u w e f g = rw (← e, f, ← g)
 
--- either order of signs
+-- one order of signs
 pub both-first : (at : ℕ) (w : List ℕ) (b : Bool) → b ≡ endlessAt (at + 12) at w → b ≡ true → true ≡ bothAt at w
 both-first at w b e f = rw (← e, f)
 
+-- not that order: the other one
 pub both-second : (at : ℕ) (w : List ℕ) (b r : Bool) → b ≡ endlessAt (at + 12) at w → b ≡ false → r ≡ endlessAt (at + 8) (at + 4) w → r ≡ bothAt at w
 both-second at w b r e f g = rw (← e, f) g
 
@@ -83,16 +85,18 @@ pub path-end : (at left found : ℕ) (w : List ℕ) → left ≡ 0 → found ≡
 unfolding marksFrom rank
 path-end at left found w l = rw l (omega arith)
 
--- cycles of both signs meet at the first of the states left, or not
+-- cycles of both signs meet at the first of the states left
 pub both-found : (at left : ℕ) (w : List ℕ) (b : Bool) → 0 < left → b ≡ bothAt at w → b ≡ true → true ≡ bothFrom at left w
 unfolding bothFrom
 both-found at zero w b l e f = absurd (omega arith)
 both-found at (suc left) w b l e f = rw (← e, f)
 
+-- they do not: on to the next state
 pub both-turn : (at left rest : ℕ) (w : List ℕ) (b : Bool) → left ≡ suc rest → b ≡ bothAt at w → b ≡ false → bothFrom (at + 64) rest w ≡ bothFrom at left w
 unfolding bothFrom
 both-turn at left rest w b l e f = rw (l, ← e, f)
 
+-- no state is left
 pub both-end : (at left : ℕ) (w : List ℕ) → left ≡ 0 → false ≡ bothFrom at left w
 unfolding bothFrom
 both-end at left w l = rw l

@@ -12,7 +12,7 @@ use lib.Seq.{drop-cons, getD-set-same, getD-set-other, set-getD}
 use Rattle.memory.specs.Region.{part}
 use Rattle.memory.proofs.PartLaws.{part-zero, part-suc}
 use Rattle.memory.proofs.EndianLaws.{Bytes}
-use Rattle.automata.specs.Lists.{if, or, any, All}
+use Rattle.automata.specs.Lists.{if, or, All}
 use Rattle.automata.specs.Explore.{member, insert, insertAll}
 use Rattle.automata.proofs.TestFacts.{eqb-false}
 use Rattle.automata.proofs.ListFacts.{numbers-decided}
@@ -40,6 +40,7 @@ pub bytes-turn : (seen bytes : List ℕ) (from left rest : ℕ) → left ≡ suc
 unfolding noted
 bytes-turn seen bytes from left rest l h = rw (l, part-suc from rest bytes 0 h)
 
+-- no byte is left
 pub bytes-end : (seen bytes : List ℕ) (from left : ℕ) → left ≡ 0 → seen ≡ noted seen (part from left bytes)
 unfolding noted
 bytes-end seen bytes from left l = rw (l, part-zero from bytes)
@@ -55,15 +56,17 @@ arcs-turn first second from left rest arcs seen a b l e f =
     let p : b ≡ noted seen (x ++ y) = f ∙ ap (λ (s : List ℕ). noted s y) e ∙ sym (noted-append seen x y) in
     rw (l, p) (sym (noted-append seen (x ++ y) z))
 
+-- no arc is left
 pub arcs-end : (first second from left : ℕ) (arcs seen : List ℕ) → left ≡ 0 → seen ≡ noted seen (symbolsFrom first second from left arcs)
 unfolding symbolsFrom noted
 arcs-end first second from left arcs seen l = rw l
 
--- the labels of an arc that is left are short
 module _ (arcs : List ℕ) (count first second : ℕ) (s : ShortLabels arcs count first second) (from left : ℕ) (h : 0 < left) (k : left ≤ count) (e : from + 80 * left ≡ 80 * count) where
+  -- the label of an arc that is left, on the first tape, is short
   pub short-first : getD arcs (from + 8 + 9 * first) 0 ≤ 8
   short-first = let p : 80 * (count - left) ≡ from = omega arith in rw p at (s .first-short (count - left) (omega arith))
 
+  -- and on the second
   pub short-second : getD arcs (from + 8 + 9 * second) 0 ≤ 8
   short-second = let p : 80 * (count - left) ≡ from = omega arith in rw p at (s .second-short (count - left) (omega arith))
 
@@ -79,6 +82,7 @@ marks-turn seen i found r h e = rw (drop-cons seen i 0 h, e, add-one i) (go (eqb
     go true = omega arith
     go false = omega arith
 
+-- no place is left
 pub marks-end : (seen : List ℕ) (i found : ℕ) → length seen ≤ i → found ≡ found + marked (drop i seen)
 unfolding marked
 marks-end seen i found h = rw (drop-of-length-le seen h) (omega arith)
@@ -118,6 +122,7 @@ record Tells (seen ys : List ℕ) : Type 0 where
   holds : (b : ℕ) → b < 256 → getD seen b 0 ≡ if (member eqb b ys) 1 0
   count : marked seen ≡ length ys
 
+-- one symbol more
 tells-insert : (seen ys : List ℕ) (b : ℕ) → b < 256 → Tells seen ys → Tells (set seen b 1) (insert eqb ys b)
 tells-insert seen ys b h t = go (member eqb b ys) refl
   where
@@ -140,11 +145,13 @@ tells-insert seen ys b h t = go (member eqb b ys) refl
             let m : member eqb c (ys ++ (b ∷ [])) ≡ member eqb c ys = any-snoc (eqb c) ys b ∙ ap (or (member eqb c ys)) (eqb-false c b q) ∙ or-none (member eqb c ys) in
             getD-set-other seen b c 1 0 q ∙ t .holds c k ∙ ap (λ (a : Bool). if a 1 0) (sym m)
 
+-- several symbols more
 tells-all : (seen ys xs : List ℕ) → All (λ b. b < 256) xs → Tells seen ys → Tells (noted seen xs) (insertAll eqb ys xs)
 unfolding noted
 tells-all seen ys [] a t = t
 tells-all seen ys (x ∷ xs) a t = tells-all (set seen x 1) (insert eqb ys x) xs (a .1) (tells-insert seen ys x (a .0) t)
 
+-- no symbol yet
 tells-none : Tells (replicate 256 0) []
 tells-none = record { size = length-replicate {A = ℕ} 256 0; holds = λ b k. getD-replicate {A = ℕ} 256 b 0 0 k; count = marked-none 256 }
 

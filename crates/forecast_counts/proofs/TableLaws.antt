@@ -1,7 +1,7 @@
--- What is counted in the work space and in the arc records is what the definitions count, where the two agree place by place.
-use Prim.Native.Nat.{ℕ, zero, suc, _+_, _*_, _<_, _≤_}
-use mathlib.Core.Path.{_≡_, refl, sym, ap, ap₂, _∙_}
-use mathlib.Core.Bool.{Bool, true, false}
+-- What is counted in the work space and in the arc records is what the definitions count, where they agree one by one.
+use Prim.Native.Nat.{ℕ, suc, _+_, _*_, _<_}
+use mathlib.Core.Path.{_≡_, refl, ap₂}
+use mathlib.Core.Bool.{Bool}
 use mathlib.Core.Option.{some}
 use mathlib.Core.List.{List, [], _∷_, _++_, map}
 use native.Mathlib.Omega.{arith}
@@ -9,7 +9,6 @@ use lib.ListN.{length, getElem?}
 use Rattle.automata.specs.Lists.{or, any, concat, numbered}
 use Rattle.automata.specs.Automaton.{Arc, labelOn}
 use Rattle.automata.specs.Forecast.{greatestDelay}
-use Rattle.relaxation.specs.declared.Edge.{Edge}
 use Rattle.forecast_counts.specs.Counts.{bothAt, bothFrom, greatestOf}
 use Rattle.forecast_counts.specs.Symbols.{labelAt, symbolsFrom}
 

@@ -1,4 +1,5 @@
--- What a forecast counts in the work space. Each state has 64 bytes there, with numbers of two bytes at the places named here.
+-- What a forecast counts in the work space. Each state has 64 bytes there, with numbers of two bytes, low byte first,
+-- at the places named here.
 use Prim.Native.Nat.{ℕ, zero, suc, _+_, _-_, _*_, max}
 use mathlib.Core.Bool.{Bool, false, not}
 use mathlib.Core.List.{List, [], _∷_}
@@ -16,17 +17,19 @@ use Rattle.relaxation.specs.declared.Edge.{Edge}
 abbrev pub oppositeAfter : ℕ
 oppositeAfter = 4
 
--- those of its reversal
+-- those of its reversal: the least
 abbrev pub leastBefore : ℕ
 leastBefore = 8
 
+-- and the opposite one
 abbrev pub oppositeBefore : ℕ
 oppositeBefore = 12
 
--- whether a final state can be reached, and whether an initial state leads here; missing means no
+-- whether a final state can be reached; missing means no
 abbrev pub toFinal : ℕ
 toFinal = 32
 
+-- whether an initial state leads here; missing means no
 abbrev pub fromInitial : ℕ
 fromInitial = 36
 

@@ -18,7 +18,7 @@ ghost use Rattle.forecast_counts.specs.Symbols.{labelAt, symbolsFrom, Sh
 ghost use Rattle.forecast_counts.specs.Counts.{onPathAt, marksFrom, endlessAt, bothAt, bothFrom, delaySize, arcOnPath, raised, greatestOf, cut};
 
 // Places in a state's 64 bytes: closing delays of the automaton (after) and of its reversal (before), whether a final
-// state can be reached, and whether an initial state leads here. The least closing delay of the automaton is at place 0.
+// state can be reached, and whether an initial state leads here. The least closing delay of the automaton is first.
 const OPPOSITE_AFTER: usize = 4;
 
 const LEAST_BEFORE: usize = 8;
