@@ -10,7 +10,7 @@ use lib.ListN.{length, getD}
 use lib.Seq.{ext-getD}
 use Rattle.memory.specs.Region.{part}
 use Rattle.memory.specs.Endian.{le}
-use Rattle.automata.specs.Lists.{if, and}
+use Rattle.automata.specs.Lists.{if}
 use Rattle.automata.specs.Trim.{rank}
 use Rattle.automata.proofs.TestFacts.{eqb-false}
 use Rattle.forecast_counts.specs.Counts.{onPathAt, marksFrom, endlessAt, bothAt, bothFrom}
