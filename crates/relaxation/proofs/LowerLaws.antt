@@ -22,7 +22,7 @@ use Rattle.automata.proofs.RoundFacts.{iterate-still}
 use Rattle.automata.proofs.InPlaceFacts.{length-in-place}
 use Rattle.relaxation.specs.declared.Edge.{Edge}
 use Rattle.relaxation.specs.Column.{Room, column}
-use Rattle.relaxation.specs.Edges.{edgeAt, edges, edgeGraph, Joined, ReadableArcs, throughEdge, improveEdge, visited, swept, roundOf, roundsOf, Filled, starts}
+use Rattle.relaxation.specs.Edges.{edgeAt, edges, edgeGraph, Joined, ReadableArcs, throughEdge, improveEdge, visited, swept, roundOf, roundsOf, bothRounds, Filled, starts}
 use Rattle.relaxation.specs.Lowered.{own, along, around, Lessens, Stands, Lowered, Lowers, Settles, FillsLeast}
 use Rattle.relaxation.proofs.ColumnLaws.{length-column, column-at, column-store, frame-refl, frame-store, frame-trans}
 use Rattle.relaxation.proofs.SweepLaws.{Bytes, le-fits, visited-frame, visited-column, swept-frame, swept-bytes}
@@ -94,26 +94,19 @@ module _ (es : List Edge) (at n : ℕ) where
       lowers-trans (visited false at e u) u w (visited-lowers (p .0) e u (p .1) (j .0) (j .1) (omega arith) (swept-bytes false at n rest w (j .2) room b))
       (swept-lowers rest w (λ k. in-es (suc k)) (j .2) room b)
 
-  -- a round, which tells where it changed nothing
-  round-settles : (same : Bool) (w v : List ℕ) → Joined n es → Room at 2 n v → Bytes v → Becomes (swept false at es v) same w v → Settles es at n same w v
-  round-settles same w v j room b s =
-      let r = rounded false es at n same v w j room b s in
+  -- a round behind other steps, which tells where it changed nothing
+  pub round-settles : (same : Bool) (w u v : List ℕ) → Joined n es → Room at 2 n u → Bytes u → Becomes (swept false at es u) same w u → Lowers es at n u v
+      → Settles es at n same w v
+  round-settles same w u v j room b s f =
+      let r = rounded false es at n same u w j room b s in
       record {
-        lowers = rw (s .is) (swept-lowers es v (λ k e p. (k, p)) j room b);
+        lowers = lowers-trans w u v (rw (s .is) (swept-lowers es u (λ k e p. (k, p)) j room b)) f;
         stable = λ t. ap (roundOf false es) (r .still t) ∙ sym (r .holds);
       }
 
-  -- the same behind other steps
-  pub settles-end : (still : Bool) (w u t v : List ℕ) → still ≡ true → Joined n es → Room at 2 n u → Bytes u → Becomes (swept false at es u) still w u
-      → Lowers es at n u t → Lowers es at n t v → Settles es at n true w v
-  settles-end still w u t v e j room b s f g =
-      let r = round-settles still w u j room b s in record { lowers = lowers-trans w u v (r .lowers) (lowers-trans u t v f g); stable = λ z. r .stable e }
-
-  -- and between others
-  pub settles-turn : (still : Bool) (x w u t v : List ℕ) → Joined n es → Room at 2 n u → Bytes u → Becomes (swept false at es u) still w u
-      → Lowers es at n x w → Lowers es at n u t → Lowers es at n t v → Lowers es at n x v
-  settles-turn still x w u t v j room b s d f g =
-      lowers-trans x w v d (lowers-trans w u v (round-settles still w u j room b s .lowers) (lowers-trans u t v f g))
+  -- the same behind further steps, where it is told
+  pub settles-end : (still : Bool) (w u v : List ℕ) → still ≡ true → Settles es at n still w u → Lowers es at n u v → Settles es at n true w v
+  settles-end still w u v e s f = record { lowers = lowers-trans w u v (s .lowers) f; stable = λ z. s .stable e }
 
   -- a state with a delay and a closed run that lessens it becomes endless
   pub endless-lowers : (q x : ℕ) (w2 w : List ℕ) → q < n → Room at 2 n w → Lessens es q → x ≡ le (part (at + 64 * q) 2 w) → x ≢ missing → w2 ≡ splice (at + 64 * q) (toLe 2 0) w
@@ -127,11 +120,12 @@ module _ (es : List Edge) (at n : ℕ) where
   })
 
 -- the arc with number k, which tells where it changed nothing
-pub arc-lowers : (first second count at n k from : ℕ) (arcs : List ℕ) (e : Edge) (same : Bool) (w v : List ℕ) → ReadableArcs n arcs count first second → Room at 2 n v → Bytes v
-    → k < count → from ≡ 80 * k → e ≡ edgeAt first second from arcs → Becomes (visited false at e v) same w v → Lowers (edges first second 0 count arcs) at n w v
-arc-lowers first second count at n k from arcs e same w v r room b l f g s =
-    let j = joined-at n first second 0 count k from arcs e (r .joined) l (omega arith) g in
-    rw (s .is) (visited-lowers (edges first second 0 count arcs) at n k e v (edges-place first second 0 count k from arcs e l (omega arith) g) (j .0) (j .1) room b)
+pub arc-lowers : (reversed : Bool) (first second count at n k from : ℕ) (arcs : List ℕ) (e : Edge) (same : Bool) (w v : List ℕ) → ReadableArcs n arcs count reversed first second
+    → Room at 2 n v → Bytes v
+    → k < count → from ≡ 80 * k → e ≡ edgeAt reversed first second from arcs → Becomes (visited false at e v) same w v → Lowers (edges reversed first second 0 count arcs) at n w v
+arc-lowers reversed first second count at n k from arcs e same w v r room b l f g s =
+    let j = joined-at n reversed first second 0 count k from arcs e (r .joined) l (omega arith) g in
+    rw (s .is) (visited-lowers (edges reversed first second 0 count arcs) at n k e v (edges-place reversed first second 0 count k from arcs e l (omega arith) g) (j .0) (j .1) room b)
 
 -- ---- no edge makes a delay less
 
@@ -187,12 +181,12 @@ module _ (n : ℕ) (gs : List Edge) (xs : List ℕ) (len : length xs ≡ n) wher
 
 -- ---- the least delays
 
-module _ (es : List Edge) (at n : ℕ) (bytes v u : List ℕ) (start : Filled at n (starts 0 n bytes) u v) where
-  started-lowered : (still : Bool) (w : List ℕ) → Settles es at n still w u → Lowered es n (starts 0 n bytes) (column at n w)
-  started-lowered still w s = s .lowers .lowered (starts 0 n bytes) (rw (start .holds) (lowered-self es n (starts 0 n bytes)))
+module _ (reversed : Bool) (es : List Edge) (at n : ℕ) (bytes v u : List ℕ) (start : Filled at n (starts reversed 0 n bytes) u v) where
+  started-lowered : (still : Bool) (w : List ℕ) → Settles es at n still w u → Lowered es n (starts reversed 0 n bytes) (column at n w)
+  started-lowered still w s = s .lowers .lowered (starts reversed 0 n bytes) (rw (start .holds) (lowered-self es n (starts reversed 0 n bytes)))
 
   -- delays that no edge makes less
-  pub settled-least : (still : Bool) (w : List ℕ) → still ≡ true → Joined n es → Settles es at n still w u → FillsLeast es at n bytes w v
+  pub settled-least : (still : Bool) (w : List ℕ) → still ≡ true → Joined n es → Settles es at n still w u → FillsLeast reversed es at n bytes w v
   settled-least still w t j s =
       let xs = column at n w in
       let l = length-column at n w in
@@ -209,14 +203,13 @@ module _ (es : List Edge) (at n : ℕ) (bytes v u : List ℕ) (start : Filled at
       }
 
   -- and else both kinds of rounds after the lowered ones
-  pub rounds-least : (still : Bool) (w x y : List ℕ) → Settles es at n still w u → Filled at n (roundsOf false es n (column at n w)) x w
-      → Filled at n (roundsOf true es n (column at n x)) y x → FillsLeast es at n bytes y v
-  rounds-least still w x y s a b = record {
+  pub rounds-least : (still : Bool) (w y : List ℕ) → Settles es at n still w u → Filled at n (bothRounds es n (column at n w)) y w → FillsLeast reversed es at n bytes y v
+  rounds-least still w y s a = record {
     least = record {
       delays = column at n w;
       all = length-column at n w;
       lowered = started-lowered still w s;
-      rounds = b .holds ∙ ap (roundsOf true es n) (a .holds);
+      rounds = a .holds;
     };
-    frame = frame-trans at 2 n y x v (b .frame) (frame-trans at 2 n x w v (a .frame) (frame-trans at 2 n w u v (s .lowers .frame) (start .frame)));
+    frame = frame-trans at 2 n y w v (a .frame) (frame-trans at 2 n w u v (s .lowers .frame) (start .frame));
   }

@@ -1,26 +1,28 @@
 -- Rounds, one after the other.
 use Prim.Native.Nat.{ℕ, zero, suc, _+_, _<_}
 use mathlib.Core.Path.{_≡_, sym, ap, _∙_}
-use mathlib.Core.Bool.{Bool, true}
+use mathlib.Core.Bool.{Bool, true, false}
 use mathlib.Core.List.{List, [], _∷_}
 use lib.ListN.{length}
 use Rattle.automata.proofs.RoundFacts.{iterate-inner, iterate-still}
 use Rattle.automata.specs.InPlace.{Becomes}
 use Rattle.relaxation.specs.declared.Edge.{Edge}
 use Rattle.relaxation.specs.Column.{Room, column, Frame}
-use Rattle.relaxation.specs.Edges.{edges, Joined, Readable, ReadableArcs, swept, roundOf, Filled, roundsOf, starts, started}
+use Rattle.relaxation.specs.Edges.{edges, Joined, Readable, ReadableArcs, swept, roundOf, Filled, roundsOf, bothRounds, starts, started}
 use Rattle.relaxation.proofs.ColumnLaws.{frame-trans}
 use Rattle.relaxation.proofs.SweepLaws.{Bytes, swept-frame, swept-column, started-frame, started-column}
 
--- which states the edges join does not depend on the tapes
-joined-any : (n i j at k : ℕ) (arcs : List ℕ) → Joined n (edges 0 0 at k arcs) → Joined n (edges i j at k arcs)
+-- which states the edges join does not depend on the tapes, nor on whether they are read backwards
+joined-any : (n : ℕ) (reversed : Bool) (i j at k : ℕ) (arcs : List ℕ) → Joined n (edges false 0 0 at k arcs) → Joined n (edges reversed i j at k arcs)
 unfolding Joined edges
-joined-any n i j at zero arcs g = tt
-joined-any n i j at (suc k) arcs g = (g .0, g .1, joined-any n i j (at + 80) k arcs (g .2))
+joined-any n reversed i j at zero arcs g = tt
+joined-any n false i j at (suc k) arcs g = (g .0, g .1, joined-any n false i j (at + 80) k arcs (g .2))
+joined-any n true i j at (suc k) arcs g = (g .1, g .0, joined-any n true i j (at + 80) k arcs (g .2))
 
 -- what a table that can be read gives the rounds on two tapes
-pub readable-arcs : (bytes : List ℕ) (n : ℕ) (arcs : List ℕ) (count i j : ℕ) → Readable bytes n arcs count → i < 8 → j < 8 → ReadableArcs n arcs count i j
-readable-arcs bytes n arcs count i j r f s = record { lent = r .arcs-lent; first-tape = f; second-tape = s; joined = joined-any n i j 0 count arcs (r .joined) }
+pub readable-arcs : (bytes : List ℕ) (n : ℕ) (arcs : List ℕ) (count : ℕ) (reversed : Bool) (i j : ℕ) → Readable bytes n arcs count → i < 8 → j < 8
+    → ReadableArcs n arcs count reversed i j
+readable-arcs bytes n arcs count reversed i j r f s = record { lent = r .arcs-lent; first-tape = f; second-tape = s; joined = joined-any n reversed i j 0 count arcs (r .joined) }
 
 -- a round over the edges es took the column from v to w; same tells that it changed no delay
 pub record Rounded (d : Bool) (es : List Edge) (at n : ℕ) (same : Bool) (w v : List ℕ) : Type 0 where
@@ -62,6 +64,17 @@ pub rounds-end : (d : Bool) (es : List Edge) (at n : ℕ) (v u : List ℕ) (targ
     → Frame at 2 n u v → Filled at n target u v
 rounds-end d es at n v u target left s e f = record { holds = ap (λ (k : ℕ). roundsOf d es k (column at n u)) (sym s) ∙ e; frame = f }
 
+-- rounds of both kinds
+pub rounds-both : (es : List Edge) (at n : ℕ) (y x w : List ℕ) → Filled at n (roundsOf false es n (column at n w)) x w → Filled at n (roundsOf true es n (column at n x)) y x
+    → Filled at n (bothRounds es n (column at n w)) y w
+rounds-both es at n y x w a b = record {
+  holds = b .holds ∙ ap (roundsOf true es n) (a .holds);
+  frame = frame-trans at 2 n y x w (b .frame) (a .frame);
+}
+
 -- the start
-pub started-filled : (at n : ℕ) (bytes v u : List ℕ) → Room at 2 n v → u ≡ started at 0 n bytes v → Filled at n (starts 0 n bytes) u v
-started-filled at n bytes v u l e = record { holds = ap (column at n) e ∙ started-column at 0 n bytes v l; frame = rw e (started-frame at 0 n bytes v l) }
+pub started-filled : (reversed : Bool) (at n : ℕ) (bytes v u : List ℕ) → Room at 2 n v → u ≡ started reversed at 0 n bytes v → Filled at n (starts reversed 0 n bytes) u v
+started-filled reversed at n bytes v u l e = record {
+  holds = ap (column at n) e ∙ started-column reversed at 0 n bytes v l;
+  frame = rw e (started-frame reversed at 0 n bytes v l);
+}

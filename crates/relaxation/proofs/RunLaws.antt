@@ -14,14 +14,17 @@ use Rattle.automata.specs.Lists.{and}
 use Rattle.automata.proofs.TestFacts.{eqb-false}
 use Rattle.automata.specs.InPlace.{Becomes}
 use Rattle.relaxation.specs.declared.Edge.{Edge}
-use Rattle.relaxation.specs.Edges.{edgeAt, edges, Joined, throughEdge, improve, visited, swept, startOf, started}
+use Rattle.relaxation.specs.Edges.{edgeAt, edges, Joined, throughEdge, improve, visited, swept, startOf, flagPlace, started}
 use Rattle.relaxation.specs.Lowered.{next, Run}
 
--- an edge, from its fields
-pub edge-read : (first second at : ℕ) (arcs : List ℕ) (s t u d : ℕ) → s ≡ le (part at 2 arcs) → t ≡ le (part (at + 2) 2 arcs)
-    → u ≡ getD arcs (at + 8 + 9 * first) 0 → d ≡ getD arcs (at + 8 + 9 * second) 0
-    → _≡_ {A = Edge} (record { source = s; target = t; up = u; down = d }) (edgeAt first second at arcs)
-edge-read first second at arcs s t u d a b c e = λ i. record { source = a i; target = b i; up = c i; down = e i }
+-- an edge, from its fields, read forwards and backwards
+module _ (reversed : Bool) (first second at : ℕ) (arcs : List ℕ) (s t u d : ℕ) (a : s ≡ le (part at 2 arcs)) (b : t ≡ le (part (at + 2) 2 arcs))
+    (c : u ≡ getD arcs (at + 8 + 9 * first) 0) (e : d ≡ getD arcs (at + 8 + 9 * second) 0) where
+  pub edge-forwards : reversed ≡ false → _≡_ {A = Edge} (record { source = s; target = t; up = u; down = d }) (edgeAt reversed first second at arcs)
+  edge-forwards r = rw r (λ i. record { source = a i; target = b i; up = c i; down = e i })
+
+  pub edge-backwards : reversed ≡ true → _≡_ {A = Edge} (record { source = t; target = s; up = u; down = d }) (edgeAt reversed first second at arcs)
+  edge-backwards r = rw r (λ i. record { source = b i; target = a i; up = c i; down = e i })
 
 -- the work space after one edge, from what each call gave: the delay of its source stays, ...
 module _ (diverging : Bool) (at : ℕ) (e : Edge) (w : List ℕ) (v t x r : ℕ) (a : v ≡ le (part (at + 64 * e .target) 2 w)) (b : t ≡ throughEdge (e .up) (e .down) v)
@@ -44,42 +47,44 @@ module _ (diverging : Bool) (at : ℕ) (e : Edge) (w : List ℕ) (v t x r : ℕ)
 -- ---- arcs
 
 -- one of the first edges
-pub joined-at : (n first second at count k from : ℕ) (arcs : List ℕ) (e : Edge) → Joined n (edges first second at count arcs) → k < count → from ≡ at + 80 * k
-    → e ≡ edgeAt first second from arcs → (e .source < n) × (e .target < n)
+pub joined-at : (n : ℕ) (reversed : Bool) (first second at count k from : ℕ) (arcs : List ℕ) (e : Edge) → Joined n (edges reversed first second at count arcs) → k < count → from ≡ at + 80 * k
+    → e ≡ edgeAt reversed first second from arcs → (e .source < n) × (e .target < n)
 unfolding Joined edges
-joined-at n first second at zero k from arcs e j l f g = absurd (omega arith)
-joined-at n first second at (suc count) zero from arcs e j l f g = let z : from ≡ at = omega arith in rw (g, z) (j .0, j .1)
-joined-at n first second at (suc count) (suc k) from arcs e j l f g = joined-at n first second (at + 80) count k from arcs e (j .2) (omega arith) (omega arith) g
+joined-at n reversed first second at zero k from arcs e j l f g = absurd (omega arith)
+joined-at n reversed first second at (suc count) zero from arcs e j l f g = let z : from ≡ at = omega arith in rw (g, z) (j .0, j .1)
+joined-at n reversed first second at (suc count) (suc k) from arcs e j l f g = joined-at n reversed first second (at + 80) count k from arcs e (j .2) (omega arith) (omega arith) g
 
 -- its place among all
-pub edges-place : (first second at count k from : ℕ) (arcs : List ℕ) (e : Edge) → k < count → from ≡ at + 80 * k → e ≡ edgeAt first second from arcs
-    → getElem? (edges first second at count arcs) k ≡ some e
+pub edges-place : (reversed : Bool) (first second at count k from : ℕ) (arcs : List ℕ) (e : Edge) → k < count → from ≡ at + 80 * k → e ≡ edgeAt reversed first second from arcs
+    → getElem? (edges reversed first second at count arcs) k ≡ some e
 unfolding edges
-edges-place first second at zero k from arcs e l f g = absurd (omega arith)
-edges-place first second at (suc count) zero from arcs e l f g = let z : from ≡ at = omega arith in rw (g, z)
-edges-place first second at (suc count) (suc k) from arcs e l f g = edges-place first second (at + 80) count k from arcs e (omega arith) (omega arith) g
+edges-place reversed first second at zero k from arcs e l f g = absurd (omega arith)
+edges-place reversed first second at (suc count) zero from arcs e l f g = let z : from ≡ at = omega arith in rw (g, z)
+edges-place reversed first second at (suc count) (suc k) from arcs e l f g = edges-place reversed first second (at + 80) count k from arcs e (omega arith) (omega arith) g
 
 -- a run goes on by it
-pub run-turn : (first second count q p up down k from : ℕ) (arcs : List ℕ) (e : Edge) → k < count → from ≡ 80 * k → e ≡ edgeAt first second from arcs → e .source ≡ p
-    → Run (edges first second 0 count arcs) q p up down → Run (edges first second 0 count arcs) q (e .target) (up + e .up) (down + e .down)
-run-turn first second count q p up down k from arcs e l f g h r = next k e (edges-place first second 0 count k from arcs e l (omega arith) g) h r
+pub run-turn : (reversed : Bool) (first second count q p up down k from : ℕ) (arcs : List ℕ) (e : Edge) → k < count → from ≡ 80 * k → e ≡ edgeAt reversed first second from arcs → e .source ≡ p
+    → Run (edges reversed first second 0 count arcs) q p up down → Run (edges reversed first second 0 count arcs) q (e .target) (up + e .up) (down + e .down)
+run-turn reversed first second count q p up down k from arcs e l f g h r = next k e (edges-place reversed first second 0 count k from arcs e l (omega arith) g) h r
 
 -- a round that has left edges before it: those behind are done, and nothing changed where same is told
-pub record Sweeping (diverging : Bool) (at first second count : ℕ) (arcs v w : List ℕ) (left from : ℕ) (same : Bool) : Type 0 where
+pub record Sweeping (diverging : Bool) (at : ℕ) (reversed : Bool) (first second count : ℕ) (arcs v w : List ℕ) (left from : ℕ) (same : Bool) : Type 0 where
   pub place : from ≡ 80 * left
   pub few : left ≤ count
-  pub is : w ≡ swept diverging at (edges first second from (count - left) arcs) v
+  pub is : w ≡ swept diverging at (edges reversed first second from (count - left) arcs) v
   pub still : same ≡ true → w ≡ v
 
-pub sweep-start : (diverging : Bool) (at first second count : ℕ) (arcs v : List ℕ) → Sweeping diverging at first second count arcs v v count (80 * count) true
+pub sweep-start : (diverging : Bool) (at : ℕ) (reversed : Bool) (first second count : ℕ) (arcs v : List ℕ)
+    → Sweeping diverging at reversed first second count arcs v v count (80 * count) true
 unfolding swept edges
-sweep-start diverging at first second count arcs v =
+sweep-start diverging at reversed first second count arcs v =
     let z : count - count ≡ 0 = omega arith in record { place = refl; few = omega arith; is = rw z; still = λ h. refl }
 
-module _ (diverging : Bool) (at first second count : ℕ) (arcs v w : List ℕ) (left from : ℕ) (same : Bool) (s : Sweeping diverging at first second count arcs v w left from same) where
+module _ (diverging : Bool) (at : ℕ) (reversed : Bool) (first second count : ℕ) (arcs v w : List ℕ) (left from : ℕ) (same : Bool)
+    (s : Sweeping diverging at reversed first second count arcs v w left from same) where
   -- one edge more
-  pub sweep-turn : (w2 : List ℕ) (left2 from2 : ℕ) (kept same2 : Bool) (e : Edge) → left ≡ suc left2 → from2 ≡ from - 80 → e ≡ edgeAt first second from2 arcs
-      → Becomes (visited diverging at e w) kept w2 w → same2 ≡ and same kept → Sweeping diverging at first second count arcs v w2 left2 from2 same2
+  pub sweep-turn : (w2 : List ℕ) (left2 from2 : ℕ) (kept same2 : Bool) (e : Edge) → left ≡ suc left2 → from2 ≡ from - 80 → e ≡ edgeAt reversed first second from2 arcs
+      → Becomes (visited diverging at e w) kept w2 w → same2 ≡ and same kept → Sweeping diverging at reversed first second count arcs v w2 left2 from2 same2
   unfolding swept edges
   sweep-turn w2 left2 from2 kept same2 e l f g b h =
       let p = s .place in
@@ -98,7 +103,7 @@ module _ (diverging : Bool) (at first second count : ℕ) (arcs v w : List ℕ) 
       told false y t f g = absurd (false≢true t)
 
   -- no edge more
-  pub sweep-end : left ≡ 0 → Becomes (swept diverging at (edges first second 0 count arcs) v) same w v
+  pub sweep-end : left ≡ 0 → Becomes (swept diverging at (edges reversed first second 0 count arcs) v) same w v
   sweep-end l =
       let p = s .place in
       let z : count - left ≡ count = omega arith in
@@ -107,11 +112,11 @@ module _ (diverging : Bool) (at first second count : ℕ) (arcs v w : List ℕ) 
 
 -- ---- the delays that the states start with
 
-pub started-turn : (at from left rest : ℕ) (bytes w w2 : List ℕ) (v : ℕ) → left ≡ suc rest → v ≡ startOf (getD bytes (from + 5) 0) → w2 ≡ splice at (toLe 2 v) w
-    → started (at + 64) (from + 10) rest bytes w2 ≡ started at from left bytes w
+pub started-turn : (reversed : Bool) (at from left rest : ℕ) (bytes w w2 : List ℕ) (flag v : ℕ) → left ≡ suc rest → flag ≡ flagPlace reversed
+    → v ≡ startOf (getD bytes (from + flag) 0) → w2 ≡ splice at (toLe 2 v) w → started reversed (at + 64) (from + 10) rest bytes w2 ≡ started reversed at from left bytes w
 unfolding started
-started-turn at from left rest bytes w w2 v s f g = rw (s, g, f)
+started-turn reversed at from left rest bytes w w2 flag v s p f g = rw (s, g, f, p)
 
-pub started-end : (at from left : ℕ) (bytes w : List ℕ) → left ≡ 0 → w ≡ started at from left bytes w
+pub started-end : (reversed : Bool) (at from left : ℕ) (bytes w : List ℕ) → left ≡ 0 → w ≡ started reversed at from left bytes w
 unfolding started
-started-end at from left bytes w s = rw s
+started-end reversed at from left bytes w s = rw s

@@ -20,7 +20,7 @@ use Rattle.automata.specs.Closing.{origin, missing, endless}
 use Rattle.automata.proofs.TestFacts.{ltb-false}
 use Rattle.relaxation.specs.declared.Edge.{Edge}
 use Rattle.relaxation.specs.Column.{Room, Outside, column, Frame}
-use Rattle.relaxation.specs.Edges.{edgeGraph, Joined, throughEdge, improve, improveEdge, visited, swept, startOf, starts, started}
+use Rattle.relaxation.specs.Edges.{edgeGraph, Joined, throughEdge, improve, improveEdge, visited, swept, startOf, flagPlace, starts, started}
 use Rattle.relaxation.proofs.ColumnLaws.{column-at, column-ext, column-store, frame-store, frame-refl, frame-trans, frame-keeps}
 
 -- the elements of a list are bytes
@@ -184,15 +184,15 @@ frame-suc at m n w v f = record { same-length = f .same-length; same = go }
 frame-first : (at n x : ℕ) (w : List ℕ) → Room at 2 (suc n) w → Frame at 2 (suc n) (splice at (toLe 2 x) w) w
 frame-first at n x w l = let e : at + 64 * 0 ≡ at = omega arith in rw e at (frame-store at (suc n) 0 x w (omega arith) l)
 
-pub started-frame : (at from n : ℕ) (bytes w : List ℕ) → Room at 2 n w → Frame at 2 n (started at from n bytes w) w
+pub started-frame : (reversed : Bool) (at from n : ℕ) (bytes w : List ℕ) → Room at 2 n w → Frame at 2 n (started reversed at from n bytes w) w
 unfolding started
-started-frame at from zero bytes w l = frame-refl at 2 0 w
-started-frame at from (suc n) bytes w l =
-    let x = startOf (getD bytes (from + 5) 0) in
+started-frame reversed at from zero bytes w l = frame-refl at 2 0 w
+started-frame reversed at from (suc n) bytes w l =
+    let x = startOf (getD bytes (from + flagPlace reversed) 0) in
     let w2 = splice at (toLe 2 x) w in
     let f = frame-first at n x w l in
     let e : length w2 ≡ length w = f .same-length in
-    frame-trans at 2 (suc n) _ w2 w (frame-suc at 2 n _ w2 (started-frame (at + 64) (from + 10) n bytes w2 (omega arith))) f
+    frame-trans at 2 (suc n) _ w2 w (frame-suc at 2 n _ w2 (started-frame reversed (at + 64) (from + 10) n bytes w2 (omega arith))) f
 
 start-fits : (b : ℕ) → startOf b < 65536
 start-fits b = go (eqb b 0)
@@ -202,16 +202,16 @@ start-fits b = go (eqb b 0)
     go false = omega arith
 
 -- the column holds them
-pub started-column : (at from n : ℕ) (bytes w : List ℕ) → Room at 2 n w → column at n (started at from n bytes w) ≡ starts from n bytes
+pub started-column : (reversed : Bool) (at from n : ℕ) (bytes w : List ℕ) → Room at 2 n w → column at n (started reversed at from n bytes w) ≡ starts reversed from n bytes
 unfolding started starts column
-started-column at from zero bytes w l = refl
-started-column at from (suc n) bytes w l =
-    let x = startOf (getD bytes (from + 5) 0) in
+started-column reversed at from zero bytes w l = refl
+started-column reversed at from (suc n) bytes w l =
+    let x = startOf (getD bytes (from + flagPlace reversed) 0) in
     let w2 = splice at (toLe 2 x) w in
     let e : length w2 ≡ length w = frame-first at n x w l .same-length in
-    let g = started-frame (at + 64) (from + 10) n bytes w2 (omega arith) in
-    let u = start-fits (getD bytes (from + 5) 0) in
-    let w3 = started (at + 64) (from + 10) n bytes w2 in
+    let g = started-frame reversed (at + 64) (from + 10) n bytes w2 (omega arith) in
+    let u = start-fits (getD bytes (from + flagPlace reversed) 0) in
+    let w3 = started reversed (at + 64) (from + 10) n bytes w2 in
     let h : le (part at 2 w3) ≡ x
     = frame-keeps (at + 64) 2 n w3 w2 g at (omega arith) (inl (omega arith)) (inl (omega arith)) ∙ le-splice 2 x at w u (omega arith) in
-    ap₂ (λ (y : ℕ) (ys : List ℕ). y ∷ ys) h (started-column (at + 64) (from + 10) n bytes w2 (omega arith))
+    ap₂ (λ (y : ℕ) (ys : List ℕ). y ∷ ys) h (started-column reversed (at + 64) (from + 10) n bytes w2 (omega arith))

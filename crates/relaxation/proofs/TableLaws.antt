@@ -1,7 +1,7 @@
 -- The edges and the starting delays that the code reads are those of the table in memory, so its rounds are those of the definition.
 use Prim.Native.Nat.{ℕ, zero, suc, _+_, _-_, _*_, _%_, _/_, _<_}
 use mathlib.Core.Path.{_≡_, refl, sym, ap, subst, _∙_}
-use mathlib.Core.Bool.{true, false}
+use mathlib.Core.Bool.{Bool, true, false}
 use mathlib.Core.Option.{Option, none, some}
 use mathlib.Core.List.{List, [], _∷_, _++_, map}
 use native.Mathlib.Omega.{arith}
@@ -17,7 +17,8 @@ use Rattle.automata.specs.Automaton.{Automaton, Arc, State, labelOn, lengthOn, 
 use Rattle.automata.specs.Closing.{origin, missing, startDelays, through, relax, diverge, leastDelays}
 use Rattle.automata.specs.Lists.{All}
 use Rattle.automata.specs.Table.{WellFormed, WellFormedArc}
-use Rattle.automata.specs.Memory.{Memory, Holds, flag}
+use Rattle.automata.specs.Memory.{Memory, Holds, flag, stateRecord}
+use Rattle.automata.specs.Reversal.{turned, exchanged, directed}
 use Rattle.automata.proofs.RecordFacts.{All-at}
 use Rattle.automata.proofs.WellFormedFacts.{well-formed}
 use Rattle.automata.proofs.RoundFacts.{iterate-same}
@@ -26,9 +27,10 @@ use Rattle.automata.proofs.Walks.{walk-append}
 use Rattle.automata.proofs.AutomatonFacts.{lengthOn-nil, lengthOn-cons, lengthOn-append}
 use Rattle.automata.proofs.RelaxedDelays.{through-cases}
 use Rattle.automata.proofs.InPlaceDelays.{Held, start-held, arc-held, cycle-held, in-place-least}
+use Rattle.automata.proofs.ReversalFacts.{size-directed, directed-formed}
 use Rattle.automata.proofs.MemoryLaws.{arc-field, label-field, state-field}
 use Rattle.relaxation.specs.declared.Edge.{Edge}
-use Rattle.relaxation.specs.Edges.{edgeAt, edges, edgeGraph, Joined, throughEdge, improveEdge, roundOf, roundsOf, startOf, starts}
+use Rattle.relaxation.specs.Edges.{edgeAt, edges, edgeGraph, Joined, throughEdge, improveEdge, roundOf, roundsOf, bothRounds, startOf, flagPlace, starts}
 use Rattle.relaxation.specs.Lowered.{none, next, own, along, around, Run, Stands, Lowered, Least}
 
 -- an arc as relaxation on the tapes i and j takes it
@@ -41,27 +43,27 @@ map-at f [] k x y h = absurd (omega arith)
 map-at f (z ∷ xs) zero x y h = refl
 map-at f (z ∷ xs) (suc k) x y h = map-at f xs k x y (omega arith)
 
-length-edges : (i j at n : ℕ) (arcs : List ℕ) → length (edges i j at n arcs) ≡ n
+length-edges : (r : Bool) (i j at n : ℕ) (arcs : List ℕ) → length (edges r i j at n arcs) ≡ n
 unfolding edges
-length-edges i j at zero arcs = refl
-length-edges i j at (suc n) arcs = ap suc (length-edges i j (at + 80) n arcs)
+length-edges r i j at zero arcs = refl
+length-edges r i j at (suc n) arcs = ap suc (length-edges r i j (at + 80) n arcs)
 
-edges-at : (i j at n : ℕ) (arcs : List ℕ) (k : ℕ) (d : Edge) → k < n → getD (edges i j at n arcs) k d ≡ edgeAt i j (at + 80 * k) arcs
+edges-at : (r : Bool) (i j at n : ℕ) (arcs : List ℕ) (k : ℕ) (d : Edge) → k < n → getD (edges r i j at n arcs) k d ≡ edgeAt r i j (at + 80 * k) arcs
 unfolding edges
-edges-at i j at zero arcs k d h = absurd (omega arith)
-edges-at i j at (suc n) arcs zero d h = ap (λ (p : ℕ). edgeAt i j p arcs) (omega arith)
-edges-at i j at (suc n) arcs (suc k) d h = edges-at i j (at + 80) n arcs k d (omega arith) ∙ ap (λ (p : ℕ). edgeAt i j p arcs) (omega arith)
+edges-at r i j at zero arcs k d h = absurd (omega arith)
+edges-at r i j at (suc n) arcs zero d h = ap (λ (p : ℕ). edgeAt r i j p arcs) (omega arith)
+edges-at r i j at (suc n) arcs (suc k) d h = edges-at r i j (at + 80) n arcs k d (omega arith) ∙ ap (λ (p : ℕ). edgeAt r i j p arcs) (omega arith)
 
-length-starts : (from n : ℕ) (bytes : List ℕ) → length (starts from n bytes) ≡ n
+length-starts : (r : Bool) (from n : ℕ) (bytes : List ℕ) → length (starts r from n bytes) ≡ n
 unfolding starts
-length-starts from zero bytes = refl
-length-starts from (suc n) bytes = ap suc (length-starts (from + 10) n bytes)
+length-starts r from zero bytes = refl
+length-starts r from (suc n) bytes = ap suc (length-starts r (from + 10) n bytes)
 
-starts-at : (from n : ℕ) (bytes : List ℕ) (k d : ℕ) → k < n → getD (starts from n bytes) k d ≡ startOf (getD bytes (from + 10 * k + 5) 0)
+starts-at : (r : Bool) (from n : ℕ) (bytes : List ℕ) (k d : ℕ) → k < n → getD (starts r from n bytes) k d ≡ startOf (getD bytes (from + 10 * k + flagPlace r) 0)
 unfolding starts
-starts-at from zero bytes k d h = absurd (omega arith)
-starts-at from (suc n) bytes zero d h = ap (λ (p : ℕ). startOf (getD bytes p 0)) (omega arith)
-starts-at from (suc n) bytes (suc k) d h = starts-at (from + 10) n bytes k d (omega arith) ∙ ap (λ (p : ℕ). startOf (getD bytes p 0)) (omega arith)
+starts-at r from zero bytes k d h = absurd (omega arith)
+starts-at r from (suc n) bytes zero d h = ap (λ (p : ℕ). startOf (getD bytes p 0)) (omega arith)
+starts-at r from (suc n) bytes (suc k) d h = starts-at r (from + 10) n bytes k d (omega arith) ∙ ap (λ (p : ℕ). startOf (getD bytes p 0)) (omega arith)
 
 start-flag : (o : Option ℕ) → startOf (flag o .0) ≡ if (isSome o) origin missing
 start-flag none = refl
@@ -103,32 +105,59 @@ module _ (m : Memory) (t : Automaton ℕ) (w : WellFormed t) (h : Holds m t) whe
         ap (λ (q : ℕ). getD (m .arcBytes) q 0) e ∙ sym (getD-drop p (m .arcBytes) 0 0) ∙ sym (getD-take 9 (drop p (m .arcBytes)) 0 0 (omega arith))
         ∙ ap (λ (x : List ℕ). getD x 0 0) (label-field m t w h k noArc l i b)
 
+    -- it as it is read
+    edge-is : (r : Bool) (i j : ℕ) → i < t .tapes → j < t .tapes → edgeAt r i j (0 + 80 * k) (m .arcBytes) ≡ edgeOf i j (getD (directed r t .arcs) k noArc)
+    edge-is false i j a b = λ z. record { source = source-is z; target = target-is z; up = label-is i a z; down = label-is j b z }
+    edge-is true i j a b =
+        (λ z. record { source = target-is z; target = source-is z; up = label-is i a z; down = label-is j b z })
+        ∙ ap (edgeOf i j) (sym (map-at turned (t .arcs) k noArc noArc (omega (arith, h .arcs))))
+
+  -- there are as many arcs either way
+  arcs-count : (r : Bool) → m .arcs ≡ length (directed r t .arcs)
+  arcs-count false = h .arcs
+  arcs-count true = h .arcs ∙ sym (length-map (t .arcs) turned)
+
+  -- and as many states
+  states-count : (r : Bool) → m .states ≡ size (directed r t)
+  states-count r = h .states ∙ sym (size-directed r t)
+
   -- the edges are the arcs
-  pub edges-are : (i j : ℕ) → i < t .tapes → j < t .tapes → edges i j 0 (m .arcs) (m .arcBytes) ≡ map (edgeOf i j) (t .arcs)
-  edges-are i j a b =
+  pub edges-are : (r : Bool) (i j : ℕ) → i < t .tapes → j < t .tapes → edges r i j 0 (m .arcs) (m .arcBytes) ≡ map (edgeOf i j) (directed r t .arcs)
+  edges-are r i j a b =
       let d = edgeOf i j noArc in
-      let n = length-edges i j 0 (m .arcs) (m .arcBytes) in
-      ext-getD d (edges i j 0 (m .arcs) (m .arcBytes)) (map (edgeOf i j) (t .arcs)) (n ∙ h .arcs ∙ sym (length-map (t .arcs) (edgeOf i j)))
+      let rs = directed r t .arcs in
+      let n = length-edges r i j 0 (m .arcs) (m .arcBytes) in
+      ext-getD d (edges r i j 0 (m .arcs) (m .arcBytes)) (map (edgeOf i j) rs) (n ∙ arcs-count r ∙ sym (length-map rs (edgeOf i j)))
       (λ k l.
       let c : k < m .arcs = omega (arith, n) in
-      edges-at i j 0 (m .arcs) (m .arcBytes) k d c ∙ (λ z. record { source = source-is k c z; target = target-is k c z; up = label-is k c i a z; down = label-is k c j b z })
-      ∙ sym (map-at (edgeOf i j) (t .arcs) k noArc d (omega (arith, h .arcs))))
+      edges-at r i j 0 (m .arcs) (m .arcBytes) k d c ∙ edge-is k c r i j a b ∙ sym (map-at (edgeOf i j) rs k noArc d (omega (arith, arcs-count r))))
+
+  -- a flag of the k-th state, by its place in the record
+  module _ (k : ℕ) (l : k < m .states) where
+    flag-byte : (o : ℕ) → o < 10 → getD (m .stateBytes) (0 + 10 * k + o) 0 ≡ getD (take 1 (drop o (stateRecord .write (getD (t .states) k noState)))) 0 0
+    flag-byte o b =
+        let p = k * 10 + o in
+        let e : 0 + 10 * k + o ≡ p + 0 = omega arith in
+        ap (λ (q : ℕ). getD (m .stateBytes) q 0) e ∙ sym (getD-drop p (m .stateBytes) 0 0) ∙ sym (getD-take 1 (drop p (m .stateBytes)) 0 0 (omega arith))
+        ∙ ap (λ (x : List ℕ). getD x 0 0) (state-field m t w h k noState l o 1 (omega arith))
+
+    -- it as it is read
+    flag-is : (r : Bool) → getD (m .stateBytes) (0 + 10 * k + flagPlace r) 0 ≡ flag (getD (directed r t .states) k noState .final) .0
+    flag-is false = flag-byte 5 (omega arith)
+    flag-is true =
+        flag-byte 0 (omega arith) ∙ ap (λ (s : State ℕ). flag (s .final) .0) (sym (map-at exchanged (t .states) k noState noState (omega (arith, h .states))))
 
   -- the starting delays are those of the states
-  pub starts-are : starts 0 (m .states) (m .stateBytes) ≡ startDelays t
-  starts-are =
+  pub starts-are : (r : Bool) → starts r 0 (m .states) (m .stateBytes) ≡ startDelays (directed r t)
+  starts-are r =
       let f : State ℕ → ℕ = λ s. if (isSome (s .final)) origin missing in
-      let n = length-starts 0 (m .states) (m .stateBytes) in
-      ext-getD 0 (starts 0 (m .states) (m .stateBytes)) (startDelays t) (n ∙ h .states ∙ sym (length-map (t .states) f))
+      let ss = directed r t .states in
+      let n = length-starts r 0 (m .states) (m .stateBytes) in
+      ext-getD 0 (starts r 0 (m .states) (m .stateBytes)) (startDelays (directed r t)) (n ∙ states-count r ∙ sym (length-map ss f))
       (λ k l.
       let c : k < m .states = omega (arith, n) in
-      let p = k * 10 + 5 in
-      let e : 0 + 10 * k + 5 ≡ p + 0 = omega arith in
-      let g : getD (m .stateBytes) (0 + 10 * k + 5) 0 ≡ flag (getD (t .states) k noState .final) .0
-      = ap (λ (q : ℕ). getD (m .stateBytes) q 0) e ∙ sym (getD-drop p (m .stateBytes) 0 0) ∙ sym (getD-take 1 (drop p (m .stateBytes)) 0 0 (omega arith))
-      ∙ ap (λ (x : List ℕ). getD x 0 0) (state-field m t w h k noState c 5 1 (omega arith)) in
-      starts-at 0 (m .states) (m .stateBytes) k 0 c ∙ ap startOf g ∙ start-flag (getD (t .states) k noState .final)
-      ∙ sym (map-at f (t .states) k noState 0 (omega (arith, h .states))))
+      starts-at r 0 (m .states) (m .stateBytes) k 0 c ∙ ap startOf (flag-is k c r) ∙ start-flag (getD ss k noState .final)
+      ∙ sym (map-at f ss k noState 0 (omega (arith, states-count r))))
 
 -- the arcs join states of the table
 pub joined-are : (tapes states i j : ℕ) (rs : List (Arc ℕ)) → All (WellFormedArc tapes states) rs → Joined states (map (edgeOf i j) rs)
@@ -183,7 +212,7 @@ module _ (t : Automaton ℕ) (ok : Formed t) (i j : ℕ) where
 
   -- what relaxation and divergence in place leave of lowered delays are the least ones of the definition
   lowered-least : (ys : List ℕ) → length ys ≡ size t → Lowered (map (edgeOf i j) (t .arcs)) (size t) (startDelays t) ys
-      → roundsOf true (map (edgeOf i j) (t .arcs)) (size t) (roundsOf false (map (edgeOf i j) (t .arcs)) (size t) ys) ≡ leastDelays t i j
+      → bothRounds (map (edgeOf i j) (t .arcs)) (size t) ys ≡ leastDelays t i j
   lowered-least ys all l =
       let es = map (edgeOf i j) (t .arcs) in
       ap (roundsOf true es (size t)) (iterate-same (roundOf false es) (roundInPlace (graph t) missing (relax i j)) (λ x. relax-sweep t es i j x (t .arcs)) (size t) ys)
@@ -191,9 +220,11 @@ module _ (t : Automaton ℕ) (ok : Formed t) (i j : ℕ) where
       (iterate (size t) (roundInPlace (graph t) missing (relax i j)) ys)
       ∙ (in-place-least t ok i j) ys all (λ q lt. stands-held (l .stands q lt)) (l .less)
 
--- the least delays that the code finds are those of the definition
-pub least-are : (m : Memory) (t : Automaton ℕ) → WellFormed t → Holds m t → (i j : ℕ) → i < t .tapes → j < t .tapes
-    → (zs : List ℕ) → Least (edges i j 0 (m .arcs) (m .arcBytes)) (m .states) (m .stateBytes) zs → zs ≡ leastDelays t i j
-least-are m t w h i j a b zs l =
-    let e = edges-are m t w h i j a b in
-    l .rounds ∙ (rw (e, h .states) (lowered-least t (well-formed t w) i j (l .delays) (l .all ∙ h .states) (rw (e, starts-are m t w h, h .states) at (l .lowered))))
+-- the least delays that the code finds are those of the definition, for the table and for its reversal
+pub least-are : (m : Memory) (t : Automaton ℕ) → WellFormed t → Holds m t → (r : Bool) (i j : ℕ) → i < t .tapes → j < t .tapes
+    → (zs : List ℕ) → Least r (edges r i j 0 (m .arcs) (m .arcBytes)) (m .states) (m .stateBytes) zs → zs ≡ leastDelays (directed r t) i j
+least-are m t w h r i j a b zs l =
+    let e = edges-are m t w h r i j a b in
+    let n = states-count m t w h r in
+    l .rounds
+    ∙ (rw (e, n) (lowered-least (directed r t) (directed-formed r t (well-formed t w)) i j (l .delays) (l .all ∙ n) (rw (e, starts-are m t w h r, n) at (l .lowered))))

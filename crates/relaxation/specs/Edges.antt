@@ -1,6 +1,6 @@
 -- The arcs as relaxation reads them: source, target, and the lengths of the labels on two tapes.
 use Prim.Native.Nat.{ℕ, zero, suc, _+_, _-_, _*_, _<_, _≤_, min}
-use mathlib.Core.Bool.{Bool}
+use mathlib.Core.Bool.{Bool, true, false}
 use mathlib.Core.List.{List, [], _∷_}
 use lib.Dec.{eqb, ltb}
 use lib.ListN.{length, getD}
@@ -15,19 +15,19 @@ use Rattle.automata.specs.Closing.{origin, endless, missing}
 use Rattle.relaxation.specs.declared.Edge.{Edge}
 use Rattle.relaxation.specs.Column.{column, Frame}
 
--- the arc record at place at, read on the tapes first and second, counted from 0
-abbrev pub edgeAt : ℕ → ℕ → ℕ → List ℕ → Edge
-edgeAt first second at arcs = record {
-  source = le (part at 2 arcs);
-  target = le (part (at + 2) 2 arcs);
+-- the arc record at place at, read on the tapes first and second, counted from 0, and backwards where reversed
+abbrev pub edgeAt : Bool → ℕ → ℕ → ℕ → List ℕ → Edge
+edgeAt reversed first second at arcs = record {
+  source = if reversed (le (part (at + 2) 2 arcs)) (le (part at 2 arcs));
+  target = if reversed (le (part at 2 arcs)) (le (part (at + 2) 2 arcs));
   up = getD arcs (at + 8 + 9 * first) 0;
   down = getD arcs (at + 8 + 9 * second) 0;
 }
 
 -- the n arc records from place at
-unfoldable pub edges : ℕ → ℕ → ℕ → ℕ → List ℕ → List Edge
-edges first second at zero arcs = []
-edges first second at (suc n) arcs = edgeAt first second at arcs ∷ edges first second (at + 80) n arcs
+unfoldable pub edges : Bool → ℕ → ℕ → ℕ → ℕ → List ℕ → List Edge
+edges reversed first second at zero arcs = []
+edges reversed first second at (suc n) arcs = edgeAt reversed first second at arcs ∷ edges reversed first second (at + 80) n arcs
 
 abbrev pub edgeGraph : List Edge → Graph Edge
 edgeGraph es = record { source = λ e. e .source; target = λ e. e .target; arcs = es }
@@ -38,17 +38,17 @@ Joined n [] = Unit {0}
 Joined n (e ∷ es) = (e .source < n) × (e .target < n) × Joined n es
 
 -- what a round on two tapes asks of the arc records: they are wholly lent, the tapes are of eight, and the arcs join n states
-pub record ReadableArcs (n : ℕ) (arcs : List ℕ) (count first second : ℕ) : Type 0 where
+pub record ReadableArcs (n : ℕ) (arcs : List ℕ) (count : ℕ) (reversed : Bool) (first second : ℕ) : Type 0 where
   pub lent : 80 * count ≤ length arcs
   pub first-tape : first < 8
   pub second-tape : second < 8
-  pub joined : Joined n (edges first second 0 count arcs)
+  pub joined : Joined n (edges reversed first second 0 count arcs)
 
 -- what relaxation asks of a table: the records of n states and of the arcs are wholly lent, and the arcs join these states
 pub record Readable (bytes : List ℕ) (n : ℕ) (arcs : List ℕ) (count : ℕ) : Type 0 where
   pub states-lent : 10 * n ≤ length bytes
   pub arcs-lent : 80 * count ≤ length arcs
-  pub joined : Joined n (edges 0 0 0 count arcs)
+  pub joined : Joined n (edges false 0 0 0 count arcs)
 
 -- the least delay through an edge, v being the one from its target on
 abbrev pub throughEdge : ℕ → ℕ → ℕ → ℕ
@@ -78,19 +78,24 @@ unfoldable pub swept : Bool → ℕ → List Edge → List ℕ → List ℕ
 swept diverging at [] w = w
 swept diverging at (e ∷ es) w = visited diverging at e (swept diverging at es w)
 
--- the delay that a state starts with, by its flag for a final weight
+-- the delay that a state starts with, by its flag for a weight
 abbrev pub startOf : ℕ → ℕ
 startOf flag = if (eqb flag 0) missing origin
 
+-- the place of this flag in a state record: that for a final weight, and that for an initial weight where reversed
+abbrev pub flagPlace : Bool → ℕ
+flagPlace reversed = if reversed 0 5
+
 -- the delays that n states start with, from their records from place from
-unfoldable pub starts : ℕ → ℕ → List ℕ → List ℕ
-starts from zero bytes = []
-starts from (suc n) bytes = startOf (getD bytes (from + 5) 0) ∷ starts (from + 10) n bytes
+unfoldable pub starts : Bool → ℕ → ℕ → List ℕ → List ℕ
+starts reversed from zero bytes = []
+starts reversed from (suc n) bytes = startOf (getD bytes (from + flagPlace reversed) 0) ∷ starts reversed (from + 10) n bytes
 
 -- the work space with these delays in the column at place at
-unfoldable pub started : ℕ → ℕ → ℕ → List ℕ → List ℕ → List ℕ
-started at from zero bytes w = w
-started at from (suc n) bytes w = started (at + 64) (from + 10) n bytes (splice at (toLe 2 (startOf (getD bytes (from + 5) 0))) w)
+unfoldable pub started : Bool → ℕ → ℕ → ℕ → List ℕ → List ℕ → List ℕ
+started reversed at from zero bytes w = w
+started reversed at from (suc n) bytes w =
+    started reversed (at + 64) (from + 10) n bytes (splice at (toLe 2 (startOf (getD bytes (from + flagPlace reversed) 0))) w)
 
 -- the column at place at holds the delays xs, and nothing else changed from v to w
 pub record Filled (at n : ℕ) (xs w v : List ℕ) : Type 0 where
@@ -100,3 +105,7 @@ pub record Filled (at n : ℕ) (xs w v : List ℕ) : Type 0 where
 -- the delays after as many rounds as there are states
 abbrev pub roundsOf : Bool → List Edge → ℕ → List ℕ → List ℕ
 roundsOf diverging es n xs = iterate n (roundOf diverging es) xs
+
+-- and after as many of relaxation and then of divergence
+abbrev pub bothRounds : List Edge → ℕ → List ℕ → List ℕ
+bothRounds es n xs = roundsOf true es n (roundsOf false es n xs)

@@ -10,7 +10,7 @@ use lib.ListN.{length, getD, getElem?}
 use Rattle.automata.specs.Closing.{endless, missing}
 use Rattle.relaxation.specs.declared.Edge.{Edge}
 use Rattle.relaxation.specs.Column.{column, Frame}
-use Rattle.relaxation.specs.Edges.{throughEdge, roundOf, roundsOf, starts}
+use Rattle.relaxation.specs.Edges.{throughEdge, roundOf, bothRounds, starts}
 
 -- a run of edges from q to p, with so many symbols on the first tape and on the second
 pub data Run (es : List Edge) (q : ℕ) : ℕ → ℕ → ℕ → Type 0 where
@@ -47,15 +47,15 @@ pub record Settles (es : List Edge) (at n : ℕ) (still : Bool) (w v : List ℕ)
   pub lowers : Lowers es at n w v
   pub stable : still ≡ true → roundOf false es (column at n w) ≡ column at n w
 
--- zs are the least delays of n states, by their records and the edges: what relaxation and divergence leave of lowered
--- delays
-pub record Least (es : List Edge) (n : ℕ) (bytes zs : List ℕ) : Type 0 where
+-- zs are the least delays of n states, by their records, read backwards where reversed, and the edges: what relaxation
+-- and divergence leave of lowered delays
+pub record Least (reversed : Bool) (es : List Edge) (n : ℕ) (bytes zs : List ℕ) : Type 0 where
   pub delays : List ℕ
   pub all : length delays ≡ n
-  pub lowered : Lowered es n (starts 0 n bytes) delays
-  pub rounds : zs ≡ roundsOf true es n (roundsOf false es n delays)
+  pub lowered : Lowered es n (starts reversed 0 n bytes) delays
+  pub rounds : zs ≡ bothRounds es n delays
 
 -- the column at place at holds the least delays, and nothing else changed from v to w
-pub record FillsLeast (es : List Edge) (at n : ℕ) (bytes w v : List ℕ) : Type 0 where
-  pub least : Least es n bytes (column at n w)
+pub record FillsLeast (reversed : Bool) (es : List Edge) (at n : ℕ) (bytes w v : List ℕ) : Type 0 where
+  pub least : Least reversed es n bytes (column at n w)
   pub frame : Frame at 2 n w v

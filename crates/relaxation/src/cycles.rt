@@ -12,9 +12,26 @@ ghost use Rattle.relaxation.specs.Column.{Room};
 ghost use Rattle.relaxation.specs.Edges.{edges, ReadableArcs};
 ghost use Rattle.relaxation.specs.Lowered.{Lessens, Lowers};
 
+// The target of the arc with number `k`, and its source where `reversed`.
+fn target_at(arcs: &[u8], k: usize, reversed: bool) -> u16
+    requires { ⌜ 80 * k + 4 ≤ length (now arcs) ⌝ }
+{
+    if reversed {
+        return get16(arcs, 80 * k);
+    }
+    get16(arcs, 80 * k + 2)
+}
+
 // The state where the way from `q` along the noted arcs closes, and 65,535 where it ends or comes to a state seen
 // from another.
-fn closes_at(arcs: &[u8], count: usize, through: &[u16], seen: &mut [u16], q: u16) -> u16
+fn closes_at(
+    arcs: &[u8],
+    count: usize,
+    reversed: bool,
+    through: &[u16],
+    seen: &mut [u16],
+    q: u16,
+) -> u16
     requires { ⌜ 80 * count ≤ length (now arcs) ⌝ }
 {
     let mut p = q;
@@ -29,7 +46,7 @@ fn closes_at(arcs: &[u8], count: usize, through: &[u16], seen: &mut [u16], q: u1
         if count <= k {
             return 65535;
         }
-        p = get16(arcs, 80 * k + 2);
+        p = target_at(arcs, k, reversed);
     }
     if number_at(seen, p as usize) == q {
         return p;
@@ -41,14 +58,15 @@ fn closes_at(arcs: &[u8], count: usize, through: &[u16], seen: &mut [u16], q: u1
 fn lessens(
     arcs: &[u8],
     count: usize,
+    reversed: bool,
     first: usize,
     second: usize,
     through: &[u16],
     states: usize,
     q: u16,
 ) -> bool
-    requires { ⌜ ReadableArcs states (now arcs) count first second ⌝ }
-    ensures { λ r. ⌜ (r ≡ true → Lessens (edges first second 0 count (now (arcs .entry))) q) ⌝ }
+    requires { ⌜ ReadableArcs states (now arcs) count reversed first second ⌝ }
+    ensures { λ r. ⌜ (r ≡ true → Lessens (edges reversed first second 0 count (now (arcs .entry))) q) ⌝ }
 {
     let mut p = q;
     let mut up: u32 = 0;
@@ -60,7 +78,7 @@ fn lessens(
         if count <= k {
             return false;
         }
-        let e = edge_at(arcs, 80 * k, first, second);
+        let e = edge_at(arcs, 80 * k, reversed, first, second);
         if e.source != p {
             return false;
         }
@@ -78,6 +96,7 @@ fn lessens(
 fn mark_from(
     arcs: &[u8],
     count: usize,
+    reversed: bool,
     first: usize,
     second: usize,
     through: &[u16],
@@ -87,10 +106,10 @@ fn mark_from(
     states: usize,
     q: u16,
 )
-    requires { ⌜ ReadableArcs states (now arcs) count first second × Room at 2 states (now work) ⌝ }
-    ensures { λ _. ⌜ Lowers (edges first second 0 count (now (arcs .entry))) at states (now (work .exit)) (now (work .entry)) ⌝ }
+    requires { ⌜ ReadableArcs states (now arcs) count reversed first second × Room at 2 states (now work) ⌝ }
+    ensures { λ _. ⌜ Lowers (edges reversed first second 0 count (now (arcs .entry))) at states (now (work .exit)) (now (work .entry)) ⌝ }
 {
-    let c = closes_at(arcs, count, through, seen, q);
+    let c = closes_at(arcs, count, reversed, through, seen, q);
     if states <= c as usize {
         return;
     }
@@ -98,7 +117,7 @@ fn mark_from(
     if get16(work, place) == 65535 {
         return;
     }
-    if !lessens(arcs, count, first, second, through, states, c) {
+    if !lessens(arcs, count, reversed, first, second, through, states, c) {
         return;
     }
     put16(work, place, 0);
@@ -108,6 +127,7 @@ fn mark_from(
 fn mark_ways(
     arcs: &[u8],
     count: usize,
+    reversed: bool,
     first: usize,
     second: usize,
     through: &[u16],
@@ -116,8 +136,8 @@ fn mark_ways(
     at: usize,
     states: usize,
 )
-    requires { ⌜ ReadableArcs states (now arcs) count first second × Room at 2 states (now work) ⌝ }
-    ensures { λ _. ⌜ Lowers (edges first second 0 count (now (arcs .entry))) at states (now (work .exit)) (now (work .entry)) ⌝ }
+    requires { ⌜ ReadableArcs states (now arcs) count reversed first second × Room at 2 states (now work) ⌝ }
+    ensures { λ _. ⌜ Lowers (edges reversed first second 0 count (now (arcs .entry))) at states (now (work .exit)) (now (work .entry)) ⌝ }
 {
     let mut q: u16 = 1024;
     while 0 < q {
@@ -125,6 +145,7 @@ fn mark_ways(
         mark_from(
             arcs,
             count,
+            reversed,
             first,
             second,
             through,
@@ -141,6 +162,7 @@ fn mark_ways(
 pub fn mark_endless(
     arcs: &[u8],
     count: usize,
+    reversed: bool,
     first: usize,
     second: usize,
     through: &[u16],
@@ -148,13 +170,14 @@ pub fn mark_endless(
     at: usize,
     states: usize,
 )
-    requires { ⌜ ReadableArcs states (now arcs) count first second × Room at 2 states (now work) ⌝ }
-    ensures { λ _. ⌜ Lowers (edges first second 0 count (now (arcs .entry))) at states (now (work .exit)) (now (work .entry)) ⌝ }
+    requires { ⌜ ReadableArcs states (now arcs) count reversed first second × Room at 2 states (now work) ⌝ }
+    ensures { λ _. ⌜ Lowers (edges reversed first second 0 count (now (arcs .entry))) at states (now (work .exit)) (now (work .entry)) ⌝ }
 {
     let mut seen = [65535u16; 1024];
     mark_ways(
         arcs,
         count,
+        reversed,
         first,
         second,
         through,

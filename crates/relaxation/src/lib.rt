@@ -15,7 +15,7 @@ ghost use lib.ListN.{length};
 ghost use Rattle.automata.specs.Lists.{and};
 ghost use Rattle.automata.specs.InPlace.{Becomes};
 ghost use Rattle.relaxation.specs.Column.{column, Room};
-ghost use Rattle.relaxation.specs.Edges.{edgeAt, edges, Readable, ReadableArcs, throughEdge, improve, visited, swept, startOf, started, Filled, roundsOf};
+ghost use Rattle.relaxation.specs.Edges.{edgeAt, edges, Readable, ReadableArcs, throughEdge, improve, visited, swept, startOf, flagPlace, started, Filled, roundsOf, bothRounds};
 ghost use Rattle.relaxation.specs.Lowered.{FillsLeast};
 
 // An arc as relaxation reads it: its states, and the lengths of its labels on two tapes.
@@ -26,15 +26,23 @@ pub struct Edge {
     pub down: u8,
 }
 
-// The arc record at `at`, read on two tapes counted from 0.
-pub fn edge_at(arcs: &[u8], at: usize, first: usize, second: usize) -> Edge
+// The arc record at `at`, read on two tapes counted from 0, and backwards where `reversed`.
+pub fn edge_at(arcs: &[u8], at: usize, reversed: bool, first: usize, second: usize) -> Edge
     requires { ⌜ (at + 80 ≤ length (now arcs)) × (first < 8) × (second < 8) ⌝ }
-    ensures { λ r. ⌜ r ≡ edgeAt first second at (now (arcs .entry)) ⌝ }
+    ensures { λ r. ⌜ r ≡ edgeAt reversed first second at (now (arcs .entry)) ⌝ }
 {
     let source = get16(arcs, at);
     let target = get16(arcs, at + 2);
     let up = arcs[at + 8 + 9 * first];
     let down = arcs[at + 8 + 9 * second];
+    if reversed {
+        return Edge {
+            source: target,
+            target: source,
+            up,
+            down,
+        };
+    }
     Edge {
         source,
         target,
@@ -106,6 +114,7 @@ fn both(a: bool, b: bool) -> bool
 fn round_arcs(
     arcs: &[u8],
     count: usize,
+    reversed: bool,
     first: usize,
     second: usize,
     work: &mut [u8],
@@ -114,8 +123,8 @@ fn round_arcs(
     diverging: bool,
     through: &mut [u16],
 ) -> bool
-    requires { ⌜ ReadableArcs states (now arcs) count first second × Room at 2 states (now work) ⌝ }
-    ensures { λ r. ⌜ Becomes (swept diverging at (edges first second 0 count (now (arcs .entry))) (now (work .entry))) r (now (work .exit)) (now (work .entry)) ⌝ }
+    requires { ⌜ ReadableArcs states (now arcs) count reversed first second × Room at 2 states (now work) ⌝ }
+    ensures { λ r. ⌜ Becomes (swept diverging at (edges reversed first second 0 count (now (arcs .entry))) (now (work .entry))) r (now (work .exit)) (now (work .entry)) ⌝ }
 {
     let mut left = count;
     let mut from = 80 * count;
@@ -123,7 +132,7 @@ fn round_arcs(
     while 0 < left {
         left -= 1;
         from -= 80;
-        let e = edge_at(arcs, from, first, second);
+        let e = edge_at(arcs, from, reversed, first, second);
         let source = e.source as usize;
         let kept = visit_edge(work, at, e, diverging);
         note_arc(kept, through, source, left);
@@ -132,23 +141,31 @@ fn round_arcs(
     same
 }
 
-// The delay that a state starts with, by its flag for a final weight.
+// The delay that a state starts with, by its flag for a weight.
 fn start_delay(flag: u8) -> u16
     ensures { λ r. ⌜ r ≡ startOf flag ⌝ }
 {
     if flag == 0 { 65535 } else { 16384 }
 }
 
-// The delays of the empty run.
-fn start_delays(bytes: &[u8], states: usize, work: &mut [u8], at: usize)
-    requires { ⌜ (10 * states ≤ length (now bytes)) × Room at 2 states (now work) ⌝ }
-    ensures { λ _. ⌜ now (work .exit) ≡ started at 0 states (now (bytes .entry)) (now (work .entry)) ⌝ }
+// The place of this flag in a state record: that for a final weight, and that for an initial weight where `reversed`.
+fn flag_place(reversed: bool) -> usize
+    ensures { λ r. ⌜ (r ≡ flagPlace reversed) × (r ≤ 5) ⌝ }
 {
+    if reversed { 0 } else { 5 }
+}
+
+// The delays of the empty run.
+fn start_delays(bytes: &[u8], states: usize, reversed: bool, work: &mut [u8], at: usize)
+    requires { ⌜ (10 * states ≤ length (now bytes)) × Room at 2 states (now work) ⌝ }
+    ensures { λ _. ⌜ now (work .exit) ≡ started reversed at 0 states (now (bytes .entry)) (now (work .entry)) ⌝ }
+{
+    let flag = flag_place(reversed);
     let mut left = states;
     let mut from: usize = 0;
     let mut to = at;
     while 0 < left {
-        put16(work, to, start_delay(bytes[from + 5]));
+        put16(work, to, start_delay(bytes[from + flag]));
         from += 10;
         to += 64;
         left -= 1;
@@ -159,6 +176,7 @@ fn start_delays(bytes: &[u8], states: usize, work: &mut [u8], at: usize)
 fn run_rounds(
     arcs: &[u8],
     count: usize,
+    reversed: bool,
     first: usize,
     second: usize,
     work: &mut [u8],
@@ -167,14 +185,15 @@ fn run_rounds(
     diverging: bool,
     through: &mut [u16],
 )
-    requires { ⌜ ReadableArcs states (now arcs) count first second × Room at 2 states (now work) ⌝ }
-    ensures { λ _. ⌜ Filled at states (roundsOf diverging (edges first second 0 count (now (arcs .entry))) states (column at states (now (work .entry)))) (now (work .exit)) (now (work .entry)) ⌝ }
+    requires { ⌜ ReadableArcs states (now arcs) count reversed first second × Room at 2 states (now work) ⌝ }
+    ensures { λ _. ⌜ Filled at states (roundsOf diverging (edges reversed first second 0 count (now (arcs .entry))) states (column at states (now (work .entry)))) (now (work .exit)) (now (work .entry)) ⌝ }
 {
     let mut left = states;
     while 0 < left {
         if round_arcs(
             arcs,
             count,
+            reversed,
             first,
             second,
             work,
@@ -189,14 +208,56 @@ fn run_rounds(
     }
 }
 
-// The least closing delays of all states on two tapes: rounds in the order of the listed arcs until the delays stay.
-// Where as many rounds as there are states do not bring that about, relaxation in place does, and then what can still
-// be improved becomes endless.
+// Rounds of both kinds: relaxation, and then what can still be improved becomes endless.
+fn run_both(
+    arcs: &[u8],
+    count: usize,
+    reversed: bool,
+    first: usize,
+    second: usize,
+    work: &mut [u8],
+    at: usize,
+    states: usize,
+    through: &mut [u16],
+)
+    requires { ⌜ ReadableArcs states (now arcs) count reversed first second × Room at 2 states (now work) ⌝ }
+    ensures { λ _. ⌜ Filled at states (bothRounds (edges reversed first second 0 count (now (arcs .entry))) states (column at states (now (work .entry)))) (now (work .exit)) (now (work .entry)) ⌝ }
+{
+    run_rounds(
+        arcs,
+        count,
+        reversed,
+        first,
+        second,
+        work,
+        at,
+        states,
+        false,
+        through,
+    );
+    run_rounds(
+        arcs,
+        count,
+        reversed,
+        first,
+        second,
+        work,
+        at,
+        states,
+        true,
+        through,
+    );
+}
+
+// The least closing delays of all states on two tapes, of the table or, where `reversed`, of its reversal: rounds in
+// the order of the listed arcs until the delays stay. Where as many rounds as there are states do not bring that about,
+// relaxation in place does, and then what can still be improved becomes endless.
 pub fn least_delays(
     bytes: &[u8],
     states: usize,
     arcs: &[u8],
     count: usize,
+    reversed: bool,
     first: usize,
     second: usize,
     order: &[u16],
@@ -204,13 +265,14 @@ pub fn least_delays(
     at: usize,
 )
     requires { ⌜ Readable (now bytes) states (now arcs) count × (first < 8) × (second < 8) × Room at 2 states (now work) ⌝ }
-    ensures { λ _. ⌜ FillsLeast (edges first second 0 count (now (arcs .entry))) at states (now (bytes .entry)) (now (work .exit)) (now (work .entry)) ⌝ }
+    ensures { λ _. ⌜ FillsLeast reversed (edges reversed first second 0 count (now (arcs .entry))) at states (now (bytes .entry)) (now (work .exit)) (now (work .entry)) ⌝ }
 {
-    start_delays(bytes, states, work, at);
+    start_delays(bytes, states, reversed, work, at);
     let mut through = [65535u16; 1024];
     if settle(
         arcs,
         count,
+        reversed,
         first,
         second,
         order,
@@ -221,26 +283,15 @@ pub fn least_delays(
     ) {
         return;
     }
-    run_rounds(
+    run_both(
         arcs,
         count,
+        reversed,
         first,
         second,
         work,
         at,
         states,
-        false,
-        &mut through,
-    );
-    run_rounds(
-        arcs,
-        count,
-        first,
-        second,
-        work,
-        at,
-        states,
-        true,
         &mut through,
     );
 }

@@ -15,6 +15,7 @@ ghost use Rattle.relaxation.specs.Lowered.{Lowers, Settles};
 fn lower_by(
     arcs: &[u8],
     count: usize,
+    reversed: bool,
     first: usize,
     second: usize,
     k: u16,
@@ -23,13 +24,13 @@ fn lower_by(
     states: usize,
     through: &mut [u16],
 )
-    requires { ⌜ ReadableArcs states (now arcs) count first second × Room at 2 states (now work) ⌝ }
-    ensures { λ _. ⌜ Lowers (edges first second 0 count (now (arcs .entry))) at states (now (work .exit)) (now (work .entry)) ⌝ }
+    requires { ⌜ ReadableArcs states (now arcs) count reversed first second × Room at 2 states (now work) ⌝ }
+    ensures { λ _. ⌜ Lowers (edges reversed first second 0 count (now (arcs .entry))) at states (now (work .exit)) (now (work .entry)) ⌝ }
 {
     if count <= k as usize {
         return;
     }
-    let e = edge_at(arcs, 80 * k as usize, first, second);
+    let e = edge_at(arcs, 80 * k as usize, reversed, first, second);
     let source = e.source as usize;
     let kept = visit_edge(work, at, e, false);
     note_arc(kept, through, source, k as usize);
@@ -49,6 +50,7 @@ fn place_of(turned: bool, i: usize, count: usize) -> usize
 fn lower_listed(
     arcs: &[u8],
     count: usize,
+    reversed: bool,
     first: usize,
     second: usize,
     order: &[u16],
@@ -58,21 +60,33 @@ fn lower_listed(
     states: usize,
     through: &mut [u16],
 )
-    requires { ⌜ ReadableArcs states (now arcs) count first second × Room at 2 states (now work) ⌝ }
-    ensures { λ _. ⌜ Lowers (edges first second 0 count (now (arcs .entry))) at states (now (work .exit)) (now (work .entry)) ⌝ }
+    requires { ⌜ ReadableArcs states (now arcs) count reversed first second × Room at 2 states (now work) ⌝ }
+    ensures { λ _. ⌜ Lowers (edges reversed first second 0 count (now (arcs .entry))) at states (now (work .exit)) (now (work .entry)) ⌝ }
 {
     let mut i: usize = 0;
     while i < count {
         let k = number_at(order, place_of(turned, i, count));
-        lower_by(arcs, count, first, second, k, work, at, states, through);
+        lower_by(
+            arcs,
+            count,
+            reversed,
+            first,
+            second,
+            k,
+            work,
+            at,
+            states,
+            through,
+        );
         i += 1;
     }
 }
 
-// Rounds until one over all arcs changes nothing, which is told, or as many as there are states.
-pub fn settle(
+// The listed arcs, and then a round over all arcs. Tells whether this round left every delay as it was.
+fn lower_all(
     arcs: &[u8],
     count: usize,
+    reversed: bool,
     first: usize,
     second: usize,
     order: &[u16],
@@ -81,34 +95,117 @@ pub fn settle(
     states: usize,
     through: &mut [u16],
 ) -> bool
-    requires { ⌜ ReadableArcs states (now arcs) count first second × Room at 2 states (now work) ⌝ }
-    ensures { λ r. ⌜ Settles (edges first second 0 count (now (arcs .entry))) at states r (now (work .exit)) (now (work .entry)) ⌝ }
+    requires { ⌜ ReadableArcs states (now arcs) count reversed first second × Room at 2 states (now work) ⌝ }
+    ensures { λ r. ⌜ Settles (edges reversed first second 0 count (now (arcs .entry))) at states r (now (work .exit)) (now (work .entry)) ⌝ }
+{
+    lower_listed(
+        arcs,
+        count,
+        reversed,
+        first,
+        second,
+        order,
+        false,
+        work,
+        at,
+        states,
+        through,
+    );
+    round_arcs(
+        arcs,
+        count,
+        reversed,
+        first,
+        second,
+        work,
+        at,
+        states,
+        false,
+        through,
+    )
+}
+
+// Of each cycle that lessens the delay one state becomes endless, and then the listed arcs in the turned order.
+fn lower_turned(
+    arcs: &[u8],
+    count: usize,
+    reversed: bool,
+    first: usize,
+    second: usize,
+    order: &[u16],
+    work: &mut [u8],
+    at: usize,
+    states: usize,
+    through: &mut [u16],
+)
+    requires { ⌜ ReadableArcs states (now arcs) count reversed first second × Room at 2 states (now work) ⌝ }
+    ensures { λ _. ⌜ Lowers (edges reversed first second 0 count (now (arcs .entry))) at states (now (work .exit)) (now (work .entry)) ⌝ }
+{
+    mark_endless(
+        arcs,
+        count,
+        reversed,
+        first,
+        second,
+        through,
+        work,
+        at,
+        states,
+    );
+    lower_listed(
+        arcs,
+        count,
+        reversed,
+        first,
+        second,
+        order,
+        true,
+        work,
+        at,
+        states,
+        through,
+    );
+}
+
+// Rounds until one over all arcs changes nothing, which is told, or as many as there are states.
+pub fn settle(
+    arcs: &[u8],
+    count: usize,
+    reversed: bool,
+    first: usize,
+    second: usize,
+    order: &[u16],
+    work: &mut [u8],
+    at: usize,
+    states: usize,
+    through: &mut [u16],
+) -> bool
+    requires { ⌜ ReadableArcs states (now arcs) count reversed first second × Room at 2 states (now work) ⌝ }
+    ensures { λ r. ⌜ Settles (edges reversed first second 0 count (now (arcs .entry))) at states r (now (work .exit)) (now (work .entry)) ⌝ }
 {
     let mut left = states;
     while 0 < left {
-        lower_listed(
+        if lower_all(
             arcs,
             count,
+            reversed,
             first,
             second,
             order,
-            false,
             work,
             at,
             states,
             through,
-        );
-        if round_arcs(arcs, count, first, second, work, at, states, false, through) {
+        ) {
             return true;
         }
-        mark_endless(arcs, count, first, second, through, work, at, states);
-        lower_listed(
+        lower_turned(
             arcs,
             count,
+            reversed,
             first,
             second,
             order,
-            true,
             work,
             at,
             states,

@@ -1,5 +1,5 @@
 -- `relaxation::edge_at` meets its contract. Assumes nothing.
-use Rattle.relaxation.proofs.RunLaws.{edge-read}
+use Rattle.relaxation.proofs.RunLaws.{edge-forwards, edge-backwards}
 use mathlib.Core.Path.{refl}
 use borrow.Author.Needs.{needs}
 use Rattle.relaxation.proofs.edge_at.Statement.{statement}
@@ -42,7 +42,10 @@ shared-slice-read-down : tie.Need-shared-slice-read-down
 shared-slice-read-down c = search needs
 
 returns : tie.Need-returns
-returns c = edge-read _ _ _ _ _ _ _ _ (c .before .before .before .get16 .ensures) (c .before .before .get162 .ensures) refl refl
+returns c = edge-backwards _ _ _ _ _ _ _ _ _ (c .before .before .before .before .get16 .ensures) (c .before .before .before .get162 .ensures) refl refl (c .if1 .taken)
+
+returns-2 : tie.Need-returns-2
+returns-2 c = edge-forwards _ _ _ _ _ _ _ _ _ (c .before .before .before .before .get16 .ensures) (c .before .before .before .get162 .ensures) refl refl (c .if1 .left)
 
 pub edge-at-spec : {M : Type 1} → statement M
 edge-at-spec =
@@ -59,4 +62,5 @@ edge-at-spec =
     mul-down
     add-down-2
     shared-slice-read-down
-    returns)
+    returns
+    returns-2)

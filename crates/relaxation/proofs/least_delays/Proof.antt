@@ -9,7 +9,7 @@ use Rattle.relaxation.proofs.least_delays.Statement.{statement}
 use Rattle.relaxation.proofs.least_delays.Tie as tie
 use Rattle.relaxation.proofs.least_delays.Reads as reads
 use Rattle.relaxation.proofs.least_delays.Lts as lts
-use Rattle.relaxation.proofs.run_rounds.Reads as run-rounds-reads
+use Rattle.relaxation.proofs.run_both.Reads as run-both-reads
 use Rattle.relaxation.proofs.settle.settle.Reads as settle-reads
 use Rattle.relaxation.proofs.start_delays.Reads as start-delays-reads
 
@@ -22,8 +22,8 @@ slice-aggregate-settle c = search needs
 settle-requires : tie.Need-settle-requires
 settle-requires c κs =
     let s = c .before .before .before .before .before .before .before .before .before .before .pre in
-    let f = started-filled _ _ _ _ _ (s .3) (c .before .before .before .before .start-delays .ensures) .frame in
-    (readable-arcs _ _ _ _ _ _ (s .0) (s .1) (s .2), omega (arith, s .3, f .same-length))
+    let f = started-filled _ _ _ _ _ _ (s .3) (c .before .before .before .before .start-delays .ensures) .frame in
+    (readable-arcs _ _ _ _ _ _ _ (s .0) (s .1) (s .2), omega (arith, s .3, f .same-length))
 
 same-length : tie.Need-same-length
 same-length c = search needs
@@ -32,40 +32,29 @@ returns : tie.Need-returns
 returns c =
     let s = c .before .before .before .before .before .before .before .before .before .before .before .before .before .before .before in
     let a = s .args in
-    let r = readable-arcs _ _ _ _ _ _ (s .pre .0) (s .pre .1) (s .pre .2) in
-    settled-least (edges (a .first) (a .second) 0 (a .count) (now (a .arcs))) _ _ _ _ _ (started-filled _ _ _ _ _ (s .pre .3) (c .before .before .before .before .before .before .before .before .before .start-delays .ensures))
+    let r = readable-arcs _ _ _ _ _ _ _ (s .pre .0) (s .pre .1) (s .pre .2) in
+    settled-least (a .reversed) (edges (a .reversed) (a .first) (a .second) 0 (a .count) (now (a .arcs))) _ _ _ _ _ (started-filled _ _ _ _ _ _ (s .pre .3) (c .before .before .before .before .before .before .before .before .before .start-delays .ensures))
     _ _ (c .if1 .taken) (r .joined) (c .before .before .before .before .settle .ensures)
 
-slice-aggregate-run-rounds : tie.Need-slice-aggregate-run-rounds
-slice-aggregate-run-rounds c = search needs
+slice-aggregate-run-both : tie.Need-slice-aggregate-run-both
+slice-aggregate-run-both c = search needs
 
-run-rounds-requires : tie.Need-run-rounds-requires
-run-rounds-requires c κs =
+run-both-requires : tie.Need-run-both-requires
+run-both-requires c κs =
     let s = c .before .before .before .before .before .before .before .before .before .before .before .before .before .before .before .before .before .pre in
-    let f = started-filled _ _ _ _ _ (s .3) (c .before .before .before .before .before .before .before .before .before .before .before .start-delays .ensures) .frame in
+    let f = started-filled _ _ _ _ _ _ (s .3) (c .before .before .before .before .before .before .before .before .before .before .before .start-delays .ensures) .frame in
     let g = c .before .before .before .before .before .before .settle .ensures .lowers .frame in
-    (readable-arcs _ _ _ _ _ _ (s .0) (s .1) (s .2), omega (arith, s .3, f .same-length, g .same-length))
-
-slice-aggregate-run-rounds-2 : tie.Need-slice-aggregate-run-rounds-2
-slice-aggregate-run-rounds-2 c = search needs
-
-run-rounds-requires-2 : tie.Need-run-rounds-requires-2
-run-rounds-requires-2 c κs =
-    let s = c .before .before .before .before .before .before .before .before .before .before .before .before .before .before .before .before .before .before .before .before .before .before .before .pre in
-    let f = started-filled _ _ _ _ _ (s .3) (c .before .before .before .before .before .before .before .before .before .before .before .before .before .before .before .before .before .start-delays .ensures) .frame in
-    let g = c .before .before .before .before .before .before .before .before .before .before .before .before .settle .ensures .lowers .frame in
-    let h = c .before .before .before .before .before .run-rounds .ensures .frame in
-    (readable-arcs _ _ _ _ _ _ (s .0) (s .1) (s .2), omega (arith, s .3, f .same-length, g .same-length, h .same-length))
+    (readable-arcs _ _ _ _ _ _ _ (s .0) (s .1) (s .2), omega (arith, s .3, f .same-length, g .same-length))
 
 same-length-2 : tie.Need-same-length-2
 same-length-2 c = search needs
 
 returns-2 : tie.Need-returns-2
 returns-2 c =
-    let s = c .before .before .before .before .before .before .before .before .before .before .before .before .before .before .before .before .before .before .before .before .before .before .before .before .before .before .before in
+    let s = c .before .before .before .before .before .before .before .before .before .before .before .before .before .before .before .before .before .before .before .before .before in
     let a = s .args in
-    rounds-least (edges (a .first) (a .second) 0 (a .count) (now (a .arcs))) _ _ _ _ _ (started-filled _ _ _ _ _ (s .pre .3) (c .before .before .before .before .before .before .before .before .before .before .before .before .before .before .before .before .before .before .before .before .before .start-delays .ensures))
-    _ _ _ _ (c .before .before .before .before .before .before .before .before .before .before .before .before .before .before .before .before .settle .ensures) (c .before .before .before .before .before .before .before .before .before .run-rounds .ensures) (c .before .before .before .run-rounds2 .ensures)
+    rounds-least (a .reversed) (edges (a .reversed) (a .first) (a .second) 0 (a .count) (now (a .arcs))) _ _ _ _ _ (started-filled _ _ _ _ _ _ (s .pre .3) (c .before .before .before .before .before .before .before .before .before .before .before .before .before .before .before .start-delays .ensures))
+    _ _ _ (c .before .before .before .before .before .before .before .before .before .before .settle .ensures) (c .before .before .before .run-both .ensures)
 
 pub least-delays-spec : {M : Type 1} → statement M
 least-delays-spec =
@@ -76,9 +65,7 @@ least-delays-spec =
     settle-requires
     same-length
     returns
-    slice-aggregate-run-rounds
-    run-rounds-requires
-    slice-aggregate-run-rounds-2
-    run-rounds-requires-2
+    slice-aggregate-run-both
+    run-both-requires
     same-length-2
     returns-2)

@@ -12,15 +12,19 @@ use Rattle.relaxation.proofs.start_delays.Tie as tie
 use Rattle.relaxation.proofs.start_delays.Reads as reads
 use Rattle.relaxation.proofs.start_delays.Lts as lts
 use Rattle.memory.proofs.bytes.put16.Reads as put16-reads
+use Rattle.relaxation.proofs.flag_place.Reads as flag-place-reads
 use Rattle.relaxation.proofs.start_delay.Reads as start-delay-reads
 
 abbrev Inv-loop : tie.InvT-loop
-Inv-loop bytes states work₀ at left₀ from₀ to₀ work left from to =
+Inv-loop bytes states reversed work₀ at flag left₀ from₀ to₀ work left from to =
     (from + 10 * left ≤ length bytes) × (Room to 2 left work) × (length work ≡ length work₀)
-    × (started to from left bytes work ≡ started at 0 states bytes work₀)
+    × (started reversed to from left bytes work ≡ started reversed at 0 states bytes work₀)
 
 abbrev μ-loop : tie.MeasureT-loop
-μ-loop bytes states work₀ at left₀ from₀ to₀ work left from to = left
+μ-loop bytes states reversed work₀ at flag left₀ from₀ to₀ work left from to = left
+
+flag-place-requires : tie.Need-flag-place-requires Inv-loop μ-loop
+flag-place-requires c κs = search needs
 
 loop-holds : tie.Need-loop-holds Inv-loop μ-loop
 loop-holds c = (search needs, search needs, search needs, refl)
@@ -53,18 +57,19 @@ loop-again : tie.Need-loop-again Inv-loop μ-loop
 loop-again c =
     let l = c .before .before .before .before .before .before .before .loop in
     let t = c .before .before .before .before .before .before .loop-test .taken in
+    let f = c .before .before .before .before .before .before .before .before .flag-place .ensures in
     let p = c .before .before .put16 in (
       omega (arith, l .inv .0, t),
       omega (arith, l .inv .1, p .kept .0, t),
       p .kept .0 ∙ l .inv .2,
-      started-turn _ _ (l .left) (l .left - 1) _ _ _ _ (omega (arith, t)) (c .before .before .before .start-delay .ensures) (p .ensures) ∙ l .inv .3,
+      started-turn _ _ _ (l .left) (l .left - 1) _ _ _ _ _ (omega (arith, t)) (f .0) (c .before .before .before .start-delay .ensures) (p .ensures) ∙ l .inv .3,
     )
 
 same-length : tie.Need-same-length Inv-loop μ-loop
 same-length c = search needs
 
 returns : tie.Need-returns Inv-loop μ-loop
-returns c = started-end _ _ (c .before .loop .left) _ _ (omega (arith, c .loop-test .left)) ∙ c .before .loop .inv .3
+returns c = started-end _ _ _ (c .before .loop .left) _ _ (omega (arith, c .loop-test .left)) ∙ c .before .loop .inv .3
 
 pub start-delays-spec : {M : Type 1} → statement M
 start-delays-spec =
@@ -72,6 +77,7 @@ start-delays-spec =
     (tie.spec
     Inv-loop
     μ-loop
+    flag-place-requires
     loop-holds
     add-start-delay
     shared-slice-read-start-delay

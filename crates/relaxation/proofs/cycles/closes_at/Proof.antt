@@ -7,15 +7,15 @@ use Rattle.relaxation.proofs.cycles.closes_at.Statement.{statement}
 use Rattle.relaxation.proofs.cycles.closes_at.Tie as tie
 use Rattle.relaxation.proofs.cycles.closes_at.Reads as reads
 use Rattle.relaxation.proofs.cycles.closes_at.Lts as lts
-use Rattle.memory.proofs.bytes.get16.Reads as get16-reads
 use Rattle.relaxation.proofs.places.note.Reads as note-reads
 use Rattle.relaxation.proofs.places.number_at.Reads as number-at-reads
+use Rattle.relaxation.proofs.cycles.target_at.Reads as target-at-reads
 
 abbrev Inv-loop : tie.InvT-loop
-Inv-loop arcs count through seen₀ q p₀ left₀ seen p left = (p < 65536) × (length seen ≡ length seen₀)
+Inv-loop arcs count reversed through seen₀ q p₀ left₀ seen p left = (p < 65536) × (length seen ≡ length seen₀)
 
 abbrev μ-loop : tie.MeasureT-loop
-μ-loop arcs count through seen₀ q p₀ left₀ seen p left = left
+μ-loop arcs count reversed through seen₀ q p₀ left₀ seen p left = left
 
 loop-holds : tie.Need-loop-holds Inv-loop μ-loop
 loop-holds c = search needs
@@ -53,14 +53,8 @@ same-length-2 c = search needs
 returns-2 : tie.Need-returns-2 Inv-loop μ-loop
 returns-2 c = search needs
 
-mul-get16 : tie.Need-mul-get16 Inv-loop μ-loop
-mul-get16 c = search needs
-
-add-get16 : tie.Need-add-get16 Inv-loop μ-loop
-add-get16 c = search needs
-
-get16-requires : tie.Need-get16-requires Inv-loop μ-loop
-get16-requires c κs = search needs
+target-at-requires : tie.Need-target-at-requires Inv-loop μ-loop
+target-at-requires c κs = search needs
 
 loop-less : tie.Need-loop-less Inv-loop μ-loop
 loop-less c = search needs
@@ -104,9 +98,7 @@ closes-at-spec =
     cast-k
     same-length-2
     returns-2
-    mul-get16
-    add-get16
-    get16-requires
+    target-at-requires
     loop-less
     loop-again
     cast-number-at-3

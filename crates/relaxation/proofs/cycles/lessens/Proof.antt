@@ -16,11 +16,11 @@ use Rattle.relaxation.proofs.edge_at.Reads as edge-at-reads
 use Rattle.relaxation.proofs.places.number_at.Reads as number-at-reads
 
 abbrev Inv-loop : tie.InvT-loop
-Inv-loop arcs count first second through states q p₀ up₀ down₀ left₀ p up down left =
-    Run (edges first second 0 count arcs) q p up down × (p < 65536) × (up + 255 * left ≤ 261120) × (down + 255 * left ≤ 261120)
+Inv-loop arcs count reversed first second through states q p₀ up₀ down₀ left₀ p up down left =
+    Run (edges reversed first second 0 count arcs) q p up down × (p < 65536) × (up + 255 * left ≤ 261120) × (down + 255 * left ≤ 261120)
 
 abbrev μ-loop : tie.MeasureT-loop
-μ-loop arcs count first second through states q p₀ up₀ down₀ left₀ p up down left = left
+μ-loop arcs count reversed first second through states q p₀ up₀ down₀ left₀ p up down left = left
 
 loop-holds : tie.Need-loop-holds Inv-loop μ-loop
 loop-holds c = (none, search needs, search needs, search needs)
@@ -64,7 +64,7 @@ add-down c = search needs
 returns-3 : tie.Need-returns-3 Inv-loop μ-loop
 returns-3 c =
     let l = c .before .before .before .before .before .before .before .before .before .loop in
-    λ t. record { up = _; down = _; closed = rw (c .if3 .taken) at (run-turn _ _ _ _ _ _ _ _ _ _ _ (c .before .before .before .before .before .before .if1 .left) refl (c .before .before .before .before .before .edge-at .ensures) (c .before .before .before .if2 .left) (l .inv .0)); less = ltb-true _ _ t }
+    λ t. record { up = _; down = _; closed = rw (c .if3 .taken) at (run-turn _ _ _ _ _ _ _ _ _ _ _ _ (c .before .before .before .before .before .before .if1 .left) refl (c .before .before .before .before .before .edge-at .ensures) (c .before .before .before .if2 .left) (l .inv .0)); less = ltb-true _ _ t }
 
 loop-less : tie.Need-loop-less Inv-loop μ-loop
 loop-less c = search needs
@@ -72,7 +72,7 @@ loop-less c = search needs
 loop-again : tie.Need-loop-again Inv-loop μ-loop
 loop-again c =
     let l = c .before .before .before .before .before .before .before .before .before .loop in
-    (run-turn _ _ _ _ _ _ _ _ _ _ _ (c .before .before .before .before .before .before .if1 .left) refl (c .before .before .before .before .before .edge-at .ensures) (c .before .before .before .if2 .left) (l .inv .0), search needs, search needs, search needs)
+    (run-turn _ _ _ _ _ _ _ _ _ _ _ _ (c .before .before .before .before .before .before .if1 .left) refl (c .before .before .before .before .before .edge-at .ensures) (c .before .before .before .if2 .left) (l .inv .0), search needs, search needs, search needs)
 
 returns-4 : tie.Need-returns-4 Inv-loop μ-loop
 returns-4 c = λ t. absurd (false≢true t)

@@ -13,11 +13,11 @@ use Rattle.relaxation.proofs.cycles.mark_ways.Lts as lts
 use Rattle.relaxation.proofs.cycles.mark_from.Reads as mark-from-reads
 
 abbrev Inv-loop : tie.InvT-loop
-Inv-loop arcs count first second through seen₀ work₀ at states q₀ seen work q =
-    (q < 65536) × (length work ≡ length work₀) × (length seen ≡ length seen₀) × Lowers (edges first second 0 count arcs) at states work work₀
+Inv-loop arcs count reversed first second through seen₀ work₀ at states q₀ seen work q =
+    (q < 65536) × (length work ≡ length work₀) × (length seen ≡ length seen₀) × Lowers (edges reversed first second 0 count arcs) at states work work₀
 
 abbrev μ-loop : tie.MeasureT-loop
-μ-loop arcs count first second through seen₀ work₀ at states q₀ seen work q = q
+μ-loop arcs count reversed first second through seen₀ work₀ at states q₀ seen work q = q
 
 loop-holds : tie.Need-loop-holds Inv-loop μ-loop
 loop-holds c = (search needs, refl, refl, lowers-refl _ _ _ _)

@@ -27,7 +27,7 @@ cast-source c = search needs
 visit-edge-requires : tie.Need-visit-edge-requires
 visit-edge-requires c κs =
     let s = c .before .before .before .before .before .before .before .pre in
-    let j = joined-at _ _ _ 0 _ _ _ _ _ (s .0 .joined) (c .before .before .before .if1 .left) (omega arith) (c .before .before .edge-at .ensures) in
+    let j = joined-at _ _ _ _ 0 _ _ _ _ _ (s .0 .joined) (c .before .before .before .if1 .left) (omega arith) (c .before .before .edge-at .ensures) in
     (omega (arith, j .0, s .1), omega (arith, j .1, s .1))
 
 note-arc-requires : tie.Need-note-arc-requires
@@ -42,7 +42,7 @@ same-length-2 c = search needs
 returns-2 : tie.Need-returns-2
 returns-2 c =
     let s = c .before .before .before .before .before .before .before .before .before .before .before .before .before .before .pre in
-    arc-lowers _ _ _ _ _ _ _ _ _ _ _ _ (s .0) (s .1) (λ i. omega (arith, c .before .before .before .before .before .before .before .before .before .before .before .before .slice-known .given i)) (c .before .before .before .before .before .before .before .before .before .before .if1 .left) refl (c .before .before .before .before .before .before .before .before .before .edge-at .ensures) (c .before .before .before .before .before .before .visit-edge .ensures)
+    arc-lowers _ _ _ _ _ _ _ _ _ _ _ _ _ (s .0) (s .1) (λ i. omega (arith, c .before .before .before .before .before .before .before .before .before .before .before .before .slice-known .given i)) (c .before .before .before .before .before .before .before .before .before .before .if1 .left) refl (c .before .before .before .before .before .before .before .before .before .edge-at .ensures) (c .before .before .before .before .before .before .visit-edge .ensures)
 
 pub lower-by-spec : {M : Type 1} → statement M
 lower-by-spec =
