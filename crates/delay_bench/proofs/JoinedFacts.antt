@@ -8,17 +8,17 @@ use mathlib.Core.List.{List}
 use Rattle.relaxation.specs.declared.Edge.{Edge}
 use Rattle.relaxation.specs.Edges.{edgeAt, edges, Joined, Readable}
 
-pub joined-end : (n at left : ℕ) (arcs : List ℕ) → left ≡ 0 → Joined n (edges 0 0 at left arcs)
+pub joined-end : (n at left : ℕ) (arcs : List ℕ) → left ≡ 0 → Joined n (edges false 0 0 at left arcs)
 unfolding Joined edges
 joined-end n at left arcs e = rw e tt
 
-pub joined-one : (n at left rest : ℕ) (arcs : List ℕ) (e : Edge) → left ≡ suc rest → e ≡ edgeAt 0 0 at arcs → e .source < n → e .target < n
-    → Joined n (edges 0 0 (at + 80) rest arcs) → Joined n (edges 0 0 at left arcs)
+pub joined-one : (n at left rest : ℕ) (arcs : List ℕ) (e : Edge) → left ≡ suc rest → e ≡ edgeAt false 0 0 at arcs → e .source < n → e .target < n
+    → Joined n (edges false 0 0 (at + 80) rest arcs) → Joined n (edges false 0 0 at left arcs)
 unfolding Joined edges
 joined-one n at left rest arcs e s f h k j = rw s (subst (λ z. z .source < n) f h, subst (λ z. z .target < n) f k, j)
 
 -- a table whose arcs passed the test
 pub readable : (states : List ℕ) (n : ℕ) (arcs : List ℕ) (count : ℕ) (b : Bool) → 10 * n ≤ length states → 80 * count ≤ length arcs
-    → (b ≡ true → Joined n (edges 0 0 0 count arcs)) → not b ≡ false → Readable states n arcs count
+    → (b ≡ true → Joined n (edges false 0 0 0 count arcs)) → not b ≡ false → Readable states n arcs count
 readable states n arcs count true h k j e = record { states-lent = h; arcs-lent = k; joined = j refl }
 readable states n arcs count false h k j e = record { states-lent = h; arcs-lent = k; joined = j (sym e) }

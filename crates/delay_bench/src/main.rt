@@ -6,7 +6,7 @@ use relaxation::edge_at;
 use relaxation::least_delays;
 use relaxation::listing::list_arcs;
 ghost use mathlib.Core.Path.{_≡_};
-ghost use mathlib.Core.Bool.{true};
+ghost use mathlib.Core.Bool.{true, false};
 ghost use Prim.Native.Nat.{_+_, _*_, _≤_};
 ghost use lib.ListN.{length};
 ghost use Rattle.relaxation.specs.Edges.{edges, Joined, Readable};
@@ -49,12 +49,12 @@ fn put_chain(arcs: &mut [u8], count: u16)
 // Whether every arc joins states.
 fn joined(arcs: &[u8], count: usize, states: u16) -> bool
     requires { ⌜ 80 * count ≤ length (now arcs) ⌝ }
-    ensures { λ r. ⌜ (r ≡ true → Joined states (edges 0 0 0 count (now (arcs .entry)))) ⌝ }
+    ensures { λ r. ⌜ (r ≡ true → Joined states (edges false 0 0 0 count (now (arcs .entry)))) ⌝ }
 {
     let mut left = count;
     let mut from: usize = 0;
     while 0 < left {
-        let e = edge_at(arcs, from, 0, 0);
+        let e = edge_at(arcs, from, false, 0, 0);
         if states <= e.source {
             return false;
         }
@@ -71,8 +71,8 @@ fn joined(arcs: &[u8], count: usize, states: u16) -> bool
 fn both_ways(states: &[u8], arcs: &[u8], count: usize, order: &[u16], work: &mut [u8], at: usize)
     requires { ⌜ Readable (now states) 1024 (now arcs) count × (at + 65480 ≤ length (now work)) ⌝ }
 {
-    least_delays(states, 1024, arcs, count, 0, 1, order, work, at);
-    least_delays(states, 1024, arcs, count, 1, 0, order, work, at + 4);
+    least_delays(states, 1024, arcs, count, false, 0, 1, order, work, at);
+    least_delays(states, 1024, arcs, count, false, 1, 0, order, work, at + 4);
 }
 
 // The delays of state 0 on the first pair, as they are held.

@@ -2,18 +2,21 @@
 use Prim.Native.Nat.{ℕ, _+_, _-_, _*_, _<_, _≤_}
 use mathlib.Core.Path.{_≡_, sym, ap, subst, _∙_}
 use mathlib.Core.Logic.{inl}
+use mathlib.Core.Bool.{Bool, false}
 use mathlib.Core.Option.{some}
 use mathlib.Core.List.{List, map}
 use native.Mathlib.Omega.{arith}
 use lib.ListN.{length, getD, getElem?, take}
 use Rattle.automata.specs.Marks.{coaccessible}
 use Rattle.automata.specs.Automaton.{Automaton, graph}
+use Rattle.automata.specs.Reversal.{directed}
 use Rattle.automata.specs.TapePair as automata
 use Rattle.automata.specs.TapePair.{limited}
 use Rattle.automata.specs.Memory.{Memory, Sound, tableOf}
 use Rattle.automata.specs.Closing.{finals, Closing, closing, closingTables, leastDelays}
 use Rattle.automata.proofs.Membership.{place-map⁻¹, place-take⁻¹}
 use Rattle.automata.proofs.ReachingDelays.{held, least-held}
+use Rattle.automata.proofs.ReversalFacts.{directed-formed}
 use Rattle.automata.proofs.WellFormedFacts.{well-formed}
 use Rattle.automata.proofs.SoundFacts.{sound-well-formed, sound-holds, sound-states-lent, sound-arcs-lent}
 use Rattle.relaxation.specs.Column.{column, Frame}
@@ -24,7 +27,7 @@ use Rattle.relaxation.proofs.TableLaws.{edgeOf, edges-are, joined-are, least-ar
 use Rattle.memory.specs.declared.pair.Pair.{Pair}
 use Rattle.memory.specs.declared.pair.PairList.{PairList}
 use Rattle.memory.specs.Pairs.{pairAs, pairsAs, Named, Within, noPair}
-use Rattle.delays.specs.ClosingRegion.{ClosesPairs, WritesClosing}
+use Rattle.delays.specs.ClosingRegion.{PairClosed, ClosesPairs, WritesClosing}
 
 -- ---- the pairs
 
@@ -71,7 +74,7 @@ module _ (m : Memory) (s : Sound m) where
       record {
         states-lent = sound-states-lent m s;
         arcs-lent = sound-arcs-lent m s;
-        joined = subst (λ es. Joined (m .states) es) (sym (edges-are m t w h 0 0 z z))
+        joined = subst (λ es. Joined (m .states) es) (sym (edges-are m t w h false 0 0 z z))
             (subst (λ k. Joined k (map (edgeOf 0 0) (t .arcs))) (sym (h .states)) (joined-are (t .tapes) (length (t .states)) 0 0 (t .arcs) (w .arcs)));
       }
 
@@ -90,19 +93,30 @@ module _ (m : Memory) (s : Sound m) where
       let h = sound-holds m s in
       (sound-states-lent m s, omega (arith, h .states, w .counts .statesFit), sound-arcs-lent m s, omega (arith, h .arcs, w .counts .arcsFit))
 
-  -- the least delays of two tapes are those of the definition
-  least-of : (i j : ℕ) → i < t .tapes → j < t .tapes → (zs : List ℕ) → Least (edges i j 0 (m .arcs) (m .arcBytes)) (m .states) (m .stateBytes) zs → zs ≡ leastDelays t i j
+  -- the least delays of two tapes are those of the definition, for the table and for its reversal
+  least-of : (r : Bool) (i j : ℕ) → i < t .tapes → j < t .tapes → (zs : List ℕ) → Least r (edges r i j 0 (m .arcs) (m .arcBytes)) (m .states) (m .stateBytes) zs
+      → zs ≡ leastDelays (directed r t) i j
   least-of = least-are m t (sound-well-formed m s) (sound-holds m s)
 
-  -- its coaccessible states
-  reaching-are : (zs : List ℕ) → Least (edges 0 0 0 (m .arcs) (m .arcBytes)) (m .states) (m .stateBytes) zs → zs ≡ map held (coaccessible (graph t) (finals t))
-  reaching-are zs l =
+  -- those on one tape taken twice mark the coaccessible states
+  pub reaching-are : (r : Bool) (zs : List ℕ) → Least r (edges r 0 0 0 (m .arcs) (m .arcBytes)) (m .states) (m .stateBytes) zs
+      → zs ≡ map held (coaccessible (graph (directed r t)) (finals (directed r t)))
+  reaching-are r zs l =
       let w = sound-well-formed m s in
-      least-of 0 0 (w .counts .someTape) (w .counts .someTape) zs l ∙ least-held t (well-formed t w) 0
+      least-of r 0 0 (w .counts .someTape) (w .counts .someTape) zs l ∙ least-held (directed r t) (directed-formed r t (well-formed t w)) 0
+
+  -- those of a pair, and of it turned round
+  pub pair-closed : (r : Bool) (p : Pair) → Within (m .tapes) p → (at : ℕ) (w : List ℕ) → PairClosed r (m .stateBytes) (m .states) (m .arcBytes) (m .arcs) p at w
+      → (column at (m .states) w ≡ leastDelays (directed r t) (p .first - 1) (p .second - 1))
+      × (column (at + 4) (m .states) w ≡ leastDelays (directed r t) (p .second - 1) (p .first - 1))
+  pair-closed r p i at w c =
+      let first : p .first - 1 < t .tapes = omega (arith, i .first-from, i .first-to, tapes-are) in
+      let second : p .second - 1 < t .tapes = omega (arith, i .second-from, i .second-to, tapes-are) in
+      (least-of r _ _ first second _ (c .least), least-of r _ _ second first _ (c .opposite))
 
   -- what the two calls left
   pub writes-closing : (ps : PairList) (base : ℕ) (v u w : List ℕ) → length (ps .pairs) ≡ 4 → Named (m .tapes) ps → base + 64 * m .states ≤ length v
-      → FillsLeast (edges 0 0 0 (m .arcs) (m .arcBytes)) (base + 32) (m .states) (m .stateBytes) u v
+      → FillsLeast false (edges false 0 0 0 (m .arcs) (m .arcBytes)) (base + 32) (m .states) (m .stateBytes) u v
       → ClosesPairs (m .stateBytes) (m .states) (m .arcBytes) (m .arcs) (ps .pairs) (ps .used) base w u → WritesClosing m ps base w v
   unfolding closingTables
   writes-closing ps base v u w l n room a b =
@@ -113,19 +127,10 @@ module _ (m : Memory) (s : Sound m) where
       (omega arith) (inl (omega arith, omega arith)) in
       record {
         tables = λ D. record {
-          reaching = r ∙ reaching-are (column (base + 32) (m .states) u) (a .least);
-          least = λ h c q.
-              let f = closing-of t D ps h c q in
-              let i = in-table h (f .0) in
-              least-of _ _ (omega (arith, i .first-from, i .first-to)) (omega (arith, i .second-from, i .second-to)) _ (b .closed h (f .0) .least) ∙ ap (λ (z : Closing). z .least) (f .1);
-          opposite = λ h c q.
-              let f = closing-of t D ps h c q in
-              let i = in-table h (f .0) in
-              least-of _ _ (omega (arith, i .second-from, i .second-to)) (omega (arith, i .first-from, i .first-to)) _ (b .closed h (f .0) .opposite) ∙ ap (λ (z : Closing). z .opposite) (f .1);
+          reaching = r ∙ reaching-are false (column (base + 32) (m .states) u) (a .least);
+          least = λ h c q. let f = closing-of t D ps h c q in pair-closed false _ (n .each h (f .0)) _ _ (b .closed h (f .0)) .0 ∙ ap (λ (z : Closing). z .least) (f .1);
+          opposite = λ h c q. let f = closing-of t D ps h c q in pair-closed false _ (n .each h (f .0)) _ _ (b .closed h (f .0)) .1 ∙ ap (λ (z : Closing). z .opposite) (f .1);
         };
         same-length = b .same-length ∙ e;
         same = λ i y z. b .same i y ∙ a .frame .same i z;
       }
-    where
-      in-table : (h : ℕ) → h < ps .used → Within (t .tapes) (getD (ps .pairs) h noPair)
-      in-table h lt = rw tapes-are at (n .each h lt)

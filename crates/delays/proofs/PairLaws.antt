@@ -22,17 +22,17 @@ use Rattle.delays.specs.ClosingRegion.{PairClosed, ClosesPair, ClosesPai
 use Rattle.relaxation.proofs.SweepLaws.{frame-column, outside-in}
 
 -- the bytes of a pair are all that a pair changes
-pub pair-frame : (bytes : List ℕ) (n : ℕ) (arcs : List ℕ) (count : ℕ) (p : Pair) (at : ℕ) (w v : List ℕ) → ClosesPair bytes n arcs count p at w v → Frame at 8 n w v
-pair-frame bytes n arcs count p at w v c = record {
+pub pair-frame : (reversed : Bool) (bytes : List ℕ) (n : ℕ) (arcs : List ℕ) (count : ℕ) (p : Pair) (at : ℕ) (w v : List ℕ) → ClosesPair reversed bytes n arcs count p at w v → Frame at 8 n w v
+pair-frame reversed bytes n arcs count p at w v c = record {
   same-length = c .same-length;
   same = λ i o. c .same i (outside-in at 2 at 8 n i (omega arith) (omega arith) (omega arith) o, outside-in (at + 4) 2 at 8 n i (omega arith) (omega arith) (omega arith) o);
 }
 
 -- one pair
-pub closes-pair : (bytes : List ℕ) (n : ℕ) (arcs : List ℕ) (count : ℕ) (p : Pair) (at : ℕ) (v u w : List ℕ) → Room at 8 n u
-    → FillsLeast (edges (p .first - 1) (p .second - 1) 0 count arcs) at n bytes u v
-    → FillsLeast (edges (p .second - 1) (p .first - 1) 0 count arcs) (at + 4) n bytes w u → ClosesPair bytes n arcs count p at w v
-closes-pair bytes n arcs count p at v u w l a b = record {
+pub closes-pair : (reversed : Bool) (bytes : List ℕ) (n : ℕ) (arcs : List ℕ) (count : ℕ) (p : Pair) (at : ℕ) (v u w : List ℕ) → Room at 8 n u
+    → FillsLeast reversed (edges reversed (p .first - 1) (p .second - 1) 0 count arcs) at n bytes u v
+    → FillsLeast reversed (edges reversed (p .second - 1) (p .first - 1) 0 count arcs) (at + 4) n bytes w u → ClosesPair reversed bytes n arcs count p at w v
+closes-pair reversed bytes n arcs count p at v u w l a b = record {
   closed = record {
     least = rw (frame-column at (at + 4) 2 n w u (b .frame) (omega arith) (inr (omega arith, omega arith))) (a .least);
     opposite = b .least;
@@ -43,7 +43,7 @@ closes-pair bytes n arcs count p at v u w l a b = record {
 
 -- one pair more
 pub pairs-turn : (bytes : List ℕ) (n : ℕ) (arcs : List ℕ) (count : ℕ) (ps : List Pair) (p : Pair) (base h : ℕ) (v u w : List ℕ) → h < 4 → Room base 32 n u
-    → ClosesPairs bytes n arcs count ps h base u v → p ≡ getD ps h noPair → ClosesPair bytes n arcs count p (base + 8 * h) w u
+    → ClosesPairs bytes n arcs count ps h base u v → p ≡ getD ps h noPair → ClosesPair false bytes n arcs count p (base + 8 * h) w u
     → ClosesPairs bytes n arcs count ps (h + 1) base w v
 pairs-turn bytes n arcs count ps p base h v u w b l f e c = record {
   closed = λ k s. go k s (ℕ-discrete k h);
@@ -54,9 +54,9 @@ pairs-turn bytes n arcs count ps p base h v u w b l f e c = record {
     -- a column of an earlier pair
     kept : (k o : ℕ) → k < h → o ≤ 6 → column (base + 8 * k + o) n w ≡ column (base + 8 * k + o) n u
     kept k o r i =
-        frame-column (base + 8 * k + o) (base + 8 * h) 8 n w u (pair-frame bytes n arcs count p (base + 8 * h) w u c) (omega arith) (inr (omega arith, omega arith))
+        frame-column (base + 8 * k + o) (base + 8 * h) 8 n w u (pair-frame false bytes n arcs count p (base + 8 * h) w u c) (omega arith) (inr (omega arith, omega arith))
 
-    go : (k : ℕ) → k < h + 1 → Dec (k ≡ h) → PairClosed bytes n arcs count (getD ps k noPair) (base + 8 * k) w
+    go : (k : ℕ) → k < h + 1 → Dec (k ≡ h) → PairClosed false bytes n arcs count (getD ps k noPair) (base + 8 * k) w
     go k s (yes q) = rw (q, ← e) (c .closed)
     go k s (no q) =
         let r : k < h = omega arith in

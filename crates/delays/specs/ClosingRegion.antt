@@ -23,10 +23,11 @@ use Rattle.memory.specs.declared.pair.Pair.{Pair}
 use Rattle.memory.specs.declared.pair.PairList.{PairList}
 use Rattle.memory.specs.Pairs.{pairsAs, noPair}
 
--- the closing delays of a pair stand in the columns at place at and four bytes behind
-pub record PairClosed (bytes : List ℕ) (n : ℕ) (arcs : List ℕ) (count : ℕ) (p : Pair) (at : ℕ) (w : List ℕ) : Type 0 where
-  pub least : Least (edges (p .first - 1) (p .second - 1) 0 count arcs) n bytes (column at n w)
-  pub opposite : Least (edges (p .second - 1) (p .first - 1) 0 count arcs) n bytes (column (at + 4) n w)
+-- the closing delays of a pair, of the table or where reversed of its reversal, stand in the columns at place at and
+-- four bytes behind
+pub record PairClosed (reversed : Bool) (bytes : List ℕ) (n : ℕ) (arcs : List ℕ) (count : ℕ) (p : Pair) (at : ℕ) (w : List ℕ) : Type 0 where
+  pub least : Least reversed (edges reversed (p .first - 1) (p .second - 1) 0 count arcs) n bytes (column at n w)
+  pub opposite : Least reversed (edges reversed (p .second - 1) (p .first - 1) 0 count arcs) n bytes (column (at + 4) n w)
 
 -- place i lies outside the two columns of a pair, and outside those of the first k of several
 abbrev pub OutsidePair : ℕ → ℕ → ℕ → Type 0
@@ -35,14 +36,15 @@ OutsidePair at n i = Outside at 2 n i × Outside (at + 4) 2 n i
 abbrev pub OutsidePairs : ℕ → ℕ → ℕ → ℕ → Type 0
 OutsidePairs base k n i = (h : ℕ) → h < k → OutsidePair (base + 8 * h) n i
 
--- the delays of one pair, and of the first k of several, were found from v to w, and nothing else changed
-pub record ClosesPair (bytes : List ℕ) (n : ℕ) (arcs : List ℕ) (count : ℕ) (p : Pair) (at : ℕ) (w v : List ℕ) : Type 0 where
-  pub closed : PairClosed bytes n arcs count p at w
+-- the delays of one pair, and those of the table of the first k of several, were found from v to w, and nothing else
+-- changed
+pub record ClosesPair (reversed : Bool) (bytes : List ℕ) (n : ℕ) (arcs : List ℕ) (count : ℕ) (p : Pair) (at : ℕ) (w v : List ℕ) : Type 0 where
+  pub closed : PairClosed reversed bytes n arcs count p at w
   pub same-length : length w ≡ length v
   pub same : (i : ℕ) → OutsidePair at n i → getD w i 0 ≡ getD v i 0
 
 pub record ClosesPairs (bytes : List ℕ) (n : ℕ) (arcs : List ℕ) (count : ℕ) (ps : List Pair) (k base : ℕ) (w v : List ℕ) : Type 0 where
-  pub closed : (h : ℕ) → h < k → PairClosed bytes n arcs count (getD ps h noPair) (base + 8 * h) w
+  pub closed : (h : ℕ) → h < k → PairClosed false bytes n arcs count (getD ps h noPair) (base + 8 * h) w
   pub same-length : length w ≡ length v
   pub same : (i : ℕ) → OutsidePairs base k n i → getD w i 0 ≡ getD v i 0
 

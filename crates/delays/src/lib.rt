@@ -19,28 +19,42 @@ ghost use Rattle.relaxation.specs.Lowered.{FillsLeast};
 ghost use Rattle.memory.specs.Pairs.{Named, Within, noPair};
 ghost use Rattle.delays.specs.ClosingRegion.{ClosesPair, ClosesPairs, closableAt, viableAt, WritesClosing, Tests};
 
-// The closing delays of a pair: the least, and the least of the pair turned round.
-fn close_pair(
+// The closing delays of a pair, of the table or, where `reversed`, of its reversal: the least, and the least of the pair
+// turned round.
+pub fn close_pair(
     bytes: &[u8],
     states: usize,
     arcs: &[u8],
     count: usize,
+    reversed: bool,
     order: &[u16],
     p: Pair,
     work: &mut [u8],
     at: usize,
 )
     requires { ⌜ Readable (now bytes) states (now arcs) count × Within 8 p × Room at 8 states (now work) ⌝ }
-    ensures { λ _. ⌜ ClosesPair (now (bytes .entry)) states (now (arcs .entry)) count p at (now (work .exit)) (now (work .entry)) ⌝ }
+    ensures { λ _. ⌜ ClosesPair reversed (now (bytes .entry)) states (now (arcs .entry)) count p at (now (work .exit)) (now (work .entry)) ⌝ }
 {
     let first = p.first as usize - 1;
     let second = p.second as usize - 1;
-    least_delays(bytes, states, arcs, count, first, second, order, work, at);
     least_delays(
         bytes,
         states,
         arcs,
         count,
+        reversed,
+        first,
+        second,
+        order,
+        work,
+        at,
+    );
+    least_delays(
+        bytes,
+        states,
+        arcs,
+        count,
+        reversed,
         second,
         first,
         order,
@@ -67,25 +81,37 @@ fn close_pairs(
     let mut h: usize = 0;
     while h < used {
         let p = pairs[h];
-        close_pair(bytes, states, arcs, count, order, p, work, base + 8 * h);
+        close_pair(
+            bytes,
+            states,
+            arcs,
+            count,
+            false,
+            order,
+            p,
+            work,
+            base + 8 * h,
+        );
         h += 1;
     }
 }
 
-// Which states reach a final one: the closing delays on one tape taken twice, each of them none or missing.
-fn mark_reaching(
+// Which states reach a final one, in the table or, where `reversed`, in its reversal: the closing delays on one tape
+// taken twice, each of them none or missing.
+pub fn mark_reaching(
     bytes: &[u8],
     states: usize,
     arcs: &[u8],
     count: usize,
+    reversed: bool,
     order: &[u16],
     work: &mut [u8],
     at: usize,
 )
     requires { ⌜ Readable (now bytes) states (now arcs) count × Room at 2 states (now work) ⌝ }
-    ensures { λ _. ⌜ FillsLeast (edges 0 0 0 count (now (arcs .entry))) at states (now (bytes .entry)) (now (work .exit)) (now (work .entry)) ⌝ }
+    ensures { λ _. ⌜ FillsLeast reversed (edges reversed 0 0 0 count (now (arcs .entry))) at states (now (bytes .entry)) (now (work .exit)) (now (work .entry)) ⌝ }
 {
-    least_delays(bytes, states, arcs, count, 0, 0, order, work, at);
+    least_delays(bytes, states, arcs, count, reversed, 0, 0, order, work, at);
 }
 
 // Whether `x` with the delay held as `v` is at most `y`.
@@ -147,6 +173,7 @@ fn write_tables(
         counts.states,
         arcs,
         counts.arcs,
+        false,
         order,
         work,
         base + 32,

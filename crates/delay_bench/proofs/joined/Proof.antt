@@ -2,7 +2,7 @@
 use Rattle.delay_bench.proofs.JoinedFacts.{joined-one, joined-end}
 use Rattle.relaxation.specs.Edges.{edges, Joined}
 use native.Mathlib.Omega.{arith}
-use mathlib.Core.Bool.{false≢true}
+use mathlib.Core.Bool.{false, false≢true}
 use Prim.Native.Nat.{_+_, _-_, _*_, _≤_}
 use lib.ListN.{length}
 use borrow.Author.Needs.{needs}
@@ -14,7 +14,7 @@ use Rattle.relaxation.proofs.edge_at.Reads as edge-at-reads
 
 abbrev Inv-loop : tie.InvT-loop
 Inv-loop arcs count states left₀ from₀ left from =
-    (from + 80 * left ≤ length arcs) × (Joined states (edges 0 0 from left arcs) → Joined states (edges 0 0 0 count arcs))
+    (from + 80 * left ≤ length arcs) × (Joined states (edges false 0 0 from left arcs) → Joined states (edges false 0 0 0 count arcs))
 
 abbrev μ-loop : tie.MeasureT-loop
 μ-loop arcs count states left₀ from₀ left from = left
