@@ -63,8 +63,8 @@ pub max-zero : (n : ℕ) → max 0 n ≡ n
 max-zero n = omega arith
 
 -- the first of the edges
-edges-first : (first second from left rest : ℕ) (arcs : List ℕ) (e : Edge) → left ≡ suc rest → e ≡ edgeAt first second from arcs
-    → edges first second from left arcs ≡ e ∷ edges first second (from + 80) rest arcs
+edges-first : (first second from left rest : ℕ) (arcs : List ℕ) (e : Edge) → left ≡ suc rest → e ≡ edgeAt false first second from arcs
+    → edges false first second from left arcs ≡ e ∷ edges false first second (from + 80) rest arcs
 unfolding edges
 edges-first first second from left rest arcs e l f = rw (l, f)
 
@@ -76,19 +76,19 @@ greatest-first n w e es s t =
     ap₂ (λ (x y : Bool). raised (and x y) (delaySize (e .up) (e .down)) (greatestOf (marksFrom 0 n w) es)) (mark-of n w (e .source) s) (mark-of n w (e .target) t)
 
 -- a turn takes one arc more
-pub greatest-turn : (n first second from left rest best r : ℕ) (arcs w : List ℕ) (e : Edge) → left ≡ suc rest → e ≡ edgeAt first second from arcs
+pub greatest-turn : (n first second from left rest best r : ℕ) (arcs w : List ℕ) (e : Edge) → left ≡ suc rest → e ≡ edgeAt false first second from arcs
     → e .source < n → e .target < n → r ≡ raised (arcOnPath (e .source) (e .target) w) (delaySize (e .up) (e .down)) best
-    → max r (greatestOf (marksFrom 0 n w) (edges first second (from + 80) rest arcs)) ≡ max best (greatestOf (marksFrom 0 n w) (edges first second from left arcs))
+    → max r (greatestOf (marksFrom 0 n w) (edges false first second (from + 80) rest arcs)) ≡ max best (greatestOf (marksFrom 0 n w) (edges false first second from left arcs))
 greatest-turn n first second from left rest best r arcs w e l f s t h =
     let on = arcOnPath (e .source) (e .target) w in
-    let m = greatestOf (marksFrom 0 n w) (edges first second (from + 80) rest arcs) in
-    let x : greatestOf (marksFrom 0 n w) (edges first second from left arcs) ≡ raised on (delaySize (e .up) (e .down)) m
-    = ap (greatestOf (marksFrom 0 n w)) (edges-first first second from left rest arcs e l f) ∙ greatest-first n w e (edges first second (from + 80) rest arcs) s t in
+    let m = greatestOf (marksFrom 0 n w) (edges false first second (from + 80) rest arcs) in
+    let x : greatestOf (marksFrom 0 n w) (edges false first second from left arcs) ≡ raised on (delaySize (e .up) (e .down)) m
+    = ap (greatestOf (marksFrom 0 n w)) (edges-first first second from left rest arcs e l f) ∙ greatest-first n w e (edges false first second (from + 80) rest arcs) s t in
     rw (h, x) (raised-swap on (delaySize (e .up) (e .down)) best m)
 
 -- at the end no arc is left
 pub greatest-end : (first second from left best : ℕ) (arcs : List ℕ) (marks : List Bool) → left ≡ 0
-    → best ≡ max best (greatestOf marks (edges first second from left arcs))
+    → best ≡ max best (greatestOf marks (edges false first second from left arcs))
 unfolding greatestOf edges
 greatest-end first second from left best arcs marks l = rw l (omega arith)
 

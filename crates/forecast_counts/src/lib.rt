@@ -4,6 +4,7 @@ use memory::bytes::get16;
 use relaxation::Edge;
 use relaxation::edge_at;
 ghost use mathlib.Core.Path.{_≡_};
+ghost use mathlib.Core.Bool.{false};
 ghost use Prim.Native.Nat.{_+_, _*_, _≤_, _<_};
 ghost use mathlib.Core.List.{[]};
 ghost use lib.Dec.{eqb};
@@ -148,14 +149,14 @@ pub fn greatest_delay(
     work: &[u8],
     states: usize,
 ) -> u8
-    requires { ⌜ ReadableArcs states (now arcs) count first second × (64 * states ≤ length (now work)) ⌝ }
-    ensures { λ r. ⌜ r ≡ greatestOf (marksFrom 0 states (now (work .entry))) (edges first second 0 count (now (arcs .entry))) ⌝ }
+    requires { ⌜ ReadableArcs states (now arcs) count false first second × (64 * states ≤ length (now work)) ⌝ }
+    ensures { λ r. ⌜ r ≡ greatestOf (marksFrom 0 states (now (work .entry))) (edges false first second 0 count (now (arcs .entry))) ⌝ }
 {
     let mut best: u8 = 0;
     let mut from: usize = 0;
     let mut left = count;
     while 0 < left {
-        let e = edge_at(arcs, from, first, second);
+        let e = edge_at(arcs, from, false, first, second);
         best = raise(work, e, best);
         from += 80;
         left -= 1;

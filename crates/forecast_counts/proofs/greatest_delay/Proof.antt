@@ -6,6 +6,7 @@ use Rattle.relaxation.proofs.RunLaws.{joined-at}
 use native.Mathlib.Omega.{arith}
 use Prim.Native.Nat.{_+_, _-_, _*_, _≤_, max}
 use mathlib.Core.Path.{_≡_, _∙_}
+use mathlib.Core.Bool.{false}
 use borrow.Author.Needs.{needs}
 use Rattle.forecast_counts.proofs.greatest_delay.Statement.{statement}
 use Rattle.forecast_counts.proofs.greatest_delay.Tie as tie
@@ -17,7 +18,7 @@ use Rattle.relaxation.proofs.edge_at.Reads as edge-at-reads
 abbrev Inv-loop : tie.InvT-loop
 Inv-loop arcs count first second work states best₀ from₀ left₀ best from left =
     (left ≤ count) × (from + 80 * left ≡ 80 * count)
-    × (max best (greatestOf (marksFrom 0 states work) (edges first second from left arcs)) ≡ greatestOf (marksFrom 0 states work) (edges first second 0 count arcs))
+    × (max best (greatestOf (marksFrom 0 states work) (edges false first second from left arcs)) ≡ greatestOf (marksFrom 0 states work) (edges false first second 0 count arcs))
 
 abbrev μ-loop : tie.MeasureT-loop
 μ-loop arcs count first second work states best₀ from₀ left₀ best from left = left
@@ -36,7 +37,7 @@ raise-requires c κs =
     let l = c .before .before .loop in
     let s = c .before .before .before .before .before .pre in
     let t = c .before .loop-test .taken in
-    let j = joined-at _ _ _ 0 (c .before .before .before .before .before .args .count) (c .before .before .before .before .before .args .count - l .left) _ _ _ (s .0 .joined) (omega (arith, l .inv .0, t)) (omega (arith, l .inv .0, l .inv .1)) (c .edge-at .ensures) in
+    let j = joined-at _ _ _ _ 0 (c .before .before .before .before .before .args .count) (c .before .before .before .before .before .args .count - l .left) _ _ _ (s .0 .joined) (omega (arith, l .inv .0, t)) (omega (arith, l .inv .0, l .inv .1)) (c .edge-at .ensures) in
     (omega (arith, j .0, s .1), omega (arith, j .1, s .1))
 
 add-from : tie.Need-add-from Inv-loop μ-loop
@@ -53,7 +54,7 @@ loop-again c =
     let l = c .before .before .before .loop in
     let s = c .before .before .before .before .before .before .pre in
     let t = c .before .before .loop-test .taken in
-    let j = joined-at _ _ _ 0 (c .before .before .before .before .before .before .args .count) (c .before .before .before .before .before .before .args .count - l .left) _ _ _ (s .0 .joined) (omega (arith, l .inv .0, t)) (omega (arith, l .inv .0, l .inv .1)) (c .before .edge-at .ensures) in (
+    let j = joined-at _ _ _ _ 0 (c .before .before .before .before .before .before .args .count) (c .before .before .before .before .before .before .args .count - l .left) _ _ _ (s .0 .joined) (omega (arith, l .inv .0, t)) (omega (arith, l .inv .0, l .inv .1)) (c .before .edge-at .ensures) in (
       omega (arith, l .inv .0),
       omega (arith, l .inv .1, t),
       greatest-turn _ _ _ _ (l .left) (l .left - 1) _ _ _ _ _ (omega (arith, t)) (c .before .edge-at .ensures) (j .0) (j .1) (c .raise .ensures) ∙ l .inv .2,
