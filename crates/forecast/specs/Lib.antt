@@ -1,2 +1,3 @@
 -- What the contracts of the call cite.
 pub mod Outcome
+pub mod Pairs

@@ -22,13 +22,13 @@ ghost use Rattle.forecast_counts.specs.Counts.{onPathAt, marksFrom, endl
 // state can be reached, and whether an initial state leads here. The least closing delay of the automaton is first.
 const OPPOSITE_AFTER: usize = 4;
 
-const LEAST_BEFORE: usize = 8;
+pub const LEAST_BEFORE: usize = 8;
 
 const OPPOSITE_BEFORE: usize = 12;
 
-const TO_FINAL: usize = 32;
+pub const TO_FINAL: usize = 32;
 
-const FROM_INITIAL: usize = 36;
+pub const FROM_INITIAL: usize = 36;
 
 // What stands there for a delay that is endless, and for one that is missing.
 const ENDLESS: u16 = 0;
