@@ -98,14 +98,14 @@ module _ (m : Memory) (s : Sound m) where
       → zs ≡ leastDelays (directed r t) i j
   least-of = least-are m t (sound-well-formed m s) (sound-holds m s)
 
-  -- those on one tape taken twice mark the coaccessible states
+  -- the least delays on one tape taken twice mark the coaccessible states
   pub reaching-are : (r : Bool) (zs : List ℕ) → Least r (edges r 0 0 0 (m .arcs) (m .arcBytes)) (m .states) (m .stateBytes) zs
       → zs ≡ map held (coaccessible (graph (directed r t)) (finals (directed r t)))
   reaching-are r zs l =
       let w = sound-well-formed m s in
       least-of r 0 0 (w .counts .someTape) (w .counts .someTape) zs l ∙ least-held (directed r t) (directed-formed r t (well-formed t w)) 0
 
-  -- those of a pair, and of it turned round
+  -- the two columns of a pair hold its least delays, and those of it turned round
   pub pair-closed : (r : Bool) (p : Pair) → Within (m .tapes) p → (at : ℕ) (w : List ℕ) → PairClosed r (m .stateBytes) (m .states) (m .arcBytes) (m .arcs) p at w
       → (column at (m .states) w ≡ leastDelays (directed r t) (p .first - 1) (p .second - 1))
       × (column (at + 4) (m .states) w ≡ leastDelays (directed r t) (p .second - 1) (p .first - 1))

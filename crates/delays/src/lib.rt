@@ -19,8 +19,8 @@ ghost use Rattle.relaxation.specs.Lowered.{FillsLeast};
 ghost use Rattle.memory.specs.Pairs.{Named, Within, noPair};
 ghost use Rattle.delays.specs.ClosingRegion.{ClosesPair, ClosesPairs, closableAt, viableAt, WritesClosing, Tests};
 
-// The closing delays of a pair, of the table or, where `reversed`, of its reversal: the least, and the least of the pair
-// turned round.
+// The closing delays of a pair, of the table or, where `reversed`, of its reversal: the least, and the least of the
+// pair turned round.
 pub fn close_pair(
     bytes: &[u8],
     states: usize,

@@ -105,7 +105,7 @@ module _ (m : Memory) (t : Automaton ℕ) (w : WellFormed t) (h : Holds m t) whe
         ap (λ (q : ℕ). getD (m .arcBytes) q 0) e ∙ sym (getD-drop p (m .arcBytes) 0 0) ∙ sym (getD-take 9 (drop p (m .arcBytes)) 0 0 (omega arith))
         ∙ ap (λ (x : List ℕ). getD x 0 0) (label-field m t w h k noArc l i b)
 
-    -- it as it is read
+    -- the edge read of it is the arc of the table, or of its reversal
     edge-is : (r : Bool) (i j : ℕ) → i < t .tapes → j < t .tapes → edgeAt r i j (0 + 80 * k) (m .arcBytes) ≡ edgeOf i j (getD (directed r t .arcs) k noArc)
     edge-is false i j a b = λ z. record { source = source-is z; target = target-is z; up = label-is i a z; down = label-is j b z }
     edge-is true i j a b =
@@ -141,7 +141,7 @@ module _ (m : Memory) (t : Automaton ℕ) (w : WellFormed t) (h : Holds m t) whe
         ap (λ (q : ℕ). getD (m .stateBytes) q 0) e ∙ sym (getD-drop p (m .stateBytes) 0 0) ∙ sym (getD-take 1 (drop p (m .stateBytes)) 0 0 (omega arith))
         ∙ ap (λ (x : List ℕ). getD x 0 0) (state-field m t w h k noState l o 1 (omega arith))
 
-    -- it as it is read
+    -- the one read of it is for the final weight in the table, or in its reversal
     flag-is : (r : Bool) → getD (m .stateBytes) (0 + 10 * k + flagPlace r) 0 ≡ flag (getD (directed r t .states) k noState .final) .0
     flag-is false = flag-byte 5 (omega arith)
     flag-is true =

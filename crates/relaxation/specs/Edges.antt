@@ -106,6 +106,6 @@ pub record Filled (at n : ℕ) (xs w v : List ℕ) : Type 0 where
 abbrev pub roundsOf : Bool → List Edge → ℕ → List ℕ → List ℕ
 roundsOf diverging es n xs = iterate n (roundOf diverging es) xs
 
--- and after as many of relaxation and then of divergence
+-- the delays after as many rounds of relaxation, and then as many of divergence
 abbrev pub bothRounds : List Edge → ℕ → List ℕ → List ℕ
 bothRounds es n xs = roundsOf true es n (roundsOf false es n xs)
