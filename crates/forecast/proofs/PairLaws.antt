@@ -20,7 +20,8 @@ use Rattle.automata.specs.Reversal.{reversal}
 use Rattle.automata.specs.Memory.{Memory, Sound, tableOf}
 use Rattle.automata.specs.Forecast.{reaching, onPaths, pathStates, greatestDelay, neededDelay, meetsBoth, mixedOn, symbolsOn, leftoversOf, told, mixed, needs, forecast, maxTold, cappedSum, toldCapped}
 use Rattle.automata.specs.ForecastCall.{forecastOf}
-use Rattle.automata.proofs.ListFacts.{place-default}
+use Rattle.automata.specs.Calls.Work.{forecastWork}
+use Rattle.automata.proofs.ListFacts.{place-bound, place-default}
 use Rattle.automata.proofs.ReachingDelays.{held, held-at}
 use Rattle.automata.proofs.PathStates.{both-marked, length-onPaths}
 use Rattle.automata.proofs.RankFacts.{rank-le}
@@ -61,6 +62,11 @@ noArc = record { source = 0; target = 0; weight = 0; labels = [] }
 mark-held : (b : Bool) → not (eqb (held b) missing) ≡ b
 mark-held true = refl
 mark-held false = refl
+
+-- the work space of a forecast has 64 bytes a state
+pub work-room : (n l : ℕ) → forecastWork n ≤ l → 64 * n ≤ l
+unfolding forecastWork
+work-room n l h = h
 
 module _ (m : Memory) (s : Sound m) where
   abbrev n : ℕ
@@ -122,10 +128,10 @@ module _ (m : Memory) (s : Sound m) where
 
   module _ (p : Pair) (i : Within (m .tapes) p) (w u v : List ℕ) (room : 64 * n ≤ length v)
       (a : ClosesPair false (m .stateBytes) n (m .arcBytes) (m .arcs) p 0 u v) (b : ClosesPair true (m .stateBytes) n (m .arcBytes) (m .arcs) p 8 w u) where
-    before : Closing
+    abbrev before : Closing
     before = closing (reversal A) (onTapes p)
 
-    after : Closing
+    abbrev after : Closing
     after = closing A (onTapes p)
 
     -- the columns before the second call
@@ -170,6 +176,15 @@ module _ (m : Memory) (s : Sound m) where
     few-tapes : m .tapes ≤ 8
     few-tapes = omega (arith, sound-holds m s .tapes, sound-well-formed m s .counts .tapesFit)
 
+    -- the pair names tapes of eight
+    pub within-eight : Within 8 p
+    within-eight = record {
+      first-from = i .first-from;
+      first-to = omega (arith, i .first-to, few-tapes);
+      second-from = i .second-from;
+      second-to = omega (arith, i .second-to, few-tapes);
+    }
+
     -- they can be read on the pair's tapes
     pub arcs-readable : ReadableArcs n (m .arcBytes) (m .arcs) false (p .first - 1) (p .second - 1)
     arcs-readable = readable-arcs (m .stateBytes) n (m .arcBytes) (m .arcs) false (p .first - 1) (p .second - 1) (sound-readable m s) (omega (arith, first-in, few-tapes)) (omega (arith, second-in, few-tapes))
@@ -195,7 +210,7 @@ module _ (m : Memory) (s : Sound m) where
     label-is : (t : ℕ) → t < m .tapes → (k : ℕ) (a : Arc ℕ) → getElem? (A .arcs) k ≡ some a → labelAt t (0 + 80 * k) (m .arcBytes) ≡ labelOn t a
     unfolding part
     label-is t l k a e =
-        let h : k < m .arcs = omega (arith, place-lt (A .arcs) k e, sound-holds m s .arcs) in
+        let h : k < m .arcs = omega (arith, place-bound (A .arcs) k e, sound-holds m s .arcs) in
         let r = reads-arc m s k h a in
         let z : 0 + 80 * k ≡ 80 * k = omega arith in
         let y : 80 * k + 9 + 9 * t ≡ 80 * k + 8 + 9 * t + 1 = omega arith in

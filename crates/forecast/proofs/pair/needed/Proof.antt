@@ -1,3 +1,6 @@
+-- `forecast::pair::needed` meets its contract. Assumes nothing.
+use native.Mathlib.Omega.{arith}
+use Rattle.forecast.proofs.ToldLaws.{delay-told, needed-told}
 use borrow.Author.Needs.{needs}
 use Rattle.forecast.proofs.pair.needed.Statement.{statement}
 use Rattle.forecast.proofs.pair.needed.Tie as tie
@@ -8,29 +11,23 @@ use Rattle.forecast.proofs.pair.told_by.Reads as told-by-reads
 use Rattle.forecast_counts.proofs.greatest_delay.Reads as greatest-delay-reads
 use Rattle.forecast_counts.proofs.symbols_used.Reads as symbols-used-reads
 
--- src/pair.rt:85:9
 greatest-delay-requires : tie.Need-greatest-delay-requires
 greatest-delay-requires c κs = search needs
 
--- src/pair.rt:86:9
 delay-by-requires : tie.Need-delay-by-requires
 delay-by-requires c κs = search needs
 
--- src/pair.rt:87:9
 symbols-used-requires : tie.Need-symbols-used-requires
 symbols-used-requires c κs = search needs
 
--- src/pair.rt:88:30
 cast-told-by : tie.Need-cast-told-by
-cast-told-by c = ?
+cast-told-by c = let q = delay-told _ _ _ _ (c .before .delay-by .ensures) (c .before .before .greatest-delay .ensures) in omega (arith, q, c .before .before .before .before .before .pre .5)
 
--- src/pair.rt:88:5
 told-by-requires : tie.Need-told-by-requires
 told-by-requires c κs = search needs
 
--- src/pair.rt:73:1
 returns : tie.Need-returns
-returns c = ?
+returns c = needed-told _ _ _ _ _ _ _ _ _ _ (delay-told _ _ _ _ (c .before .before .delay-by .ensures) (c .before .before .before .greatest-delay .ensures)) (c .before .symbols-used .ensures .0) (c .told-by .ensures)
 
 pub needed-spec : {M : Type 1} → statement M
 needed-spec =

@@ -1,3 +1,7 @@
+-- `forecast::pair::told_by` meets its contract. Assumes nothing.
+use native.Mathlib.Omega.{arith}
+use Rattle.forecast.proofs.ToldLaws.{sum-le, number-small, told-over, told-number}
+use mathlib.Core.Path.{refl}
 use borrow.Author.Needs.{needs}
 use Rattle.forecast.proofs.pair.told_by.Statement.{statement}
 use Rattle.forecast.proofs.pair.told_by.Tie as tie
@@ -5,33 +9,26 @@ use Rattle.forecast.proofs.pair.told_by.Reads as reads
 use Rattle.forecast.proofs.pair.told_by.Lts as lts
 use Rattle.forecast_counts.proofs.capped_sum.Reads as capped-sum-reads
 
--- src/pair.rt:54:9
 capped-sum-requires : tie.Need-capped-sum-requires
 capped-sum-requires c κs = search needs
 
--- src/pair.rt:55:32
 mul-number : tie.Need-mul-number
-mul-number c = ?
+mul-number c = omega (arith, sum-le (c .before .args .symbols) (c .before .args .delay) _ (c .capped-sum .ensures))
 
--- src/pair.rt:55:28
 add-number : tie.Need-add-number
-add-number c = ?
+add-number c = omega (arith, sum-le (c .before .args .symbols) (c .before .args .delay) _ (c .capped-sum .ensures))
 
--- src/pair.rt:55:18
 mul-number-2 : tie.Need-mul-number-2
-mul-number-2 c = ?
+mul-number-2 c = omega (arith, number-small _ _ (c .before .pre .0) (sum-le (c .before .args .symbols) (c .before .args .delay) _ (c .capped-sum .ensures)))
 
--- src/pair.rt:57:9
 returns : tie.Need-returns
-returns c = ?
+returns c = told-over _ (c .before .before .args .symbols) (c .before .before .args .delay) _ _ (c .before .capped-sum .ensures) refl (c .if1 .taken)
 
--- src/pair.rt:68:17
 cast-t9 : tie.Need-cast-t9
 cast-t9 c = search needs
 
--- src/pair.rt:50:1
 returns-2 : tie.Need-returns-2
-returns-2 c = ?
+returns-2 c = told-number _ (c .before .before .args .symbols) (c .before .before .args .delay) _ _ (c .before .capped-sum .ensures) refl (omega (arith, c .if1 .left))
 
 pub told-by-spec : {M : Type 1} → statement M
 told-by-spec =
