@@ -1,5 +1,6 @@
 // The calls for C. A slice is a pointer and a length; slices of a call must not overlap, but two only read may.
 use c_words::word::bytes_word;
+use c_words::word::forecast_word;
 use c_words::word::table_word;
 use c_words::word::weight_word;
 use memory::answer::Counts;
@@ -15,8 +16,9 @@ ghost use Rattle.automata.specs.Calls.Union.{unionOutcome};
 ghost use Rattle.automata.specs.Calls.Project.{projectOutcome};
 ghost use Rattle.automata.specs.Calls.Drop.{dropOutcome};
 ghost use Rattle.automata.specs.Calls.Lookup.{lookupOutcome};
+ghost use Rattle.automata.specs.Calls.Forecast.{forecastRecorded};
 ghost use Rattle.pairs.specs.PairBytes.{pairsOf};
-ghost use Rattle.c_words.specs.Words.{tellsMade, toldMade, tellsBuilt, toldBuilt, tellsJoined, toldJoined, tellsWritten, toldWritten, tellsFound, toldFound};
+ghost use Rattle.c_words.specs.Words.{tellsMade, toldMade, tellsBuilt, toldBuilt, tellsJoined, toldJoined, tellsWritten, toldWritten, tellsFound, toldFound, tellsRecorded, toldRecorded};
 
 // Reads the text of a table.
 #[no_mangle]
@@ -297,4 +299,28 @@ pub extern "C" fn tomchoen_lookup(
     };
     let answer = lookup::call::lookup(counts, state_bytes, arc_bytes, tuple, work);
     weight_word(answer)
+}
+
+// Tells for pairs of tapes, two bytes a pair, what a build on each can need.
+#[no_mangle]
+pub extern "C" fn tomchoen_forecast(
+    tapes: usize,
+    states: usize,
+    arcs: usize,
+    state_bytes: &[u8],
+    arc_bytes: &[u8],
+    pairs: &[u8],
+    result: &mut [u8],
+    work: &mut [u8],
+) -> u64
+    ensures { λ r. ⌜ tellsRecorded r (now (result .exit)) (now (work .exit)) ≡ toldRecorded (forecastRecorded (memoryOf tapes states arcs (now («state_bytes» .entry)) (now («arc_bytes» .entry))) (pairsOf (now (pairs .entry))) (now (result .entry)) (now (work .entry))) ⌝ }
+{
+    let counts = Counts {
+        tapes,
+        states,
+        arcs,
+    };
+    let answer =
+        forecast::call::forecast_into(counts, state_bytes, arc_bytes, pairs, result, work);
+    forecast_word(answer)
 }

@@ -1,0 +1,27 @@
+// The forecast over pairs of tapes that are lent as records.
+use forecast::call::forecast_judged;
+use forecast_records::ForecastAnswer;
+use memory::answer::Counts;
+use memory::pair::Pair;
+use pair_records::judge_records;
+ghost use mathlib.Core.Path.{_≡_};
+ghost use mathlib.Core.List.{map};
+ghost use Rattle.automata.specs.Calls.Forecast.{foretoldOf, forecastOutcome};
+ghost use Rattle.memory.specs.Answers.{lent};
+ghost use Rattle.memory.specs.Pairs.{pairAs};
+ghost use Rattle.forecast_records.specs.Values.{answerAs};
+
+// Space known beforehand: for each pair of tapes what a build of the table in `states` and `arcs` on it can need, in
+// list order. No build is run. Work space is zero afterwards.
+pub fn forecast(
+    counts: Counts,
+    states: &[u8],
+    arcs: &[u8],
+    pairs: &[Pair],
+    work: &mut [u8],
+) -> ForecastAnswer
+    ensures { λ r. ⌜ foretoldOf (answerAs r) (now (work .exit)) ≡ forecastOutcome (lent counts (now (states .entry)) (now (arcs .entry))) (map pairAs (now (pairs .entry))) (now (work .entry)) ⌝ }
+{
+    let listed = judge_records(pairs, counts.tapes, 0);
+    forecast_judged(counts, states, arcs, listed, true, work)
+}
