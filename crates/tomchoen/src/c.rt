@@ -320,7 +320,6 @@ pub extern "C" fn tomchoen_forecast(
         states,
         arcs,
     };
-    let answer =
-        forecast::call::forecast_into(counts, state_bytes, arc_bytes, pairs, result, work);
+    let answer = forecast::call::forecast_into(counts, state_bytes, arc_bytes, pairs, result, work);
     forecast_word(answer)
 }
