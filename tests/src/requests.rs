@@ -401,3 +401,21 @@ pub fn request(random: &mut Random) -> Request {
         _ => forecast_request(random),
     }
 }
+
+/// A request of the call with a name, if there is one.
+pub fn request_of(call: &str, random: &mut Random) -> Option<Request> {
+    let made = match call {
+        "read" => read_request,
+        "write" => write_request,
+        "build" => intersect_request,
+        "product" => product_request,
+        "join" => join_request,
+        "union" => union_request,
+        "project" => project_request,
+        "drop" => drop_request,
+        "lookup" => lookup_request,
+        "forecast" => forecast_request,
+        _ => return None,
+    };
+    Some(made(random))
+}

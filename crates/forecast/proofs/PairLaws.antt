@@ -1,24 +1,23 @@
 -- What is counted of a pair in the work space and in the arc records is the forecast of the definition.
-use Prim.Native.Nat.{ℕ, zero, suc, _+_, _-_, _*_, _≤_, _<_}
-use mathlib.Core.Path.{_≡_, refl, sym, ap, ap₂, subst, _∙_}
+use Prim.Native.Nat.{ℕ, zero, _+_, _-_, _*_, _≤_, _<_}
+use mathlib.Core.Path.{_≡_, refl, sym, ap, ap₂, _∙_}
 use mathlib.Core.Logic.{inl, inr}
 use mathlib.Core.Bool.{Bool, true, false, not}
 use mathlib.Core.Option.{some}
-use mathlib.Core.List.{List, [], _∷_, _++_, map}
+use mathlib.Core.List.{List, [], _++_, map}
 use native.Mathlib.Omega.{arith}
-use native.Mathlib.Nat.{mul-le-mul}
-use lib.Dec.{eqb, ltb}
-use lib.ListN.{length, getD, getElem?, take}
+use lib.Dec.{eqb}
+use lib.ListN.{length, getD, getElem?}
 use lib.Seq.{take-take}
-use Rattle.automata.specs.Lists.{if, and, or, any, numbered, concat}
+use Rattle.automata.specs.Lists.{and}
 use Rattle.automata.specs.Explore.{insertAll}
 use Rattle.automata.specs.Trim.{rank}
 use Rattle.automata.specs.Automaton.{Automaton, Arc, size, labelOn}
 use Rattle.automata.specs.TapePair.{TapePair, firstLabel, secondLabel, map-reading}
-use Rattle.automata.specs.Closing.{endless, missing, Closing, closing, leastDelays}
+use Rattle.automata.specs.Closing.{missing, Closing, closing}
 use Rattle.automata.specs.Reversal.{reversal}
 use Rattle.automata.specs.Memory.{Memory, Sound, tableOf}
-use Rattle.automata.specs.Forecast.{reaching, onPaths, pathStates, greatestDelay, neededDelay, meetsBoth, mixedOn, symbolsOn, leftoversOf, told, mixed, needs, forecast, maxTold, cappedSum, toldCapped}
+use Rattle.automata.specs.Forecast.{reaching, onPaths, pathStates, greatestDelay, neededDelay, meetsBoth, mixedOn, symbolsOn, leftoversOf, told, mixed, needs, forecast, toldCapped}
 use Rattle.automata.specs.ForecastCall.{forecastOf}
 use Rattle.automata.specs.Calls.Work.{forecastWork}
 use Rattle.automata.proofs.ListFacts.{place-bound, place-default}
@@ -34,7 +33,7 @@ use Rattle.memory.specs.Endian.{le}
 use Rattle.memory.specs.declared.pair.Pair.{Pair}
 use Rattle.memory.specs.Pairs.{pairAs, Within}
 use Rattle.configuration.proofs.SoundLaws.{reads-arc}
-use Rattle.relaxation.specs.Column.{column, Room, Frame}
+use Rattle.relaxation.specs.Column.{column}
 use Rattle.relaxation.specs.Edges.{edges, ReadableArcs}
 use Rattle.relaxation.specs.Lowered.{FillsLeast}
 use Rattle.relaxation.proofs.ColumnLaws.{column-at}

@@ -1,7 +1,7 @@
 -- Laws of the records of forecasts.
-use Prim.Native.Nat.{ℕ, zero, suc, _+_, _*_, _≤_, _<_}
-use mathlib.Core.Path.{_≡_, refl, sym, ap, _∙_}
-use mathlib.Core.Bool.{Bool, true, false}
+use Prim.Native.Nat.{ℕ, suc, _+_, _*_, _≤_, _<_}
+use mathlib.Core.Path.{_≡_, sym, ap, _∙_}
+use mathlib.Core.Bool.{true, false}
 use mathlib.Core.List.{List, [], _∷_, _++_, map, append-nil}
 use native.Mathlib.Omega.{arith}
 use lib.ListN.{length, getD, take, length-take, length-map}
@@ -16,7 +16,7 @@ use Rattle.automata.proofs.ForecastCalls.{length-record, length-records}
 use Rattle.memory.specs.declared.answer.Judged.the-variants.{Fine}
 use Rattle.memory.specs.Region.{splice}
 use Rattle.memory.specs.Endian.{toLe}
-use Rattle.memory.proofs.Laws.{splice-append, splice-front, splice-none}
+use Rattle.memory.proofs.Laws.{splice-append, splice-front}
 use Rattle.forecast_records.specs.declared.Forecast.{Forecast}
 use Rattle.forecast_records.specs.declared.ForecastList.{ForecastList}
 use Rattle.forecast_records.specs.declared.ForecastAnswer.{ForecastAnswer}

@@ -1,7 +1,7 @@
 -- The judgements before any configuration is reached, and the call that they are made for.
 use Prim.Native.Nat.{ℕ}
 use mathlib.Core.Path.{_≡_, refl, sym, ap, _∙_}
-use mathlib.Core.Bool.{Bool, true, false}
+use mathlib.Core.Bool.{Bool, true}
 use mathlib.Core.List.{List}
 use lib.Dec.{leb}
 use lib.ListN.{length}
@@ -13,10 +13,10 @@ use Rattle.automata.specs.Memory.{Memory, Sound, tableOf, decodeTable}
 use Rattle.automata.specs.IntersectCall.{intersectOn, intersectCall}
 use Rattle.automata.specs.Calls.Work.{buildWork, enough}
 use Rattle.automata.specs.Calls.Intersect.{intersectAnswer}
-use Rattle.automata.proofs.AnswerFacts.{refused≢ok, bind-ok}
+use Rattle.automata.proofs.AnswerFacts.{bind-ok}
 use Rattle.automata.proofs.SoundFacts.{sound, tableOf-is, sound-holds}
 use Rattle.memory.specs.declared.answer.Judged.{Judged}
-use Rattle.memory.specs.declared.answer.Judged.the-variants.{Fine, Refused}
+use Rattle.memory.specs.declared.answer.Judged.the-variants.{Fine}
 use Rattle.memory.specs.Answers.{judgedAs}
 use Rattle.memory.proofs.TableLaws.{judged-sound}
 use Rattle.pairs.specs.declared.PairsJudged.{PairsJudged}

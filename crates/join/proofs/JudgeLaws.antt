@@ -32,7 +32,7 @@ use Rattle.pairs.specs.declared.PairsJudged.{PairsJudged}
 use Rattle.pairs.specs.PairTests.{joinPairsAnswer}
 use Rattle.pairs.specs.Judgement.{JoinJudged}
 use Rattle.pairs.proofs.CallLaws.{join-then}
-use Rattle.intersect_result.proofs.PrepareLaws.{turn-then}
+use Rattle.pairs.proofs.TurnLaws.{turn-then}
 use Rattle.join.specs.Judged.{inTurn, Prepares}
 
 -- ---- the width

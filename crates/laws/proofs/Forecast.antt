@@ -1,20 +1,19 @@
 -- Request 2.1 of document 02: a forecast tells what the request says of paths and cycles, and no configuration goes beyond the delay told.
-use mathlib.Core.Path.{_≡_, refl, sym, ap, _∙_}
-use mathlib.Core.Logic.{_↔_, _⊎_, inl, inr}
-use mathlib.Core.Bool.{Bool, true, false}
-use mathlib.Core.Option.{some, Option·some-injective}
-use mathlib.Core.List.{List, [], _∷_, _++_, map}
-use Prim.Native.Nat.{ℕ, zero, suc, _-_, _*_, _≤_, max}
+use mathlib.Core.Path.{_≡_, refl}
+use mathlib.Core.Logic.{_↔_, inl, inr}
+use mathlib.Core.Bool.{Bool, true}
+use mathlib.Core.List.{List, _++_, map}
+use Prim.Native.Nat.{ℕ, _-_, _*_, _≤_}
 use native.Mathlib.Omega.{arith}
-use lib.ListN.{length, getD, getElem?}
-use Rattle.automata.specs.Lists.{if, and, _∈_}
+use lib.ListN.{length}
+use Rattle.automata.specs.Lists.{_∈_}
 use Rattle.automata.specs.Answer.{_>>=_, Answer, ok, refused}
 use Rattle.automata.specs.Automaton.{Automaton, Arc, Formed}
 use Rattle.automata.specs.TapePair.{Pair, TapePair, limited, firstLabel, secondLabel}
 use Rattle.automata.specs.Memory.{Memory, tableOf}
 use Rattle.automata.specs.Config.{Config}
 use Rattle.automata.specs.Viable.{EachPair}
-use Rattle.automata.specs.Forecast.{arcDelay, greatestDelay, onPaths, symbolsOn, Forecast}
+use Rattle.automata.specs.Forecast.{greatestDelay, onPaths, symbolsOn, Forecast}
 use Rattle.automata.specs.Calls.Outcome.{overwrite, print}
 use Rattle.automata.specs.Calls.Work.{enough}
 use Rattle.automata.specs.Calls.Forecast.{forecastAnswer, forecastOutcome, forecastSize, forecastRecords, forecastRecorded}

@@ -6,8 +6,8 @@ use mathlib.Core.Bool.{Bool, true, false}
 use mathlib.Core.List.{List, [], _∷_, _++_}
 use Prim.Native.Nat.{ℕ}
 use native.Mathlib.Omega.{arith}
-use lib.Dec.{eqb, leb}
-use Rattle.automata.specs.Answer.{_>>=_, ok, refused, require}
+use lib.Dec.{eqb}
+use Rattle.automata.specs.Answer.{_>>=_, ok, require}
 use Rattle.automata.specs.Space.{Space}
 use Rattle.automata.specs.OrderedSum.{OrderedSum}
 use Rattle.automata.specs.Automaton.{Automaton, Tuple}

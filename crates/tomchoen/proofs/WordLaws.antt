@@ -5,8 +5,9 @@ use mathlib.Core.List.{List}
 use Prim.Native.Nat.{ℕ}
 use Rattle.automata.specs.Answer.{Answer}
 use Rattle.automata.specs.Calls.Outcome.{TableCounts, Made, Built, Joined, Written, Found, madeOf, builtOf, joinedOf, foundOf}
+use Rattle.automata.specs.Calls.Forecast.{Recorded, recordedOf}
 use Rattle.text.specs.Answers.{writtenOf}
-use Rattle.c_words.specs.Words.{tableWord, bytesWord, weightWord, tellsMade, toldMade, tellsBuilt, toldBuilt, tellsJoined, toldJoined, tellsWritten, toldWritten, tellsFound, toldFound}
+use Rattle.c_words.specs.Words.{tableWord, bytesWord, weightWord, tellsMade, toldMade, tellsBuilt, toldBuilt, tellsJoined, toldJoined, tellsWritten, toldWritten, tellsFound, toldFound, tellsRecorded, toldRecorded}
 
 -- calls that make a table
 pub made-told : (r : ℕ) (a : Answer TableCounts) (states arcs : List ℕ) (o : Made) → madeOf a states arcs ≡ o → r ≡ tableWord a
@@ -31,3 +32,8 @@ joined-told r a states arcs productStates productArcs work o e w =
 -- a lookup
 pub found-told : (r : ℕ) (a : Answer (Option ℕ)) (work : List ℕ) (o : Found) → foundOf a work ≡ o → r ≡ weightWord a → tellsFound r work ≡ toldFound o
 found-told r a work o e w = ap (λ (n : ℕ). tellsFound n work) w ∙ ap toldFound e
+
+-- a forecast
+pub recorded-told : (r : ℕ) (a : Answer ℕ) (result work : List ℕ) (o : Recorded) → recordedOf a result work ≡ o → r ≡ bytesWord a
+    → tellsRecorded r result work ≡ toldRecorded o
+recorded-told r a result work o e w = ap (λ (n : ℕ). tellsRecorded n result work) w ∙ ap toldRecorded e

@@ -1,9 +1,10 @@
 //! Compares every call of the static library with the second implementation on generated requests: the answer and every lent byte.
 //!
-//!     library --cases N --laws N --seed S --keep DIR
+//!     library --cases N --laws N --seed S --keep DIR [--call NAME]
 //!
 //! It prints the seed, each difference, how often each answer was met, and last `N cases, M differences`. Of a difference DIR keeps the
-//! request and both outcomes. With --laws it also tests demand 3's laws on the calls, by weights looked up.
+//! request and both outcomes. With --laws it also tests demand 3's laws on the calls, by weights looked up. With --call all requests are of
+//! one call: read, write, build, product, join, union, project, drop, lookup or forecast.
 //! Exit status: 0 without a difference, 1 with one, 2 where the comparison could not be made.
 
 
@@ -15,7 +16,7 @@ use tomchoen_tests::forecast::FORECAST_BYTES;
 use tomchoen_tests::random::Random;
 use tomchoen_tests::requests::{self, Outcome, Request};
 
-const USAGE: &str = "usage: library --cases N --laws N --seed S --keep DIR";
+const USAGE: &str = "usage: library --cases N --laws N --seed S --keep DIR [--call NAME]";
 
 /// What the command line asks for.
 struct Options {
@@ -23,11 +24,12 @@ struct Options {
     laws: u64,
     seed: u64,
     keep: String,
+    call: Option<String>,
 }
 
 /// The options of a command line, or what is wrong with it.
 fn options(mut words: impl Iterator<Item = String>) -> Result<Options, String> {
-    let mut options = Options { cases: 0, laws: 0, seed: 0, keep: String::new() };
+    let mut options = Options { cases: 0, laws: 0, seed: 0, keep: String::new(), call: None };
     while let Some(name) = words.next() {
         let value = words.next().ok_or(format!("{name} lacks a value"))?;
         let number = || value.parse::<u64>().map_err(|_| format!("{name}: {value} is no number"));
@@ -36,6 +38,8 @@ fn options(mut words: impl Iterator<Item = String>) -> Result<Options, String> {
             "--laws" => options.laws = number()?,
             "--seed" => options.seed = number()?,
             "--keep" => options.keep = value,
+            "--call" if requests::request_of(&value, &mut Random::for_case(0, 0)).is_some() => options.call = Some(value),
+            "--call" => return Err(format!("{value} is no call")),
             _ => return Err(format!("{name} is not known")),
         }
     }
@@ -90,7 +94,9 @@ fn kind(request: &Request, outcome: &Outcome) -> String {
 
 /// Makes and compares one case.
 fn compare(options: &Options, case: u64, answers: &mut BTreeMap<String, u64>) -> io::Result<bool> {
-    let request = requests::request(&mut Random::for_case(options.seed, case));
+    let mut random = Random::for_case(options.seed, case);
+    let asked = options.call.as_deref().and_then(|call| requests::request_of(call, &mut random));
+    let request = asked.unwrap_or_else(|| requests::request(&mut random));
     let expected = requests::outcome(&request);
     *answers.entry(kind(&request, &expected)).or_insert(0) += 1;
     let found = calls::outcome(&request);

@@ -1,10 +1,9 @@
 -- `forecast::pair::forecast_pairs` meets its contract. Assumes nothing.
 use Prim.Native.Nat.{_-_, _≤_}
-use mathlib.Core.Path.{_≡_, refl, sym, subst, _∙_}
+use mathlib.Core.Path.{_≡_, refl, sym, _∙_}
 use mathlib.Core.List.{map}
 use native.Mathlib.Omega.{arith}
-use denote.Ref.{now}
-use lib.ListN.{length, take, set, length-map, length-set}
+use lib.ListN.{length, take, length-map, length-set}
 use Rattle.automata.specs.Memory.{tableOf}
 use Rattle.automata.specs.ForecastCall.{forecastOf}
 use Rattle.memory.specs.Answers.{lent}
