@@ -3,7 +3,7 @@ use Prim.Native.Nat.{ℕ, suc, _+_, _-_, _*_, _≤_, _<_}
 use mathlib.Core.Path.{_≡_, sym, ap, ap₂, _∙_}
 use mathlib.Core.List.{List, [], _∷_, _++_, map}
 use native.Mathlib.Omega.{arith}
-use native.Mathlib.Nat.{zero-mul, mul-le-mul}
+use native.Mathlib.Nat.{mul-le-mul}
 use lib.ListN.{length, getD, take, set, length-set}
 use lib.Seq.{take-suc, take-set-le, getD-set-same}
 use borrow.Author.Tests.{lt-ltb, le-ltb}
@@ -21,19 +21,17 @@ use Rattle.forecast.specs.Pairs.{delayBy, symbolsBy, neededBy}
 
 -- ---- the delay
 
--- without states on successful paths
-pub delay-none : (found greatest : ℕ) → found < 1 → 0 ≡ (found - 1) * greatest
-delay-none found greatest h =
-    let e : found - 1 ≡ 0 = omega arith in
-    sym (ap (λ (k : ℕ). k * greatest) e ∙ zero-mul greatest)
-
 -- by the greatest delay that was found
 pub delay-told : (found g G D : ℕ) → D ≡ (found - 1) * g → g ≡ G → D ≡ (found - 1) * G
 delay-told found g G D e f = e ∙ ap (λ (k : ℕ). (found - 1) * k) f
 
 -- it is a number of 64 bits
-pub delay-small : (found greatest : ℕ) → found ≤ 1024 → greatest < 256 → (found - 1) * greatest ≤ 1023 * 255
-delay-small found greatest h g = let a : found - 1 ≤ 1023 = omega arith in let b : greatest ≤ 255 = omega arith in mul-le-mul a b
+pub delay-small : (found steps greatest : ℕ) → found ≤ 1024 → steps ≡ found - 1 → greatest < 256 → steps * greatest ≤ 1023 * 255
+delay-small found steps greatest h e g = let a : steps ≤ 1023 = omega arith in let b : greatest ≤ 255 = omega arith in mul-le-mul a b
+
+-- by the number of steps
+pub delay-steps : (found steps greatest : ℕ) → steps ≡ found - 1 → steps * greatest ≡ (found - 1) * greatest
+delay-steps found steps greatest e = ap (λ (k : ℕ). k * greatest) e
 
 -- ---- the number
 

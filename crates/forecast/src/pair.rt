@@ -35,15 +35,23 @@ ghost use Rattle.forecast.specs.Pairs.{Marked, delayBy, neededBy};
 // The greatest number that is told.
 const MAX_TOLD: usize = 65535;
 
+// A number less one, or 0 where there is none less.
+fn less_one(n: usize) -> usize
+    ensures { λ r. ⌜ r ≡ n - 1 ⌝ }
+{
+    if n < 1 {
+        return 0;
+    }
+    n - 1
+}
+
 // The delay that a pair can need: the states on successful paths less one, or 0, times the greatest delay of an arc.
 fn delay_by(found: usize, greatest: u8) -> usize
     requires { ⌜ found ≤ 1024 ⌝ }
     ensures { λ r. ⌜ r ≡ (found - 1) * greatest ⌝ }
 {
-    if found < 1 {
-        return 0;
-    }
-    (found - 1) * greatest as usize
+    let steps = less_one(found);
+    steps * greatest as usize
 }
 
 // A delay, and the number of states times the bound on leftovers with it and so many symbols, or that this is over.
