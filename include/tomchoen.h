@@ -18,7 +18,7 @@
  *     must not be null, also where the length is 0, and must have as many bytes as the length says.
  *   - The arrays of one call must not overlap, except that two which are only read (const) may.
  *   - A function reads and writes no memory but the arrays lent to it, allocates nothing and keeps nothing between calls.
- *   - A refusal leaves the result arrays (out_states, out_arcs, output) as they were. Otherwise the records stand at their front and the
+ *   - A refusal leaves the result arrays (out_states, out_arcs, output, result) as they were. Otherwise the records stand at their front and the
  *     rest keeps its bytes.
  *   - Work space, and the product space of a join, are zero afterwards, refused or not.
  *   - Space for a result is counted in whole records; more than 1,024 states and 8,192 arcs are never used.
@@ -47,13 +47,14 @@ enum tomchoen_refusal {
     TOMCHOEN_DELAY = 10,       /* a step that is needed leaves more than the delay limit */
     TOMCHOEN_WEIGHT = 11,      /* a summed weight above 999,999,999 in a product */
     TOMCHOEN_WIDTH = 12,       /* more than eight tapes */
-    TOMCHOEN_SPACE = 13        /* work or output space shorter than needed */
+    TOMCHOEN_SPACE = 13        /* work, output or, of a forecast, result space shorter than needed */
 };
 
 /* A lookup found no successful path that spells the tuple. */
 #define TOMCHOEN_NONE 255
 
-/* The parts of an answer: the low byte; of a table its counts; of a text its length; of a lookup the weight. */
+/* The parts of an answer: the low byte; of a table its counts; of a text or of forecasts the length; of a lookup the
+ * weight. */
 #define TOMCHOEN_REFUSAL(answer) ((unsigned)((answer) & 255))
 #define TOMCHOEN_TAPES(answer) ((size_t)((answer) >> 8 & 255))
 #define TOMCHOEN_STATES(answer) ((size_t)((answer) >> 16 & 65535))
@@ -65,6 +66,20 @@ enum tomchoen_refusal {
 #define TOMCHOEN_STATE_BYTES(states) ((size_t)10 * (states))
 #define TOMCHOEN_ARC_BYTES(arcs) ((size_t)80 * (arcs))
 
+/* Bytes of the forecasts of so many pairs. */
+#define TOMCHOEN_FORECAST_BYTES(pairs) ((size_t)6 * (pairs))
+
+/* The record of pair k, counted from 0, in the result of tomchoen_forecast: what it tells, the delay, the number. */
+#define TOMCHOEN_TWO_BYTES(bytes, at) ((unsigned)((bytes)[at] | (unsigned)(bytes)[(at) + 1] << 8))
+#define TOMCHOEN_FORECAST(result, k) TOMCHOEN_TWO_BYTES(result, TOMCHOEN_FORECAST_BYTES(k))
+#define TOMCHOEN_DELAY_OF(result, k) TOMCHOEN_TWO_BYTES(result, TOMCHOEN_FORECAST_BYTES(k) + 2)
+#define TOMCHOEN_NUMBER_OF(result, k) TOMCHOEN_TWO_BYTES(result, TOMCHOEN_FORECAST_BYTES(k) + 4)
+
+/* What a record tells; 0 is none of these. */
+#define TOMCHOEN_FORECAST_NUMBER 1 /* the delay, and the number of states */
+#define TOMCHOEN_FORECAST_OVER 2   /* the delay; the number is above 65,535, and its place holds 0 */
+#define TOMCHOEN_FORECAST_MIXED 3  /* neither: some successful path touches cycles of positive and of negative delay */
+
 /* Bytes of the text of a table. */
 #define TOMCHOEN_TEXT_BYTES(tapes, states, arcs) \
     ((size_t)16 + (size_t)21 * (states) + ((size_t)23 + (size_t)9 * (tapes)) * (arcs))
@@ -72,6 +87,7 @@ enum tomchoen_refusal {
 /* Bytes of work space; out_* and product_* are whole records lent, read_states is the number of states of the table read. */
 #define TOMCHOEN_BUILD_WORK(out_states, out_arcs, read_states) \
     ((size_t)320 * (out_states) + (size_t)16 * (out_arcs) + (size_t)64 * (read_states))
+#define TOMCHOEN_FORECAST_WORK(read_states) ((size_t)64 * (read_states))
 #define TOMCHOEN_PRODUCT_WORK(out_states, out_arcs) ((size_t)16 * (out_states) + (size_t)16 * (out_arcs))
 #define TOMCHOEN_JOIN_WORK(product_states, product_arcs, out_states, out_arcs) \
     (TOMCHOEN_PRODUCT_WORK(product_states, product_arcs) + TOMCHOEN_BUILD_WORK(out_states, out_arcs, product_states))
@@ -95,6 +111,17 @@ uint64_t tomchoen_build(size_t tapes, size_t states, size_t arcs,
                         const uint8_t *pairs, size_t pairs_length, size_t limit,
                         uint8_t *out_states, size_t out_states_length, uint8_t *out_arcs, size_t out_arcs_length,
                         uint8_t *work, size_t work_length);
+
+/* Tells what a build on each pair of tapes can need, without a build. Pairs are lent as to tomchoen_build; no limit is
+ * read. The result gets a record of 6 bytes for each pair, in list order: three numbers of two bytes, low byte first
+ * (what it tells, the delay, the number of states). The delay is (states on successful paths less one, or 0) x the
+ * greatest delay of an arc on them, also above 64; the number is all states x (1 + 2(s + s^2 + .. + s^delay)), s the
+ * symbols on the pair's two tapes on any arc. Refusals: 1 to 4 of the table, 5, 6, 13 (also where the result is shorter
+ * than the records of all pairs). Tells the number of bytes written. */
+uint64_t tomchoen_forecast(size_t tapes, size_t states, size_t arcs,
+                           const uint8_t *state_bytes, size_t state_bytes_length, const uint8_t *arc_bytes, size_t arc_bytes_length,
+                           const uint8_t *pairs, size_t pairs_length,
+                           uint8_t *result, size_t result_length, uint8_t *work, size_t work_length);
 
 /* The aligned product of two tables. Refusals: 1 to 4 of the first table, then of the second, 12, 13, 8, 9, 11. Tells the counts. */
 uint64_t tomchoen_product(size_t first_tapes, size_t first_states, size_t first_arcs,
