@@ -35,6 +35,9 @@ const ENDLESS: u16 = 0;
 
 const MISSING: u16 = 65535;
 
+// Where the sum of powers is cut: one above the greatest number that is told.
+const CAP: usize = 65536;
+
 // Whether the state whose 64 bytes start at `at` lies on a successful path.
 fn on_path(work: &[u8], at: usize) -> bool
     requires { ⌜ at + 38 ≤ length (now work) ⌝ }
@@ -229,7 +232,7 @@ fn next_sum(symbols: usize, sum: usize) -> usize
     ensures { λ r. ⌜ (r ≡ cut 65536 (symbols * (1 + sum))) × (r ≤ 65536) ⌝ }
 {
     let next = symbols * (1 + sum);
-    if 65536 < next { 65536 } else { next }
+    if CAP < next { CAP } else { next }
 }
 
 // The sum s + s² + .. + s^D of the symbols s and the delay D, or 65,536 where it is more.
