@@ -105,7 +105,7 @@ fn run(states: &[u8], arcs: &[u8], count: usize)
         return;
     }
     let mut order = [65535u16; 8192];
-    list_arcs(states, 1024, arcs, count, &mut order);
+    list_arcs(states, 1024, arcs, count, false, &mut order);
     four_pairs(states, arcs, count, &order);
 }
 

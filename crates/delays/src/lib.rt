@@ -205,7 +205,7 @@ pub fn closing_tables(
     ensures { λ _. ⌜ WritesClosing (lent counts (now (states .entry)) (now (arcs .entry))) pairs base (now (work .exit)) (now (work .entry)) ⌝ }
 {
     let mut order = [65535u16; 8192];
-    list_arcs(states, counts.states, arcs, counts.arcs, &mut order);
+    list_arcs(states, counts.states, arcs, counts.arcs, false, &mut order);
     write_tables(counts, states, arcs, &order, pairs, work, base);
 }
 

@@ -166,7 +166,7 @@ pub fn forecasts_of(
     let n = counts.states;
     let count = counts.arcs;
     let mut order = [65535u16; 8192];
-    list_arcs(states, n, arcs, count, &mut order);
+    list_arcs(states, n, arcs, count, true, &mut order);
     mark_reaching(states, n, arcs, count, false, &order, work, TO_FINAL);
     mark_reaching(states, n, arcs, count, true, &order, work, FROM_INITIAL);
     let found = path_states(work, n);

@@ -102,11 +102,22 @@ fn search_step(
     s
 }
 
-// The arcs on ways to the state `root`, if it is final and was not seen, in the last free places. Each of at most 8,192
-// arcs takes a step, and each of at most 1,024 states two.
+// Whether the search begins at a state: at any, or at a final one.
+fn begins_at(bytes: &[u8], root: usize, any: bool) -> bool
+    requires { ⌜ (10 * root + 10 ≤ length (now bytes)) × (root < 1024) ⌝ }
+{
+    if any {
+        return true;
+    }
+    bytes[10 * root + 5] != 0
+}
+
+// The arcs on ways to the state `root`, if the search begins there and it was not seen, in the last free places. Each of
+// at most 8,192 arcs takes a step, and each of at most 1,024 states two.
 fn list_from(
     bytes: &[u8],
     root: usize,
+    any: bool,
     arcs: &[u8],
     count: usize,
     heads: &[u16],
@@ -119,7 +130,7 @@ fn list_from(
 ) -> usize
     requires { ⌜ (10 * root + 10 ≤ length (now bytes)) × (root < 1024) × (80 * count ≤ length (now arcs)) ⌝ }
 {
-    if bytes[10 * root + 5] == 0 {
+    if !begins_at(bytes, root, any) {
         return free;
     }
     if number_at(seen, root) == 1 {
@@ -138,10 +149,27 @@ fn list_from(
     s.free
 }
 
-// The same from each final state.
-fn list_finals(
+// How many turns the search has: one for each state, or two.
+fn turns_of(whole: bool, states: usize) -> usize
+    requires { ⌜ states ≤ 1024 ⌝ }
+    ensures { λ r. ⌜ r ≤ 2 * states ⌝ }
+{
+    if whole { 2 * states } else { states }
+}
+
+// The state of a turn: the states come twice.
+fn root_at(turn: usize, states: usize) -> usize
+    requires { ⌜ turn < 2 * states ⌝ }
+    ensures { λ r. ⌜ r < states ⌝ }
+{
+    if turn < states { turn } else { turn - states }
+}
+
+// The same from each final state, and in later turns from any.
+fn list_roots(
     bytes: &[u8],
     states: usize,
+    turns: usize,
     arcs: &[u8],
     count: usize,
     heads: &[u16],
@@ -151,14 +179,16 @@ fn list_finals(
     stack: &mut [u16],
     order: &mut [u16],
 )
-    requires { ⌜ (10 * states ≤ length (now bytes)) × (states ≤ 1024) × (80 * count ≤ length (now arcs)) ⌝ }
+    requires { ⌜ (10 * states ≤ length (now bytes)) × (states ≤ 1024) × (turns ≤ 2 * states) × (80 * count ≤ length (now arcs)) ⌝ }
 {
     let mut free = count;
     let mut q: usize = 0;
-    while q < states {
+    while q < turns {
+        let root = root_at(q, states);
         free = list_from(
             bytes,
-            q,
+            root,
+            states <= q,
             arcs,
             count,
             heads,
@@ -173,8 +203,15 @@ fn list_finals(
     }
 }
 
-// The arcs on ways to a final state, in the last of the first `count` places.
-pub fn list_arcs(bytes: &[u8], states: usize, arcs: &[u8], count: usize, order: &mut [u16])
+// The arcs on ways to a final state, in the last of the first `count` places; where `whole`, all others before them.
+pub fn list_arcs(
+    bytes: &[u8],
+    states: usize,
+    arcs: &[u8],
+    count: usize,
+    whole: bool,
+    order: &mut [u16],
+)
     requires { ⌜ (10 * states ≤ length (now bytes)) × (states ≤ 1024) × (80 * count ≤ length (now arcs)) × (count ≤ 8192) ⌝ }
 {
     let mut heads = [65535u16; 1024];
@@ -183,9 +220,10 @@ pub fn list_arcs(bytes: &[u8], states: usize, arcs: &[u8], count: usize, order: 
     let mut stack = [0u16; 1024];
     chain_targets(arcs, count, &mut heads, &mut next);
     let mut cursors = heads;
-    list_finals(
+    list_roots(
         bytes,
         states,
+        turns_of(whole, states),
         arcs,
         count,
         &heads,

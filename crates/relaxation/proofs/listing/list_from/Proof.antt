@@ -7,26 +7,21 @@ use Rattle.relaxation.proofs.listing.list_from.Statement.{statement}
 use Rattle.relaxation.proofs.listing.list_from.Tie as tie
 use Rattle.relaxation.proofs.listing.list_from.Reads as reads
 use Rattle.relaxation.proofs.listing.list_from.Lts as lts
+use Rattle.relaxation.proofs.listing.begins_at.Reads as begins-at-reads
 use Rattle.relaxation.proofs.listing.put_on.Reads as put-on-reads
 use Rattle.relaxation.proofs.listing.search_step.Reads as search-step-reads
 use Rattle.relaxation.proofs.places.number_at.Reads as number-at-reads
 
 abbrev Inv-loop : tie.InvT-loop
-Inv-loop bytes root arcs count heads next cursors₀ seen₀ stack₀ order₀ free s₀ left₀ cursors seen stack order s left =
+Inv-loop bytes root any arcs count heads next cursors₀ seen₀ stack₀ order₀ free s₀ left₀ cursors seen stack order s left =
     (s .depth + left ≤ 10241) × (length cursors ≡ length cursors₀) × (length seen ≡ length seen₀) × (length stack ≡ length stack₀) × (length order ≡ length order₀)
 
 abbrev μ-loop : tie.MeasureT-loop
-μ-loop bytes root arcs count heads next cursors₀ seen₀ stack₀ order₀ free s₀ left₀ cursors seen stack order s left =
+μ-loop bytes root any arcs count heads next cursors₀ seen₀ stack₀ order₀ free s₀ left₀ cursors seen stack order s left =
     left
 
-mul-if1 : tie.Need-mul-if1 Inv-loop μ-loop
-mul-if1 c = search needs
-
-add-if1 : tie.Need-add-if1 Inv-loop μ-loop
-add-if1 c = search needs
-
-shared-slice-read-if1 : tie.Need-shared-slice-read-if1 Inv-loop μ-loop
-shared-slice-read-if1 c = search needs
+begins-at-requires : tie.Need-begins-at-requires Inv-loop μ-loop
+begins-at-requires c κs = search needs
 
 returns : tie.Need-returns Inv-loop μ-loop
 returns c = search needs
@@ -94,9 +89,7 @@ list-from-spec =
     (tie.spec
     Inv-loop
     μ-loop
-    mul-if1
-    add-if1
-    shared-slice-read-if1
+    begins-at-requires
     returns
     number-at-requires
     same-length

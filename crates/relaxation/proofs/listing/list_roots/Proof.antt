@@ -1,24 +1,28 @@
--- `relaxation::listing::list_finals` meets its contract. Assumes nothing.
+-- `relaxation::listing::list_roots` meets its contract. Assumes nothing.
 use lib.ListN.{length}
 use mathlib.Core.Path.{_≡_}
 use Prim.Native.Nat.{_-_, _≤_}
 use borrow.Author.Needs.{needs}
-use Rattle.relaxation.proofs.listing.list_finals.Statement.{statement}
-use Rattle.relaxation.proofs.listing.list_finals.Tie as tie
-use Rattle.relaxation.proofs.listing.list_finals.Reads as reads
-use Rattle.relaxation.proofs.listing.list_finals.Lts as lts
+use Rattle.relaxation.proofs.listing.list_roots.Statement.{statement}
+use Rattle.relaxation.proofs.listing.list_roots.Tie as tie
+use Rattle.relaxation.proofs.listing.list_roots.Reads as reads
+use Rattle.relaxation.proofs.listing.list_roots.Lts as lts
 use Rattle.relaxation.proofs.listing.list_from.Reads as list-from-reads
+use Rattle.relaxation.proofs.listing.root_at.Reads as root-at-reads
 
 abbrev Inv-loop : tie.InvT-loop
-Inv-loop bytes states arcs count heads next cursors₀ seen₀ stack₀ order₀ free₀ q₀ cursors seen stack order free q =
-    (q ≤ states) × (length cursors ≡ length cursors₀) × (length seen ≡ length seen₀) × (length stack ≡ length stack₀) × (length order ≡ length order₀)
+Inv-loop bytes states turns arcs count heads next cursors₀ seen₀ stack₀ order₀ free₀ q₀ cursors seen stack order free q =
+    (q ≤ turns) × (length cursors ≡ length cursors₀) × (length seen ≡ length seen₀) × (length stack ≡ length stack₀) × (length order ≡ length order₀)
 
 abbrev μ-loop : tie.MeasureT-loop
-μ-loop bytes states arcs count heads next cursors₀ seen₀ stack₀ order₀ free₀ q₀ cursors seen stack order free q =
-    states - q
+μ-loop bytes states turns arcs count heads next cursors₀ seen₀ stack₀ order₀ free₀ q₀ cursors seen stack order free q =
+    turns - q
 
 loop-holds : tie.Need-loop-holds Inv-loop μ-loop
 loop-holds c = search needs
+
+root-at-requires : tie.Need-root-at-requires Inv-loop μ-loop
+root-at-requires c κs = search needs
 
 list-from-requires : tie.Need-list-from-requires Inv-loop μ-loop
 list-from-requires c κs = search needs
@@ -47,13 +51,14 @@ same-length-4 c = search needs
 returns : tie.Need-returns Inv-loop μ-loop
 returns c = search needs
 
-pub list-finals-spec : {M : Type 1} → statement M
-list-finals-spec =
+pub list-roots-spec : {M : Type 1} → statement M
+list-roots-spec =
     tie.close
     (tie.spec
     Inv-loop
     μ-loop
     loop-holds
+    root-at-requires
     list-from-requires
     add-q
     loop-less
