@@ -1,4 +1,5 @@
--- Worked forecasts (document 02, 2.1): loops, one state, closing delays endless on one side, cycles of both signs, document 01's P, Q, R, S.
+-- Worked forecasts (document 02, 2.1): loops, one state, closing delays endless on one side, cycles of both signs,
+-- document 01's P, Q, R, S.
 use mathlib.Core.Option.{some}
 use mathlib.Core.List.{List, [], _∷_, _++_}
 use Prim.Native.Nat.{ℕ}

@@ -1,5 +1,5 @@
--- The reversal of an automaton: every arc is turned round, and initial and final weights are exchanged. Labels stay as they are written: what
--- is asked of a reversal here are delays, for which only their lengths count.
+-- The reversal of an automaton: every arc is turned round, and initial and final weights are exchanged. Labels stay as
+-- they are written: what is asked of a reversal here are delays, for which only their lengths count.
 use mathlib.Core.Bool.{Bool, true, false}
 use mathlib.Core.List.{map}
 use Rattle.automata.specs.Automaton.{Automaton, Arc, State}

@@ -74,7 +74,8 @@ forecastsTold o =
     if (eqb (lowByte w) 0) (ok (forecastsIn 0 (above w / forecastSize) (o .written .output))) (refused (lowByte w))
 
 -- The number with which a function of `tomchoen_*` answers, as its contract gives it, tells the answer of its call: the
--- counts, the number of bytes, the weight, none, or the refusal; with the result space of a forecast, its forecasts. One field for each of the ten.
+-- counts, the number of bytes, the weight, none, or the refusal; with the result space of a forecast, its forecasts. One
+-- field for each of the ten.
 pub record WordsTell : Type 0 where
   pub read : (text : List ℕ) (s : Slices) → tableTold (toldMade (readOutcome text s) .word) ≡ readOutcome text s .answer
   pub write : (m : Memory) (output : List ℕ) → bytesTold (toldWritten (writeOutcome m output) .word) ≡ writeOutcome m output .answer

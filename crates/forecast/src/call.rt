@@ -83,7 +83,8 @@ fn tell(
     ForecastAnswer { judged, told }
 }
 
-// The forecasts of pairs that were judged for this table; `room` tells whether the caller has room for them. Work space is zero afterwards.
+// The forecasts of pairs that were judged for this table; `room` tells whether the caller has room for them. Work space
+// is zero afterwards.
 pub fn forecast_judged(
     counts: Counts,
     states: &[u8],
@@ -100,7 +101,8 @@ pub fn forecast_judged(
     answer
 }
 
-// What an answer leaves in the result space: the records of the forecasts over its front, or nothing where it is a refusal.
+// What an answer leaves in the result space: the records of the forecasts over its front, or nothing where it is a
+// refusal.
 fn record_answer(answer: ForecastAnswer, result: &mut [u8])
     requires { ⌜ (answer .told .used ≤ 4) × Recordable (answerAs answer) (length (now result)) ⌝ }
     ensures { λ _. ⌜ now (result .exit) ≡ recorded (answerAs answer) (now (result .entry)) ⌝ }
@@ -113,7 +115,8 @@ fn record_answer(answer: ForecastAnswer, result: &mut [u8])
     put_forecasts(list, result);
 }
 
-// The forecasts of pairs of tapes, two bytes a pair, as records over the front of `result`. Work space is zero afterwards.
+// The forecasts of pairs of tapes, two bytes a pair, as records over the front of `result`. Work space is zero
+// afterwards.
 pub fn forecast_into(
     counts: Counts,
     states: &[u8],

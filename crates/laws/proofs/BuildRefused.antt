@@ -1,4 +1,5 @@
--- Refusals of the auto-intersection: 8, 9 and 10 exactly in their cases, in terms of what can be reached; and of the forecast.
+-- Refusals of the auto-intersection: 8, 9 and 10 exactly in their cases, in terms of what can be reached; and of the
+-- forecast.
 use mathlib.Core.Path.{_≡_, sym, subst}
 use mathlib.Core.Logic.{_↔_, _⊎_, inl, inr, ⊎-elim}
 use mathlib.Core.Bool.{Bool, true}

@@ -1,4 +1,5 @@
--- Request 2.1 of document 02: a forecast tells what the request says of paths and cycles, and no configuration goes beyond the delay told.
+-- Request 2.1 of document 02: a forecast tells what the request says of paths and cycles, and no configuration goes
+-- beyond the delay told.
 use mathlib.Core.Path.{_≡_, refl}
 use mathlib.Core.Logic.{_↔_, inl, inr}
 use mathlib.Core.Bool.{Bool, true}
@@ -89,7 +90,8 @@ pub forecast-call : (m : Memory) (ps : List Pair) (work : List ℕ) (fs : List F
 unfolding forecastOutcome
 forecast-call m ps work fs e = told m ps true fs (told-of m ps true work fs e)
 
--- and in lent bytes: the records of these forecasts stand over the front of the result space, and their number of bytes is told
+-- and in lent bytes: the records of these forecasts stand over the front of the result space, and their number of bytes
+-- is told
 pub forecast-records : (m : Memory) (ps : List Pair) (result work : List ℕ) (n : ℕ) → forecastRecorded m ps result work .written .answer ≡ ok n
     → (fs : List Forecast) × ForecastsTold m ps fs × (forecastRecorded m ps result work .written .output ≡ overwrite (forecastRecords fs) result) × (n ≡ forecastSize * length ps)
 unfolding forecastRecorded print

@@ -39,9 +39,10 @@ module _ {W : Type 0} (A : Automaton W) where
     abbrev pub ReachedUnlimited : Config → Type 0
     ReachedUnlimited c = Reachable (candidates A ps viability) (starts A ps viability) c
 
-    -- 2.1: the states and arcs counted are those on successful paths; a pair's forecast is mixed iff some successful path touches both a cycle of
-    -- positive delay and one of negative delay, simple or not; the delay told is by the greatest of the arcs on successful paths, and is never
-    -- exceeded, whatever is said of the other pairs; and each symbol on the pair's tapes is counted once.
+    -- 2.1: the states and arcs counted are those on successful paths; a pair's forecast is mixed iff some successful
+    -- path touches both a cycle of positive delay and one of negative delay, simple or not; the delay told is by the
+    -- greatest of the arcs on successful paths, and is never exceeded, whatever is said of the other pairs; and each
+    -- symbol on the pair's tapes is counted once.
     pub record ForecastHolds : Type 0 where
       pub states-on-paths : (q : ℕ) → (getD (onPaths A) q false ≡ true) ↔ StateOnPath A q
       pub number-on-paths : pathStates A ≡ length (atMarks (onPaths A) (A .states))
@@ -55,8 +56,8 @@ module _ {W : Type 0} (A : Automaton W) where
       pub delays : (c : Config) → ReachedUnlimited c
           → EachPair ps (c .leftovers) (λ p l. (d : ℕ) → Tells p d → (length (l .first) ≤ d) × (length (l .second) ≤ d))
 
--- What the call `forecast` told of a table in memory and pairs of its tapes: a forecast for each pair, in list order, of which 2.1 holds
--- whatever limit a build then has.
+-- What the call `forecast` told of a table in memory and pairs of its tapes: a forecast for each pair, in list order, of
+-- which 2.1 holds whatever limit a build then has.
 pub record ForecastsTold (m : Memory) (ps : List Pair) (fs : List Forecast) : Type 0 where
   pub judged : Sound m
   pub are : fs ≡ map (forecastOf (tableOf m)) ps

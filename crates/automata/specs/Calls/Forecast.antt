@@ -1,4 +1,5 @@
--- The call `forecast` (document 02, 2.1: space known beforehand). For Rattle it tells the forecasts by value, for C in lent bytes.
+-- The call `forecast` (document 02, 2.1: space known beforehand). For Rattle it tells the forecasts by value, for C in
+-- lent bytes.
 use mathlib.Core.Bool.{Bool, true}
 use mathlib.Core.List.{List, _++_, map}
 use Prim.Native.Nat.{ℕ, _*_}
@@ -14,7 +15,8 @@ use Rattle.automata.specs.ForecastCall.{forecastCall}
 use Rattle.automata.specs.Calls.Outcome.{cleared, Written, print}
 use Rattle.automata.specs.Calls.Work.{forecastWork, enough}
 
--- The table, then 5 and 6 of the pairs, then 13: the work space is too short, or there is no room for the forecasts. No limit is read.
+-- The table, then 5 and 6 of the pairs, then 13: the work space is too short, or there is no room for the forecasts. No
+-- limit is read.
 unfoldable pub forecastAnswer : Memory → List Pair → Bool → List ℕ → Answer (List Forecast)
 forecastAnswer table ps room work = do
   A ← decodeTable table
@@ -78,8 +80,8 @@ pub record Recorded : Type 0 where
 abbrev pub recordedOf : Answer ℕ → List ℕ → List ℕ → Recorded
 recordedOf answer result work = record { written = record { answer = answer; output = result }; work = work }
 
--- The whole outcome: 13 also where the result space is shorter than the records of all pairs; "a refusal returns only its number", the result
--- space past the records keeps its bytes.
+-- The whole outcome: 13 also where the result space is shorter than the records of all pairs; "a refusal returns only
+-- its number", the result space past the records keeps its bytes.
 unfoldable pub forecastRecorded : Memory → List Pair → List ℕ → List ℕ → Recorded
 forecastRecorded table ps result work =
     let answer = forecastAnswer table ps (enough (forecastSize * length ps) result) work in

@@ -1,5 +1,8 @@
--- `pair_forecast::forecast` meets its contract: a walk of its MIR, by hand. `judge_records` is called on the list of pairs, with the tapes of the table and the limit 0, and `forecast_judged` on what it gave, with room. All that the proof knows of the two is that they meet their contracts.
--- The slices that are lent by `&` are Copy: one copy of what each owns is kept for the exit. `forecast_judged` is called at the own lifetime, share and ghost name of the slice that is written, which is given up for good: what it says of its last list is what `forecast` says of it at exit.
+-- `pair_forecast::forecast` meets its contract: a walk of its MIR, by hand. `judge_records` is called on the list of
+-- pairs, with the tapes of the table and the limit 0, and `forecast_judged` on what it gave, with room. All that the
+-- proof knows of the two is that they meet their contracts. The slices that are lent by `&` are Copy: one copy of what
+-- each owns is kept for the exit. `forecast_judged` is called at the own lifetime, share and ghost name of the slice
+-- that is written, which is given up for good: what it says of its last list is what `forecast` says of it at exit.
 -- Assumes nothing.
 use mathlib.Core.Path.{_≡_, refl}
 use mathlib.Core.Bool.{Bool, true}
@@ -229,7 +232,8 @@ module _ {M : Type 1} (𝓤 : URA M) (H : Heap 𝓤) (A : Atoms 𝓤) (W : Given
         -- what the parameters own
         move ! (2 ∷ []) $ fsplit ! $ drop ! $ fsplit ! $ move ! (1 ∷ []) $ fsplit ! $ move ! (1 ∷ []) $ fsplit ! $ move ! (1 ∷ []) $ fsplit ! $ move ! (1 ∷ []) $ drop ! $
         move ! (4 ∷ 1 ∷ []) $
-        -- [the token of pairs; what pairs owns; what the other slices own; the other tokens; the locals from the last; …]
+        -- [the token of pairs; what pairs owns; what the other slices own; the other tokens; the locals from the last;
+        -- …]
         use2 W (raw (Judge 𝓤 H A mem run .pre to-judge) ⊛ ‵ O₂) asked $ split ! $
         calls-at ! fm (Judge 𝓤 H A mem run) known to-judge (and-then ! (load ! (from ! (stop !)) (look ! 14 refl)) (and-then ! (load ! (from ! (fld ! refl (stop !))) (look-in ! 20 (sub ! 0 refl (whole !)))) (and-then ! (lit ! tt) (no-more !)))) (λ u.
         use1 W (later (some (λ (r : PairsJudged). (Paired ⊛ ‵ (J.the-row .own r (u ∷ []))) ⊛ raw (ensured 𝓤 H A judge.ended (judge.clauses 𝓤 H A mem run) (κ₂, tt) (s₂, (c .tapes, (0, tt))) tt r)))) (id⊢ 𝓤 _) $ await ! tt $ pick ! (λ l.
@@ -241,7 +245,8 @@ module _ {M : Type 1} (𝓤 : URA M) (H : Heap 𝓤) (A : Atoms 𝓤) (W : Given
         -- what the core asks, in one
         move ! (3 ∷ 2 ∷ []) $ join ! $ move ! (3 ∷ []) $ join ! $ move ! (3 ∷ []) $ join ! $
         use1 W (raw (Core 𝓤 H A mem run .pre (to-core l u)) ⊛ (‵ O₀ ⊛ ‵ O₁)) (goes l u is f) $ split ! $ move ! (1 ∷ []) $ split ! $ move ! (1 ∷ []) $ move ! (2 ∷ 1 ∷ []) $
-        -- [what the core asks; what the slices own that are only read; the token of pairs; what pairs owns; the locals from the last; …]
+        -- [what the core asks; what the slices own that are only read; the token of pairs; what pairs owns; the locals
+        -- from the last; …]
         calls-at ! fm (Core 𝓤 H A mem run) known-core (to-core l u) (and-then ! (load ! (from ! (stop !)) (look ! 19 refl)) (and-then ! (load ! (from ! (stop !)) (look ! 17 refl)) (and-then ! (load ! (from ! (stop !)) (look ! 15 refl)) (and-then ! (load ! (from ! (stop !)) (look ! 9 refl)) (and-then ! (true-lit !) (and-then ! (load ! (from ! (stop !)) (look ! 5 refl)) (no-more !))))))) (λ w.
         use1 W (later (some (λ (r : ForecastAnswer). (Rest ⊛ ‵ (E.the-row .own r (w ∷ []))) ⊛ raw (ensured 𝓤 H A core.ended (core.clauses 𝓤 H A mem run) (κ₀, (κ₁, (κ₃, tt))) (handed l) tt r)))) (id⊢ 𝓤 _) $ await ! tt $ pick ! (λ r.
         -- what the core ensures, at some last list
@@ -249,7 +254,8 @@ module _ {M : Type 1} (𝓤 : URA M) (H : Heap 𝓤) (A : Atoms 𝓤) (W : Given
         split ! $ move ! (1 ∷ []) $ heard ! (Told l r zs) (λ e.
         fsplit ! $ drop ! $ fsplit ! $ drop ! $ fsplit ! $ drop ! $ fsplit ! $ drop ! $ fsplit ! $ drop ! $ fsplit ! $ move ! (1 ∷ []) $ drop ! $
         fsplit ! $ move ! (1 ∷ []) $ feqL ! (λ n.
-        -- [the last list; the tokens and the result; what the slices own that are only read; the token of pairs; what pairs owns; the locals from the last; …]
+        -- [the last list; the tokens and the result; what the slices own that are only read; the token of pairs; what
+        -- pairs owns; the locals from the last; …]
         move ! (1 ∷ []) $ split ! $ move ! (1 ∷ []) $ peeks ! E.the-row (Is E.the-row) (shows 𝓤 H A E.the-row) r (w ∷ []) (λ ir.
         land ! (from ! (stop !)) (init ! 23 refl (LL.lawful E.the-type E′.the-laws 𝓤 H A W .typed r _ ir .0)) $ returns ! (look ! 23 refl) $
         forget ! 7 refl $ forget ! 9 refl $ forget ! 11 refl $ forget ! 13 refl $ forget ! 15 refl $ forget ! 17 refl $ forget ! 19 refl $ forget ! 21 refl $ forget ! 23 refl $
