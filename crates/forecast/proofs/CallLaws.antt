@@ -34,7 +34,7 @@ use Rattle.pairs.specs.PairTests.{pairsAnswer, inTurn}
 use Rattle.pairs.specs.Judgement.{KeepJudged}
 use Rattle.pairs.proofs.PairLaws.{pairs-count}
 use Rattle.pairs.proofs.CallLaws.{forecast-then}
-use Rattle.pairs.proofs.TurnLaws.{turn-then, judged-fine, require-true}
+use Rattle.pairs.proofs.TurnLaws.{by-turns, judged-fine, require-true}
 use Rattle.forecast_records.specs.declared.ForecastList.{ForecastList}
 use Rattle.forecast_records.specs.declared.ForecastAnswer.{ForecastAnswer}
 use Rattle.forecast_records.specs.Values.{noForecasts, forecastsAs, answerAs}
@@ -76,29 +76,20 @@ module _ (m : Memory) (ps : List Pair) (room : Bool) (w : List ℕ) (listed : Pa
   -- the call by the judgements
   answer-in-turn : forecastAnswer m ps room w ≡ (judgedAs j >>= λ (u : Unit {0}). ok (map (forecastOf (tableOf m)) ps))
   unfolding forecastAnswer
-  answer-in-turn = go (decodeTable m) refl
+  answer-in-turn = by-turns m (judgedAs (listed .judged)) (judgedAs j) space next rest e (λ A d.
+      let s : Sound m = sound m A d in
+      let y : and room (enough (forecastWork (size (tableOf m))) w) ≡ space
+      = ap (λ (n : ℕ). and room (leb (forecastWork n) (length w))) (sym (sound-holds m s .states)) in
+      ap next (sym (tableOf-is m A d))
+      ∙ forecast-then (and room (enough (forecastWork (size (tableOf m))) w)) ps (tableOf m) (m .tapes) (sym (sound-holds m s .tapes))
+      ∙ ap (λ (c : Bool). pairsAnswer (m .tapes) 0 ps >>= λ (u : Unit {0}). judge c refusal.space rest) y
+      ∙ ap (λ (a : Answer (Unit {0})). a >>= λ (u : Unit {0}). judge space refusal.space rest) (sym (k .answer)))
     where
       rest : Answer (List Forecast)
       rest = ok (map (forecastOf (tableOf m)) ps)
 
       next : Automaton ℕ → Answer (List Forecast)
       next A = forecastCall (and room (enough (forecastWork (size A)) w)) ps A
-
-      go : (r : Answer (Automaton ℕ)) → decodeTable m ≡ r → (decodeTable m >>= next) ≡ (judgedAs j >>= λ (u : Unit {0}). rest)
-      go (refused n) d =
-          ap (λ (r : Answer (Automaton ℕ)). r >>= next) d
-          ∙ sym (ap (λ (a : Answer (Unit {0})). a >>= λ (u : Unit {0}). rest) (e ∙ ap (λ (r : Answer (Automaton ℕ)). inTurn (forget r) (judgedAs (listed .judged)) space) d))
-      go (ok A) d =
-          let s : Sound m = sound m A d in
-          let a : A ≡ tableOf m = sym (tableOf-is m A d) in
-          let y : and room (enough (forecastWork (size (tableOf m))) w) ≡ space
-          = ap (λ (n : ℕ). and room (leb (forecastWork n) (length w))) (sym (sound-holds m s .states)) in
-          ap (λ (r : Answer (Automaton ℕ)). r >>= next) d ∙ ap next a
-          ∙ forecast-then (and room (enough (forecastWork (size (tableOf m))) w)) ps (tableOf m) (m .tapes) (sym (sound-holds m s .tapes))
-          ∙ ap (λ (c : Bool). pairsAnswer (m .tapes) 0 ps >>= λ (u : Unit {0}). judge c refusal.space rest) y
-          ∙ ap (λ (a : Answer (Unit {0})). a >>= λ (u : Unit {0}). judge space refusal.space rest) (sym (k .answer))
-          ∙ turn-then (judgedAs (listed .judged)) space refusal.space rest
-          ∙ sym (ap (λ (a : Answer (Unit {0})). a >>= λ (u : Unit {0}). rest) (e ∙ ap (λ (r : Answer (Automaton ℕ)). inTurn (forget r) (judgedAs (listed .judged)) space) d))
 
   -- a refusal, with whatever forecasts
   pub answer-refused : (l : ForecastList) (why : Refusal) → j ≡ Refused why → answerAs (record { judged = j; told = l }) ≡ forecastAnswer m ps room w

@@ -1,12 +1,12 @@
 -- The judgements before any configuration is reached, and the call that they are made for.
 use Prim.Native.Nat.{ℕ}
-use mathlib.Core.Path.{_≡_, refl, sym, ap, _∙_}
+use mathlib.Core.Path.{_≡_, sym, ap, _∙_}
 use mathlib.Core.Bool.{Bool, true}
 use mathlib.Core.List.{List}
 use lib.Dec.{leb}
 use lib.ListN.{length}
 use Rattle.automata.specs.Refusal as refusal
-use Rattle.automata.specs.Answer.{_>>=_, Answer, ok, refused, require, judge, forget}
+use Rattle.automata.specs.Answer.{_>>=_, Answer, ok, require, judge, forget}
 use Rattle.automata.specs.Automaton.{Automaton, size}
 use Rattle.automata.specs.TapePair.{Pair}
 use Rattle.automata.specs.Memory.{Memory, Sound, tableOf, decodeTable}
@@ -23,7 +23,7 @@ use Rattle.pairs.specs.declared.PairsJudged.{PairsJudged}
 use Rattle.pairs.specs.PairTests.{pairsAnswer, inTurn}
 use Rattle.pairs.specs.Judgement.{KeepJudged}
 use Rattle.pairs.proofs.CallLaws.{intersect-then}
-use Rattle.pairs.proofs.TurnLaws.{turn-then, judged-fine, require-true}
+use Rattle.pairs.proofs.TurnLaws.{by-turns, judged-fine, require-true}
 use Rattle.workspace.specs.declared.room.RoomAnswer.{RoomAnswer}
 use Rattle.workspace.specs.Room.{lentSpace, RoomFor}
 use Rattle.intersect_result.specs.Prepared.{Prepares}
@@ -35,30 +35,20 @@ module _ (m : Memory) (ps : List Pair) (D states arcs work : ℕ) (t p j : Answe
   pub call-in-turn : (w : List ℕ) → length w ≡ work
       → intersectAnswer m ps D (lentSpace states arcs) w ≡ (j >>= λ (u : Unit {0}). intersectOn D (lentSpace states arcs) ps (tableOf m))
   unfolding intersectAnswer
-  call-in-turn w l = go (decodeTable m) refl
+  call-in-turn w l = by-turns m p j b next rest (h ∙ ap (λ (a : Answer (Unit {0})). inTurn a p b) e) (λ A d.
+      let s : Sound m = sound m A d in
+      let y : enough (buildWork (lentSpace states arcs) (size (tableOf m))) w ≡ b
+      = ap (λ (n : ℕ). leb (buildWork (lentSpace states arcs) n) (length w)) (sym (sound-holds m s .states)) ∙ ap (leb (buildWork (lentSpace states arcs) (m .states))) l ∙ sym g in
+      ap next (sym (tableOf-is m A d))
+      ∙ intersect-then D (enough (buildWork (lentSpace states arcs) (size (tableOf m))) w) (lentSpace states arcs) ps (tableOf m) (m .tapes) (sym (sound-holds m s .tapes))
+      ∙ ap (λ (c : Bool). pairsAnswer (m .tapes) D ps >>= λ (u : Unit {0}). judge c refusal.space rest) y
+      ∙ ap (λ (a : Answer (Unit {0})). a >>= λ (u : Unit {0}). judge b refusal.space rest) (sym f))
     where
       rest : Answer (Automaton ℕ)
       rest = intersectOn D (lentSpace states arcs) ps (tableOf m)
 
       next : Automaton ℕ → Answer (Automaton ℕ)
       next A = intersectCall D (enough (buildWork (lentSpace states arcs) (size A)) w) (lentSpace states arcs) ps A
-
-      go : (r : Answer (Automaton ℕ)) → decodeTable m ≡ r → (decodeTable m >>= next) ≡ (j >>= λ (u : Unit {0}). rest)
-      go (refused n) d =
-          let x : t ≡ refused n = e ∙ ap forget d in
-          ap (λ (r : Answer (Automaton ℕ)). r >>= next) d ∙ sym (ap (λ (a : Answer (Unit {0})). a >>= λ (u : Unit {0}). rest) (h ∙ ap (λ (a : Answer (Unit {0})). inTurn a p b) x))
-      go (ok A) d =
-          let s : Sound m = sound m A d in
-          let a : A ≡ tableOf m = sym (tableOf-is m A d) in
-          let x : t ≡ ok tt = e ∙ ap forget d in
-          let y : enough (buildWork (lentSpace states arcs) (size (tableOf m))) w ≡ b =
-          ap (λ (n : ℕ). leb (buildWork (lentSpace states arcs) n) (length w)) (sym (sound-holds m s .states)) ∙ ap (leb (buildWork (lentSpace states arcs) (m .states))) l ∙ sym g in
-          ap (λ (r : Answer (Automaton ℕ)). r >>= next) d ∙ ap next a
-          ∙ intersect-then D (enough (buildWork (lentSpace states arcs) (size (tableOf m))) w) (lentSpace states arcs) ps (tableOf m) (m .tapes) (sym (sound-holds m s .tapes))
-          ∙ ap (λ (c : Bool). pairsAnswer (m .tapes) D ps >>= λ (u : Unit {0}). judge c refusal.space rest) y
-          ∙ ap (λ (a : Answer (Unit {0})). a >>= λ (u : Unit {0}). judge b refusal.space rest) (sym f)
-          ∙ turn-then p b refusal.space rest
-          ∙ sym (ap (λ (a : Answer (Unit {0})). a >>= λ (u : Unit {0}). rest) (h ∙ ap (λ (a : Answer (Unit {0})). inTurn a p b) x))
 
 -- The judgements are those of the call.
 pub prepared : (m : Memory) (ps : List Pair) (D states arcs work : ℕ) (t j : Judged) (l : PairsJudged) (r : RoomAnswer)
