@@ -13,8 +13,8 @@ use Rattle.automata.specs.Product.{product}
 use Rattle.automata.specs.Join.{join}
 use Rattle.automata.specs.Union.{union}
 use Rattle.automata.specs.Projection.{project, dropTapes}
-use Rattle.automata.specs.Memory.{Memory, decodeTable, Sound}
-use Rattle.automata.specs.Calls.Outcome.{Made, Built, Slices, spaceOf, put, build, conclude, given, held, lentTable}
+use Rattle.automata.specs.Memory.{Memory, decodeTable, Sound, trim}
+use Rattle.automata.specs.Calls.Outcome.{Made, Built, Slices, spaceOf, put, build, conclude, given}
 use Rattle.automata.specs.Calls.Work.{buildWork, productWork, enough}
 use Rattle.automata.specs.Calls.Read.{readOutcome}
 use Rattle.automata.specs.Calls.Intersect.{intersectAnswer, intersectOutcome}
@@ -51,17 +51,15 @@ use Rattle.laws.specs.CallTrees.{
   no-less-dropping,
 }
 use Rattle.automata.proofs.AnswerFacts.{bind-ok, bind-pass, ok-injective}
+use Rattle.laws.proofs.Lemmas.CallTables.{same-decoded}
 use Rattle.laws.proofs.Lemmas.CallAgain.{calls-given-again}
 use Rattle.laws.proofs.Lemmas.CallsGiven.{read-given, kept-call, product-given, joined-call, united-call, chosen-call, dropped-call}
 
--- an outcome that is the same gives the same table
-given-same : (o o′ : Made) (r : Memory) → Same o o′ → given o ≡ ok r → (r′ : Memory) × (given o′ ≡ ok r′) × (decodeTable r′ ≡ decodeTable r)
-unfolding given held
+-- an outcome that is the same gives the same records
+given-same : (o o′ : Made) (r : Memory) → Same o o′ → given o ≡ ok r → (r′ : Memory) × (given o′ ≡ ok r′) × (trim r′ ≡ trim r)
 given-same o o′ r h e =
-    let (c, a, _) = bind-ok (o .answer) _ r e in
-    let r′ = lentTable c (o′ .result) in
-    let g : given o′ ≡ ok r′ = ap (λ x. x >>= λ c. ok (lentTable c (o′ .result))) (h .answer ∙ a) in
-    (r′, g, sym (ap (λ x. x >>= decodeTable) g) ∙ h .table ∙ ap (λ x. x >>= decodeTable) e)
+    let (r′, g, q) = bind-ok (given o′) (λ m. ok (trim m)) (trim r) (h ∙ ap (λ x. x >>= λ m. ok (trim m)) e) in
+    (r′, g, ok-injective (trim r′) (trim r) q)
 
 -- outcomes depend on what the memory lent decodes to alone
 keep-alike : (m m′ : Memory) (ps : List Pair) (D : ℕ) (s : Slices) (w : List ℕ) → decodeTable m′ ≡ decodeTable m
@@ -102,11 +100,12 @@ drop-alike m m′ mask s e = ap (λ r. put (r >>= λ A. dropTapes (spaceOf s) (i
 -- one claim over all lists of calls
 pub calls-again : (c c′ : Calls) → NoLess c c′ → Again c c′
 unfolding made
-calls-again _ _ (no-less-table _ _ m m′ em em′ h) r e = (m′, em′, h ∙ ap (λ x. x >>= decodeTable) (sym em ∙ e))
+calls-again _ _ (no-less-table _ _ m m′ em em′ h) r e = (m′, em′, h ∙ ap trim (ok-injective m r (sym em ∙ e)))
 calls-again _ _ (no-less-reading x s s′ h) r e = given-same (readOutcome x s) (readOutcome x s′) r (calls-given-again .read x s s′ r h e) e
 calls-again _ _ (no-less-keeping c c′ ps D D′ s s′ w w′ h d l hs hw) r e =
     let (m, em, g) = bind-ok (made c) _ r e in
-    let (m′, em′, t) = calls-again c c′ h m em in
+    let (m′, em′, t₀) = calls-again c c′ h m em in
+    let t = same-decoded m m′ t₀ in
     let g′ : given (intersectOutcome m′ ps D s w .made) ≡ ok r = ap (λ (o : Built). given (o .made)) (keep-alike m m′ ps D s w t) ∙ g in
     let (r′, q, u) = given-same (intersectOutcome m′ ps D s w .made) (intersectOutcome m′ ps D′ s′ w′ .made) r
     (calls-given-again .intersect m′ ps D D′ s s′ w w′ r d l hs (hw m′ em′) g′) g′ in
@@ -114,8 +113,10 @@ calls-again _ _ (no-less-keeping c c′ ps D D′ s s′ w w′ h d l hs hw) r e
 calls-again _ _ (no-less-multiplying c c′ d d′ s s′ w w′ h i hs hw) r e =
     let (m, em, g₀) = bind-ok (made c) _ r e in
     let (k, ek, g) = bind-ok (made d) _ r g₀ in
-    let (m′, em′, t) = calls-again c c′ h m em in
-    let (k′, ek′, v) = calls-again d d′ i k ek in
+    let (m′, em′, t₀) = calls-again c c′ h m em in
+    let t = same-decoded m m′ t₀ in
+    let (k′, ek′, v₀) = calls-again d d′ i k ek in
+    let v = same-decoded k k′ v₀ in
     let g′ : given (productOutcome m′ k′ s w .made) ≡ ok r = ap (λ (o : Built). given (o .made)) (multiply-alike m m′ k k′ s w t v) ∙ g in
     let (r′, q, u) = given-same (productOutcome m′ k′ s w .made) (productOutcome m′ k′ s′ w′ .made) r
     (calls-given-again .product m′ k′ s s′ w w′ r hs hw g′) g′ in
@@ -123,28 +124,34 @@ calls-again _ _ (no-less-multiplying c c′ d d′ s s′ w w′ h i hs hw) r e 
 calls-again _ _ (no-less-joining l l′ ps c c′ d d′ h i hd hl hp hr hw) r e =
     let (m, em, g₀) = bind-ok (made c) _ r e in
     let (k, ek, g) = bind-ok (made d) _ r g₀ in
-    let (m′, em′, t) = calls-again c c′ h m em in
-    let (k′, ek′, v) = calls-again d d′ i k ek in
+    let (m′, em′, t₀) = calls-again c c′ h m em in
+    let t = same-decoded m m′ t₀ in
+    let (k′, ek′, v₀) = calls-again d d′ i k ek in
+    let v = same-decoded k k′ v₀ in
     let g′ : given (joinMade l ps m′ k′) ≡ ok r = ap given (join-alike m m′ k k′ l ps t v) ∙ g in
     let (r′, q, u) = given-same (joinMade l ps m′ k′) (joinMade l′ ps m′ k′) r (calls-given-again .join l l′ ps m′ k′ r hd hl hp hr hw g′) g′ in
     (r′, bind-pass (made c′) _ m′ r′ em′ (bind-pass (made d′) _ k′ r′ ek′ q), u)
 calls-again _ _ (no-less-uniting c c′ d d′ s s′ h i hs) r e =
     let (m, em, g₀) = bind-ok (made c) _ r e in
     let (k, ek, g) = bind-ok (made d) _ r g₀ in
-    let (m′, em′, t) = calls-again c c′ h m em in
-    let (k′, ek′, v) = calls-again d d′ i k ek in
+    let (m′, em′, t₀) = calls-again c c′ h m em in
+    let t = same-decoded m m′ t₀ in
+    let (k′, ek′, v₀) = calls-again d d′ i k ek in
+    let v = same-decoded k k′ v₀ in
     let g′ : given (unionOutcome m′ k′ s) ≡ ok r = ap given (unite-alike m m′ k k′ s t v) ∙ g in
     let (r′, q, u) = given-same (unionOutcome m′ k′ s) (unionOutcome m′ k′ s′) r (calls-given-again .union m′ k′ s s′ r hs g′) g′ in
     (r′, bind-pass (made c′) _ m′ r′ em′ (bind-pass (made d′) _ k′ r′ ek′ q), u)
 calls-again _ _ (no-less-choosing c c′ js s s′ h hs) r e =
     let (m, em, g) = bind-ok (made c) _ r e in
-    let (m′, em′, t) = calls-again c c′ h m em in
+    let (m′, em′, t₀) = calls-again c c′ h m em in
+    let t = same-decoded m m′ t₀ in
     let g′ : given (projectOutcome m′ js s) ≡ ok r = ap given (choose-alike m m′ js s t) ∙ g in
     let (r′, q, u) = given-same (projectOutcome m′ js s) (projectOutcome m′ js s′) r (calls-given-again .project m′ js s s′ r hs g′) g′ in
     (r′, bind-pass (made c′) _ m′ r′ em′ q, u)
 calls-again _ _ (no-less-dropping c c′ mask s s′ h hs) r e =
     let (m, em, g) = bind-ok (made c) _ r e in
-    let (m′, em′, t) = calls-again c c′ h m em in
+    let (m′, em′, t₀) = calls-again c c′ h m em in
+    let t = same-decoded m m′ t₀ in
     let g′ : given (dropOutcome m′ mask s) ≡ ok r = ap given (drop-alike m m′ mask s t) ∙ g in
     let (r′, q, u) = given-same (dropOutcome m′ mask s) (dropOutcome m′ mask s′) r (calls-given-again .dropTapes m′ mask s s′ r hs g′) g′ in
     (r′, bind-pass (made c′) _ m′ r′ em′ q, u)

@@ -7,7 +7,7 @@ use lib.ListN.{length}
 use Rattle.automata.specs.Answer.{Answer, ok, refused, _>>=_}
 use Rattle.automata.specs.Automaton.{Automaton}
 use Rattle.automata.specs.TapePair.{Pair}
-use Rattle.automata.specs.Memory.{Memory, decodeTable, tableOf, Sound}
+use Rattle.automata.specs.Memory.{Memory, tableOf, Sound, trim}
 use Rattle.automata.specs.Calls.Outcome.{Slices, spaceOf, given}
 use Rattle.automata.specs.Calls.Work.{buildWork, productWork, joinWork}
 use Rattle.automata.specs.Calls.Read.{readOutcome}
@@ -84,8 +84,8 @@ IsCall c = (m : Memory) → ¬ (c ≡ lent m)
 -- The calls c made again as c′: the same texts, pairs and tapes, no limit lower and none above 64, no space smaller, as
 -- much work space as the calls ask for.
 pub data NoLess : Calls → Calls → Type 0 where
-  -- the same table, whatever bytes follow its records and whatever calls gave it
-  no-less-table : (c c′ : Calls) (m m′ : Memory) → made c ≡ ok m → made c′ ≡ ok m′ → decodeTable m′ ≡ decodeTable m → NoLess c c′
+  -- the same records, whatever bytes follow them and whatever calls gave them
+  no-less-table : (c c′ : Calls) (m m′ : Memory) → made c ≡ ok m → made c′ ≡ ok m′ → trim m′ ≡ trim m → NoLess c c′
   no-less-reading : (x : List ℕ) (s s′ : Slices) → WiderSlices s s′ → NoLess (reading x s) (reading x s′)
   no-less-keeping : (c c′ : Calls) (ps : List Pair) (D D′ : ℕ) (s s′ : Slices) (w w′ : List ℕ) → NoLess c c′ → D ≤ D′ → D′ ≤ 64 → WiderSlices s s′
       → ((m : Memory) → made c′ ≡ ok m → buildWork (spaceOf s′) (m .states) ≤ length w′) → NoLess (keeping c ps D s w) (keeping c′ ps D′ s′ w′)
@@ -98,6 +98,6 @@ pub data NoLess : Calls → Calls → Type 0 where
   no-less-choosing : (c c′ : Calls) (js : List ℕ) (s s′ : Slices) → NoLess c c′ → WiderSlices s s′ → NoLess (choosing c js s) (choosing c′ js s′)
   no-less-dropping : (c c′ : Calls) (mask : ℕ) (s s′ : Slices) → NoLess c c′ → WiderSlices s s′ → NoLess (dropping c mask s) (dropping c′ mask s′)
 
--- where c gives a table, c′ is not refused and gives the same
+-- where c gives a table, c′ is not refused and gives the same counts and the same bytes of records
 abbrev pub Again : Calls → Calls → Type 0
-Again c c′ = (r : Memory) → made c ≡ ok r → (r′ : Memory) × (made c′ ≡ ok r′) × (decodeTable r′ ≡ decodeTable r)
+Again c c′ = (r : Memory) → made c ≡ ok r → (r′ : Memory) × (made c′ ≡ ok r′) × (trim r′ ≡ trim r)

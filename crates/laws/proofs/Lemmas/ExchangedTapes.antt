@@ -24,6 +24,7 @@ use Rattle.automata.proofs.TapeFacts.{length-dropAt, getD-dropAt}
 use Rattle.automata.proofs.PairFacts.{agree-∈, within-∈, agree-turned, joined-injective}
 use Rattle.automata.proofs.Meeting.{meeting}
 use Rattle.laws.proofs.Lemmas.Ranges.{length-range}
+use Rattle.laws.proofs.Lemmas.Sorted.{map-map}
 use Rattle.laws.proofs.Lemmas.Weights.{Meet}
 
 -- a list from what stands at its places
@@ -33,10 +34,6 @@ listed z f k (x ∷ v) h =
     let first : suc k ≡ suc (k + 0) = omega arith in
     ap₂ (λ y ys. y ∷ ys) (ap f first ∙ h 0 (omega arith))
     (listed z f (suc k) v (λ i l. let next : suc (suc k + i) ≡ suc (k + suc i) = omega arith in ap f next ∙ h (suc i) (omega arith)))
-
-map-map : {A : Type 0} (f : ℕ → A) (g : ℕ → ℕ) (xs : List ℕ) → map f (map g xs) ≡ map (λ x. f (g x)) xs
-map-map f g [] = refl
-map-map f g (x ∷ xs) = ap (λ ys. f (g x) ∷ ys) (map-map f g xs)
 
 map-if : {A : Type 0} (f : ℕ → A) (b : Bool) (r s : List ℕ) → map f (if b r s) ≡ if b (map f r) (map f s)
 map-if f true r s = refl
