@@ -7,7 +7,6 @@ use mathlib.Core.Option.{some, Option·some-injective, Option·map}
 use mathlib.Core.List.{List, [], _∷_, map}
 use Prim.Native.Nat.{ℕ, zero, _<_, _≤_}
 use native.Mathlib.Omega.{arith}
-use lib.Dec.{eqb}
 use lib.ListN.{length, length-map, getElem?}
 use Rattle.automata.specs.Lists.{_∈_, and, isSome, guard, numbered, Pairwise}
 use Rattle.automata.specs.Answer.{ok}
@@ -23,13 +22,13 @@ use Rattle.automata.specs.Trim.{trimmed, Coaccessible}
 use Rattle.automata.specs.Trim as Trim
 use Rattle.automata.specs.Marks.{coaccessible}
 use Rattle.automata.specs.Projection.{range}
-use Rattle.automata.specs.Intersect.{Intersection, accepting, stateOf, arcOf, starts, candidate, candidates, out, reachedConfigs, delayed, assemble, intersect}
+use Rattle.automata.specs.Intersect.{Intersection, accepting, stateOf, arcOf, starts, candidates, out, reachedConfigs, delayed, assemble, intersect}
 use Rattle.automata.proofs.ListFacts
-use Rattle.automata.proofs.TestFacts
 use Rattle.automata.proofs.PairwiseFacts
 use Rattle.automata.proofs.Membership.{place-map}
 use Rattle.automata.proofs.Explored.{successors-label}
 use Rattle.automata.proofs.Configurations.{configs-decided, out-lead, out-ordered, out-undelayed, candidates-keeps, starts-members, starts-keeps}
+use Rattle.automata.proofs.DelayBounds.{starts-viable, candidates-viable}
 use Rattle.automata.proofs.ViableFacts.{viable-decides}
 use Rattle.automata.proofs.IntersectAnswers.{built-fits}
 use Rattle.laws.specs.PathBijection.{Exact}
@@ -52,19 +51,10 @@ module _ {W : Type 0} (A : Automaton W) (ps : List TapePair) (viable : Config �
 
   -- what a starting configuration was made of
   start-made : (q : ℕ × State W) (c : Config) → guard (and (isSome (q .1 .initial)) (viable (startAt ps (q .0)))) (some (startAt ps (q .0))) ≡ some c
-      → (c ≡ startAt ps (q .0)) × (viable c ≡ true)
+      → c ≡ startAt ps (q .0)
   start-made q c e =
-      let g = ListFacts.guard-some (and (isSome (q .1 .initial)) (viable (startAt ps (q .0)))) (some (startAt ps (q .0))) e in
-      let p : startAt ps (q .0) ≡ c = Option·some-injective (startAt ps (q .0)) c (g .1) in
-      (sym p, ap viable (sym p) ∙ TestFacts.and-true (isSome (q .1 .initial)) (viable (startAt ps (q .0))) (g .0) .1)
-
-  -- it is viable
-  starts-viable : (c : Config) → c ∈ starts A ps viable → viable c ≡ true
-  unfolding starts
-  starts-viable c h =
-      let (q, _, e) = ListFacts.mapMaybe-members (λ (q : ℕ × State W). guard (and (isSome (q .1 .initial)) (viable (startAt ps (q .0)))) (some (startAt ps (q .0))))
-      (numbered zero (A .states)) h in
-      start-made q c e .1
+      let (_, g) = ListFacts.guard-some (and (isSome (q .1 .initial)) (viable (startAt ps (q .0)))) (some (startAt ps (q .0))) e in
+      sym (Option·some-injective (startAt ps (q .0)) c g)
 
   -- they stand by state number
   starts-increase : Pairwise (λ c d. startKey c ≺ startKey d) (starts A ps viable)
@@ -72,8 +62,8 @@ module _ {W : Type 0} (A : Automaton W) (ps : List TapePair) (viable : Config �
   starts-increase = PairwiseFacts.pairwise-mapMaybe (λ a b. a .0 < b .0) (λ c d. startKey c ≺ startKey d)
       (λ (q : ℕ × State W). guard (and (isSome (q .1 .initial)) (viable (startAt ps (q .0)))) (some (startAt ps (q .0))))
       (λ a b x y p q h.
-      let u = ap (λ (c : Config). c .state) (start-made a x p .0) in
-      let v = ap (λ (c : Config). c .state) (start-made b y q .0) in
+      let u = ap (λ (c : Config). c .state) (start-made a x p) in
+      let v = ap (λ (c : Config). c .state) (start-made b y q) in
       inl (omega arith))
       (numbered zero (A .states)) (PairwiseFacts.pairwise-numbered zero (A .states))
 
@@ -83,19 +73,8 @@ module _ {W : Type 0} (A : Automaton W) (ps : List TapePair) (viable : Config �
 
   -- a step is viable
   step-viable : (c : Config) (e : ℕ × Arc W) (d : Config) → _∈_ {A = (ℕ × Arc W) × Config} (e, d) (out A ps viable c) → viable d ≡ true
-  unfolding out candidates candidate
-  step-viable c e d h =
-      let (m, _) = ListFacts.filter-members _ (candidates A ps viable c) h in
-      let (f, _, p) = ListFacts.mapMaybe-members (candidate A ps viable c) (numbered zero (A .arcs)) m in
-      made f p
-    where
-      made : (f : ℕ × Arc W) → candidate A ps viable c f ≡ some (e, d) → viable d ≡ true
-      made f p =
-          let (_, q) = ListFacts.guard-some (eqb (f .1 .source) (c .state)) _ p in
-          let (b, _, r) = ListFacts.bind-some (follow ps c (f .1)) _ q in
-          let (v, s) = ListFacts.guard-some (viable b) (some (f, b)) r in
-          let z : b ≡ d = ap (λ (t : (ℕ × Arc W) × Config). t .1) (Option·some-injective (f, b) (e, d) s) in
-          ap viable (sym z) ∙ v
+  unfolding out
+  step-viable c e d h = let (m, _) = ListFacts.filter-members _ (candidates A ps viable c) h in candidates-viable A ps viable c (e, d) m
 
   -- the graph of the search
   abbrev searchGraph : Ranked Config
@@ -106,7 +85,7 @@ module _ {W : Type 0} (A : Automaton W) (ps : List TapePair) (viable : Config �
     starts-to : (s : Key) (c : Config) → searchGraph .Starts s c → configGraph A ps .Starts s c
     starts-to s c (e, m) =
         let (q, i, p, z) = starts-members A ps viable c m in
-        (q, i, p, z, decides .sound c (starts-viable c m), (let u = ap (λ (d : Config). d .state) z in ap (λ (n : ℕ). n ∷ []) (sym u) ∙ e))
+        (q, i, p, z, decides .sound c (starts-viable A ps viable c m), (let u = ap (λ (d : Config). d .state) z in ap (λ (n : ℕ). n ∷ []) (sym u) ∙ e))
 
     starts-from : (s : Key) (c : Config) → configGraph A ps .Starts s c → searchGraph .Starts s c
     starts-from s c (q, i, p, z, v, e) =

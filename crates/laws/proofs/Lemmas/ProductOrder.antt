@@ -24,7 +24,7 @@ use Rattle.automata.proofs.Membership.{place-map, place-map⁻¹}
 use Rattle.automata.proofs.Explored.{reached-again}
 use Rattle.automata.proofs.Edges.{edges-members, edges-keeps}
 use Rattle.automata.proofs.Numbering.{initial-numbered}
-use Rattle.automata.proofs.ProductStates.{vertices-decided, added⁻¹, initialAt⁻¹, initial-listed, gave-product}
+use Rattle.automata.proofs.ProductStates.{vertices-decided, added⁻¹, initialAt⁻¹, initial-listed, gave-product, pairs-in}
 use Rattle.laws.specs.Order.{Key, _≺_, Ranked, Arrival, step, _⊏_, Ordered, tableGraph, OrderedTable, pairKey, Leaves, Moves, productGraph, ProductOrder}
 use Rattle.laws.proofs.Lemmas.Sorted.{map-map, pairwise-map}
 use Rattle.laws.proofs.Lemmas.OrderFacts.{listed, reached-ordered, ordered-iff}
@@ -66,12 +66,6 @@ pairs-members (x ∷ ps) qs c h = elim (List·Memᴰ·append-cases (map (λ q. (
   | inl m ↦ (let (q, i, e) = ListFacts.map-members (λ (q : ℕ). (some x, some q)) qs m in (x, q, here refl, i, e))
   | inr m ↦ (let (p, q, i, j, e) = pairs-members ps qs c m in (p, q, there i, j, e))
 ]
-
--- ... each of them ...
-pairs-keep : (ps qs : List ℕ) (p q : ℕ) → p ∈ ps → q ∈ qs → _∈_ {A = Vertex} (some p, some q) (allPairs ps qs)
-pairs-keep (x ∷ ps) qs p q (here e) j =
-    Memᴰ·append-left (allPairs ps qs) (subst (λ (n : ℕ). _∈_ {A = Vertex} (some n, some q) (map (λ q. (some x, some q)) qs)) (sym e) (ListFacts.map-keeps (λ (q : ℕ). (some x, some q)) qs j))
-pairs-keep (x ∷ ps) qs p q (there i) j = Memᴰ·append-right (map (λ q. (some x, some q)) qs) (pairs-keep ps qs p q i j)
 
 -- ... by the first, then the second
 pairs-increase : (ps qs : List ℕ) → Pairwise _<_ ps → Pairwise _<_ qs → Pairwise (λ c d. pairKey c ≺ pairKey d) (allPairs ps qs)
@@ -361,7 +355,7 @@ module _ (S : OrderedSum) (A B : Automaton (S .W)) where
     starts-from s c (p, q, i, j, a, b, z, e) = (
       ap pairKey z ∙ e,
       subst (λ (d : Vertex). d ∈ initials) (sym z)
-          (pairs-keep (initialsFrom zero (A .states)) (initialsFrom zero (B .states)) p q (initial-listed S A p i a) (initial-listed S B q j b)),
+          (pairs-in S (initialsFrom zero (A .states)) (initialsFrom zero (B .states)) p q (initial-listed S A p i a) (initial-listed S B q j b)),
     )
 
     steps-to : (c : Vertex) (s : Key) (d : Vertex) → keyedGraph .Steps c s d → productGraph S A B .Steps c s d
