@@ -1,5 +1,6 @@
 /*
  * Lends by the forecast: asks for each pair of tapes what a build on it can need, lends that space, and builds.
+ * It prints the forecasts, what was lent, and the table built.
  *
  *   lend TABLE FIRST SECOND [FIRST SECOND ..]
  *
@@ -106,6 +107,16 @@ static struct space with_pair(struct space space, size_t k) {
     return space;
 }
 
+/* Writes a built table to standard output. */
+static void print_built(uint64_t built, const uint8_t *built_states, size_t state_space, const uint8_t *built_arcs,
+                        size_t arc_space) {
+    uint64_t answer = tomchoen_write(TOMCHOEN_TAPES(built), TOMCHOEN_STATES(built), TOMCHOEN_ARCS(built), built_states,
+                                     state_space, built_arcs, arc_space, text, sizeof text);
+    stop_if_refused("write", answer);
+    printf("built: %zu states, %zu arcs\n", TOMCHOEN_STATES(built), TOMCHOEN_ARCS(built));
+    fwrite(text, 1, TOMCHOEN_LENGTH(answer), stdout);
+}
+
 /* Builds in the space lent. */
 static void build(struct space space, size_t pair_bytes) {
     size_t state_space = TOMCHOEN_STATE_BYTES(space.states), arc_space = TOMCHOEN_ARC_BYTES(space.arcs);
@@ -115,11 +126,11 @@ static void build(struct space space, size_t pair_bytes) {
            space.limit);
     uint64_t answer = tomchoen_build(tapes, states, arcs, state_bytes, sizeof state_bytes, arc_bytes, sizeof arc_bytes, pairs,
                                      pair_bytes, space.limit, out_states, state_space, out_arcs, arc_space, work, need);
+    if (TOMCHOEN_REFUSAL(answer) == 0) print_built(answer, out_states, state_space, out_arcs, arc_space);
     free(out_states);
     free(out_arcs);
     free(work);
     stop_if_refused("build", answer);
-    printf("built: %zu states, %zu arcs\n", TOMCHOEN_STATES(answer), TOMCHOEN_ARCS(answer));
 }
 
 int main(int count, char **words) {

@@ -45,6 +45,11 @@ fn given(outcome: &TableOutcome) -> Automaton {
     judge(&LentTable { tapes, states, arcs, state_records, arc_records }).unwrap()
 }
 
+/// The table that an outcome gives, or its refusal.
+fn answered(outcome: &TableOutcome) -> Result<Automaton, Refusal> {
+    outcome.answer.map(|_| given(outcome))
+}
+
 /// A table without arcs that is refused with 2.
 fn malformed() -> LentTable {
     let mut table = encode(&table(1, &[(None, None)], &[]));
@@ -153,7 +158,7 @@ fn order_of_keeping() {
     let call = |table: &LentTable, pairs: &[(u64, u64)], limit, lent: &ResultSpace, bytes| {
         let outcome = calls::intersect(table, pairs, limit, lent, &work(bytes));
         check_bytes(&outcome, lent, bytes);
-        outcome.answer
+        answered(&outcome)
     };
     let (table, small, need) = (encode(&q()), space(1, 1), 320 + 16 + 128);
     assert_eq!(call(&malformed(), &[(9, 9)], 65, &small, 0), Err(Refusal::Form));
@@ -164,11 +169,12 @@ fn order_of_keeping() {
     assert_eq!(call(&table, &[(1, 2)], 1, &small, need), Err(Refusal::StatesFull));
     assert_eq!(call(&table, &[(1, 2)], 1, &space(3, 1), 3 * 320 + 16 + 128), Err(Refusal::ArcsFull));
     assert_eq!(call(&table, &[(1, 2)], 0, &space(3, 3), 9_999), Err(Refusal::Delay));
-    assert_eq!(call(&table, &[(1, 2)], 1, &space(3, 2), 9_999), Ok(Counts { tapes: 2, states: 3, arcs: 2 }));
+    let kept = first_to_last(2, 3, &[(0, 1, 0, &["A", ""]), (1, 2, 0, &["", "A"])]);
+    assert_eq!(call(&table, &[(1, 2)], 1, &space(3, 2), 9_999), Ok(kept));
     // four and five pairs
-    let eight = encode(&first_to_last(8, 2, &[(0, 1, 1, &["A"; 8])]));
-    let four = [(1, 2), (3, 4), (5, 6), (8, 7)];
-    assert_eq!(call(&eight, &four, 64, &space(2, 1), 9_999), Ok(Counts { tapes: 8, states: 2, arcs: 1 }));
+    let even = first_to_last(8, 2, &[(0, 1, 1, &["A"; 8])]);
+    let (eight, four) = (encode(&even), [(1, 2), (3, 4), (5, 6), (8, 7)]);
+    assert_eq!(call(&eight, &four, 64, &space(2, 1), 9_999), Ok(even));
     assert_eq!(call(&eight, &[&four[..], &[(1, 2)]].concat(), 64, &space(2, 1), 9_999), Err(Refusal::Pairs));
 }
 
@@ -177,7 +183,7 @@ fn order_of_a_product() {
     let call = |first: &LentTable, second: &LentTable, lent: &ResultSpace, bytes| {
         let outcome = calls::product(first, second, lent, &work(bytes));
         check_bytes(&outcome, lent, bytes);
-        outcome.answer
+        answered(&outcome)
     };
     let heavy = encode(&table(1, &[(Some(0), Some(999_999_999))], &[]));
     let one = encode(&first_to_last(1, 2, &[(0, 1, 1, &["A"])]));
@@ -192,8 +198,8 @@ fn order_of_a_product() {
     assert_eq!(call(&heavy, &one, &space(1, 0), 16), Err(Refusal::StatesFull));
     assert_eq!(call(&heavy, &one, &space(2, 0), 32), Err(Refusal::ArcsFull));
     assert_eq!(call(&heavy, &one, &space(2, 1), 48), Err(Refusal::Weight));
-    assert_eq!(call(&one, &one, &space(5, 5), 999), Ok(Counts { tapes: 2, states: 2, arcs: 1 }));
-    assert_eq!(call(&one, &encode(&Automaton::empty(2)), &space(0, 0), 0), Ok(Counts { tapes: 3, states: 0, arcs: 0 }));
+    assert_eq!(call(&one, &one, &space(5, 5), 999), Ok(first_to_last(2, 2, &[(0, 1, 2, &["A", "A"])])));
+    assert_eq!(call(&one, &encode(&Automaton::empty(2)), &space(0, 0), 0), Ok(Automaton::empty(3)));
 }
 
 #[test]
@@ -204,7 +210,7 @@ fn order_of_a_join() {
         let outcome = calls::join(first, second, &request);
         check_bytes(&outcome, &result, bytes);
         assert_eq!(outcome.product.states.len(), STATE_BYTES * spaces[0].0 + 3);
-        outcome.answer
+        answered(&outcome)
     };
     let none = [(0, 0), (0, 0)];
     let one = encode(&first_to_last(1, 2, &[(0, 1, 1, &["A"])]));
@@ -223,8 +229,10 @@ fn order_of_a_join() {
     assert_eq!(call(&one, &one, &[(1, 1)], 0, [(2, 1), (1, 0)], 9_999), Err(Refusal::StatesFull));
     assert_eq!(call(&one, &one, &[(1, 1)], 0, [(2, 1), (2, 0)], 9_999), Err(Refusal::ArcsFull));
     assert_eq!(call(&one, &slow, &[(1, 1)], 0, [(9, 9), (9, 9)], 9_999), Err(Refusal::Delay));
-    assert_eq!(call(&one, &slow, &[(1, 1)], 1, [(9, 9), (9, 9)], 9_999), Ok(Counts { tapes: 1, states: 3, arcs: 2 }));
-    assert_eq!(call(&one, &slow, &[], 0, [(9, 9), (9, 9)], 9_999), Ok(Counts { tapes: 2, states: 3, arcs: 2 }));
+    let met = first_to_last(1, 3, &[(0, 1, 2, &["A"]), (1, 2, 1, &[""])]);
+    assert_eq!(call(&one, &slow, &[(1, 1)], 1, [(9, 9), (9, 9)], 9_999), Ok(met));
+    let both = first_to_last(2, 3, &[(0, 1, 2, &["A", ""]), (1, 2, 1, &["", "A"])]);
+    assert_eq!(call(&one, &slow, &[], 0, [(9, 9), (9, 9)], 9_999), Ok(both));
 }
 
 #[test]
@@ -233,24 +241,28 @@ fn order_of_union_choosing_and_dropping() {
     let lent = space(3, 3);
     let bytes = |outcome: TableOutcome| {
         check_bytes(&outcome, &lent, 0);
-        outcome.answer
+        answered(&outcome)
     };
     assert_eq!(bytes(calls::union(&malformed(), &one, &lent)), Err(Refusal::Form));
     assert_eq!(bytes(calls::union(&one, &two, &lent)), Err(Refusal::Tape));
     assert_eq!(bytes(calls::union(&one, &one, &lent)), Err(Refusal::StatesFull));
     assert_eq!(calls::union(&one, &one, &space(4, 3)).answer, Err(Refusal::ArcsFull));
-    assert_eq!(calls::union(&one, &one, &space(4, 4)).answer, Ok(Counts { tapes: 2, states: 4, arcs: 4 }));
+    let weights = [(Some(0), None), (None, Some(0)), (Some(0), None), (None, Some(0))];
+    let [ab, ba]: [&[&str]; 2] = [&["A", "B"], &["B", "A"]];
+    let twice = table(2, &weights, &[(0, 1, 0, ab), (0, 1, 0, ba), (2, 3, 0, ab), (2, 3, 0, ba)]);
+    assert_eq!(answered(&calls::union(&one, &one, &space(4, 4))), Ok(twice));
     assert_eq!(bytes(calls::project(&two, &[0; 9], &lent)), Err(Refusal::Width));
     assert_eq!(bytes(calls::project(&two, &[], &lent)), Err(Refusal::Tape));
     assert_eq!(bytes(calls::project(&two, &[1, 4], &lent)), Err(Refusal::Tape));
     assert_eq!(calls::project(&two, &[3], &space(2, 0)).answer, Err(Refusal::StatesFull));
-    assert_eq!(bytes(calls::project(&two, &[3; 8], &lent)), Ok(Counts { tapes: 8, states: 3, arcs: 3 }));
+    let chosen = first_to_last(8, 3, &[(0, 1, 1, &[""; 8]), (1, 1, 2, &["A"; 8]), (1, 2, 3, &["B"; 8])]);
+    assert_eq!(bytes(calls::project(&two, &[3; 8], &lent)), Ok(chosen));
     assert_eq!(bytes(calls::drop_tapes(&two, 0b1000, &lent)), Err(Refusal::Tape));
     assert_eq!(bytes(calls::drop_tapes(&two, 0b0111, &lent)), Err(Refusal::Tape));
     assert_eq!(calls::drop_tapes(&two, 0b0001, &space(3, 2)).answer, Err(Refusal::ArcsFull));
-    assert_eq!(bytes(calls::drop_tapes(&two, 0, &lent)), Ok(Counts { tapes: 3, states: 3, arcs: 3 }));
-    let kept = given(&calls::drop_tapes(&two, 0b0101, &lent));
-    assert_eq!(kept, first_to_last(1, 3, &[(0, 1, 1, &["X"]), (1, 1, 2, &["Y"]), (1, 2, 3, &["Z"])]));
+    assert_eq!(bytes(calls::drop_tapes(&two, 0, &lent)), Ok(p()));
+    let kept = first_to_last(1, 3, &[(0, 1, 1, &["X"]), (1, 1, 2, &["Y"]), (1, 2, 3, &["Z"])]);
+    assert_eq!(bytes(calls::drop_tapes(&two, 0b0101, &lent)), Ok(kept));
 }
 
 #[test]

@@ -7,6 +7,7 @@ use std::path::PathBuf;
 use tomchoen_tests::accounts::{accounts, Account};
 use tomchoen_tests::agree::{agree, agree_table};
 use tomchoen_tests::automaton::{Automaton, Room};
+use tomchoen_tests::columns::drop_tapes;
 use tomchoen_tests::join::join;
 use tomchoen_tests::product::product;
 use tomchoen_tests::sample::{first_to_last, p, table, tuple};
@@ -141,6 +142,8 @@ fn figure_2_of_001_in_two_calls() {
         account(&[left.clone(), left, right.clone(), right], 10 + i)
     });
     assert_eq!(accounts_of("001-figure-2-second", 12), stated.collect());
+    let at_once = agree(&[pair_line(&[(1, 2), (3, 4)], 2), write(&figure_2())].concat());
+    assert_eq!(String::from_utf8_lossy(&at_once), String::from_utf8_lossy(&file("001-figure-2-second.out")));
 }
 
 #[test]
@@ -268,6 +271,8 @@ fn transducer_intersection_of_004() {
     assert_eq!(accounts_of("004-section-5", 40), [account(&doubled, 10 + 900)].into_iter().collect());
     let joined = join(&first, &second, &[(1, 1), (2, 2)], 2, Room::AMPLE, Room::AMPLE).unwrap();
     assert_eq!(account_set(&joined, 40), [account(&words, 10 + 900)].into_iter().collect());
+    let dropped = drop_tapes(&read(&file("004-section-5.out"), Room::AMPLE).unwrap(), 0b1100, Room::AMPLE).unwrap();
+    assert_eq!(String::from_utf8_lossy(&write(&joined)), String::from_utf8_lossy(&write(&dropped)));
 }
 
 #[test]

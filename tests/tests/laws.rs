@@ -314,13 +314,19 @@ fn a_product_word_for_word() {
     }
 }
 
+/// Two small tables and pairs to join them on.
+fn tables_to_join(random: &mut Random) -> (Automaton, Automaton, Vec<Pair>) {
+    let (first, second) = (light_table(random), light_table(random));
+    let most = first.tapes.min(second.tapes);
+    let pairs = (1..=random.below(most + 1)).map(|tape| (tape, most + 1 - tape)).collect();
+    (first, second, pairs)
+}
+
 #[test]
 fn a_join_gives_the_meetings() {
     for seed in 0..1_500 {
         let mut random = Random::new(seed);
-        let (first, second) = (light_table(&mut random), light_table(&mut random));
-        let most_pairs = first.tapes.min(second.tapes);
-        let pairs: Vec<Pair> = (1..=random.below(most_pairs + 1)).map(|tape| (tape, most_pairs + 1 - tape)).collect();
+        let (first, second, pairs) = tables_to_join(&mut random);
         let Ok(joined) = join(&first, &second, &pairs, 64, Room::AMPLE, Room::AMPLE) else { continue };
         let most = affordable(&product(&first, &second, Room::AMPLE).unwrap(), 5);
         let meets = |account: &Account| pairs.iter().all(|&(i, j)| account.0[i - 1] == account.0[first.tapes + j - 1]);
@@ -333,6 +339,22 @@ fn a_join_gives_the_meetings() {
         expected.sort();
         assert_eq!(accounts(&joined, most), expected, "seed {seed}");
     }
+}
+
+#[test]
+fn a_join_step_by_step() {
+    let mut joins = 0;
+    for seed in 0..1_500 {
+        let mut random = Random::new(seed);
+        let (first, second, pairs) = tables_to_join(&mut random);
+        let Ok(joined) = join(&first, &second, &pairs, 64, Room::AMPLE, Room::AMPLE) else { continue };
+        let at: Vec<Pair> = pairs.iter().map(|&(i, j)| (i, first.tapes + j)).collect();
+        let kept = listed(&listed_product(&first, &second), &at, 64, Room::AMPLE).unwrap();
+        let left: Vec<usize> = (1..=kept.tapes).filter(|&tape| !at.iter().any(|pair| pair.1 == tape)).collect();
+        assert_eq!(text(&joined), chosen_text(&kept, &left), "seed {seed}");
+        joins += usize::from(!pairs.is_empty() && !joined.arcs.is_empty());
+    }
+    assert!(joins > 100, "only {joins} joins with arcs");
 }
 
 #[test]
@@ -370,6 +392,45 @@ fn a_lookup_through_empty_arcs() {
     assert_eq!(lookup(&automaton, &vec![b"AA".to_vec()]), None);
 }
 
+/// The text of a table.
+fn text(automaton: &Automaton) -> String {
+    String::from_utf8(write(automaton)).unwrap()
+}
+
+/// The lines of a table's text: those of the states and those of the arcs.
+fn state_and_arc_lines(automaton: &Automaton) -> (Vec<String>, Vec<String>) {
+    let lines: Vec<String> = text(automaton).lines().skip(1).map(str::to_string).collect();
+    let (states, arcs) = lines.split_at(automaton.states.len());
+    (states.to_vec(), arcs.to_vec())
+}
+
+/// A text from its tapes and lines.
+fn text_of_lines(tapes: usize, states: &[String], arcs: &[String]) -> String {
+    let header = format!("{tapes:>3}{:>6}{:>6}", states.len(), arcs.len());
+    [&[header][..], states, arcs].concat().iter().map(|line| format!("{line}\n")).collect()
+}
+
+/// The text of a union: the lines of both tables as they stand, the second's arcs with their states counted on.
+fn united_text(first: &Automaton, second: &Automaton) -> String {
+    let ((states, arcs), (more_states, more_arcs)) = (state_and_arc_lines(first), state_and_arc_lines(second));
+    let counted_on = |line: &String| {
+        let state = |at: usize| line[at..at + 6].trim().parse::<usize>().unwrap() + states.len();
+        format!("{:>6}{:>6}{}", state(0), state(6), &line[12..])
+    };
+    let more_arcs: Vec<String> = more_arcs.iter().map(counted_on).collect();
+    text_of_lines(first.tapes, &[&states[..], &more_states].concat(), &[&arcs[..], &more_arcs].concat())
+}
+
+/// The text of a table with chosen tapes: its lines as they stand, each with the columns of those tapes.
+fn chosen_text(automaton: &Automaton, tapes: &[usize]) -> String {
+    let (states, arcs) = state_and_arc_lines(automaton);
+    let chosen = |line: &String| {
+        let labels = tapes.iter().map(|tape| &line[13 + 9 * tape..22 + 9 * tape]);
+        [&line[..22]].into_iter().chain(labels).collect::<String>()
+    };
+    text_of_lines(tapes.len(), &states, &arcs.iter().map(chosen).collect::<Vec<String>>())
+}
+
 #[test]
 fn union_choosing_and_dropping() {
     for seed in 0..1_000 {
@@ -378,15 +439,22 @@ fn union_choosing_and_dropping() {
         let most = affordable(&first, 4).min(affordable(&second, 4));
         let both = union(&first, &second, Room::AMPLE);
         if first.tapes == second.tapes {
+            let both = both.unwrap();
             let mut expected = [accounts(&first, most), accounts(&second, most)].concat();
             expected.sort();
-            assert_eq!(accounts(&both.unwrap(), most), expected, "seed {seed}");
+            assert_eq!(accounts(&both, most), expected, "seed {seed}");
+            assert_eq!(text(&both), united_text(&first, &second), "seed {seed}");
         } else {
             assert_eq!(both, Err(Refusal::Tape));
         }
+        let tapes: Vec<usize> = (0..random.range(1, 8)).map(|_| random.range(1, first.tapes)).collect();
+        let chosen = project(&first, &tapes.iter().map(|&tape| tape as u64).collect::<Vec<u64>>(), Room::AMPLE);
+        assert_eq!(text(&chosen.unwrap()), chosen_text(&first, &tapes), "seed {seed}");
         let marked = random.below(1 << first.tapes) as u8;
-        let left: Vec<u64> = (1..=first.tapes as u64).filter(|tape| marked & (1 << (tape - 1)) == 0).collect();
-        assert_eq!(drop_tapes(&first, marked, Room::AMPLE), project(&first, &left, Room::AMPLE), "seed {seed}");
+        let left: Vec<usize> = (1..=first.tapes).filter(|tape| marked & (1 << (tape - 1)) == 0).collect();
+        let dropped = drop_tapes(&first, marked, Room::AMPLE);
+        let expected = if left.is_empty() { Err(Refusal::Tape) } else { Ok(chosen_text(&first, &left)) };
+        assert_eq!(dropped.map(|dropped| text(&dropped)), expected, "seed {seed}");
     }
 }
 
@@ -412,7 +480,125 @@ fn some_pairs_first() {
         let Ok(then) = keep(&first, rest) else { continue };
         let most = affordable(&case.automaton, 6);
         assert_eq!(accounts(&then, most), accounts(&at_once, most), "seed {seed}");
+        // the same configurations are kept, and they are reached in the same order
+        assert_eq!(then, at_once, "seed {seed}");
     }
+}
+
+/// A table with its states renumbered: state s becomes `numbers[s]`.
+fn renumbered(automaton: &Automaton, numbers: &[usize]) -> Automaton {
+    let mut result = automaton.clone();
+    for (state, &number) in automaton.states.iter().zip(numbers) {
+        result.states[number] = *state;
+    }
+    for arc in &mut result.arcs {
+        (arc.source, arc.target) = (numbers[arc.source], numbers[arc.target]);
+    }
+    result
+}
+
+/// A table with its states and arcs in a random order; an initial weight tells its state and an arc's weight its arc,
+/// counted from 1, both times `unit`. Final weights are 0.
+fn told_by_weights(random: &mut Random, automaton: &Automaton, unit: u64) -> Automaton {
+    let numbers = random.shuffled(&(0..automaton.states.len()).collect::<Vec<usize>>());
+    let mut mixed = renumbered(automaton, &numbers);
+    mixed.arcs = random.shuffled(&mixed.arcs);
+    for (number, state) in (0..).zip(&mut mixed.states) {
+        state.initial = state.initial.map(|_| number * unit);
+        state.final_weight = state.final_weight.map(|_| 0);
+    }
+    for (number, arc) in (1..).zip(&mut mixed.arcs) {
+        arc.weight = number * unit;
+    }
+    mixed
+}
+
+/// What is wrong with the order of a table by the words of request 2.2, if anything is. Initial weights are to rise in
+/// the order of initial states, and `key` of an arc's weight in the order of a state's arcs.
+fn wrong_order<K: Ord>(table: &Automaton, key: impl Fn(u64) -> K) -> Option<&'static str> {
+    let initial: Vec<Option<u64>> = table.states.iter().map(|state| state.initial).collect();
+    let starts = initial.iter().take_while(|weight| weight.is_some()).count();
+    let first_arc = |state: usize| {
+        let arcs = table.arcs.iter().enumerate().filter(|(_, arc)| arc.target == state);
+        arcs.map(|(place, arc)| (arc.source, place)).min()
+    };
+    let reached: Vec<(usize, Option<(usize, usize)>)> =
+        (starts..table.states.len()).map(|state| (state, first_arc(state))).collect();
+    let place = |arc: &Arc| (arc.source, key(arc.weight));
+    let rules = [
+        (initial[starts..].iter().all(Option::is_none), "an initial state after one that is not"),
+        (initial[..starts].windows(2).all(|two| two[0] < two[1]), "initial states not by input number"),
+        (reached.iter().all(|(state, arc)| arc.is_some_and(|arc| arc.0 < *state)), "a state reached from a later one"),
+        (reached.windows(2).all(|two| two[0].1 < two[1].1), "states not in the order first reached"),
+        (table.arcs.windows(2).all(|two| two[0].source <= two[1].source), "arcs not by source state"),
+        (table.arcs.windows(2).all(|two| place(&two[0]) < place(&two[1])), "arcs of a state not by input arc"),
+    ];
+    rules.into_iter().find(|(holds, _)| !holds).map(|(_, wrong)| wrong)
+}
+
+/// The table in other orders: two states exchanged, the arcs by source state again; an arc and the next exchanged.
+fn other_orders(random: &mut Random, table: &Automaton) -> Vec<Automaton> {
+    let mut others = Vec::new();
+    if table.states.len() > 1 {
+        let numbers: Vec<usize> = (0..table.states.len()).collect();
+        let two = random.shuffled(&numbers);
+        let mut exchanged = numbers.clone();
+        exchanged.swap(two[0], two[1]);
+        let mut other = renumbered(table, &exchanged);
+        other.arcs.sort_by_key(|arc| arc.source);
+        others.push(other);
+    }
+    if table.arcs.len() > 1 {
+        let mut other = table.clone();
+        let at = random.below(table.arcs.len() - 1);
+        other.arcs.swap(at, at + 1);
+        others.push(other);
+    }
+    others
+}
+
+/// Checks the order of a table, and that no other order passes; how many others were tried.
+fn check_order<K: Ord>(random: &mut Random, table: &Automaton, key: impl Fn(u64) -> K, seed: u64) -> usize {
+    assert_eq!(wrong_order(table, &key), None, "seed {seed}");
+    let others = other_orders(random, table);
+    for other in &others {
+        assert!(wrong_order(other, &key).is_some(), "seed {seed}");
+    }
+    others.len()
+}
+
+#[test]
+fn built_tables_in_the_order_of_request_2_2() {
+    let mut others = 0;
+    for seed in 0..4_000 {
+        let mut random = Random::new(seed);
+        let case = small_case(&mut random);
+        let automaton = told_by_weights(&mut random, &case.automaton, 1);
+        let Ok(kept) = intersect(&automaton, &pairs_of(&case), case.limit, Room::AMPLE) else { continue };
+        others += check_order(&mut random, &kept, |weight| weight, seed);
+    }
+    assert!(others > 2_000, "only {others} other orders");
+}
+
+#[test]
+fn products_and_joins_in_the_order_of_request_2_2() {
+    // the weight tells the arcs: those of both come first, then those after the first's end, then after the second's
+    let key = |weight: u64| match (weight / 100, weight % 100) {
+        (0, second) => (1, 0, second),
+        (first, 0) => (2, first, 0),
+        (first, second) => (0, first, second),
+    };
+    let (mut others, mut joins) = (0, 0);
+    for seed in 0..2_000 {
+        let mut random = Random::new(seed);
+        let (first, second, pairs) = tables_to_join(&mut random);
+        let (first, second) = (told_by_weights(&mut random, &first, 100), told_by_weights(&mut random, &second, 1));
+        others += check_order(&mut random, &product(&first, &second, Room::AMPLE).unwrap(), key, seed);
+        if let Ok(joined) = join(&first, &second, &pairs, 64, Room::AMPLE, Room::AMPLE) {
+            joins += check_order(&mut random, &joined, key, seed);
+        }
+    }
+    assert!(others > 2_000 && joins > 1_000, "only {others} other orders of products, {joins} of joins");
 }
 
 /// Whether some successful path shares a state with each of two sets of states: a search over the last state of a path and which of

@@ -1,9 +1,10 @@
-//! The worked cases of document 01 and its example of `agree`; forecasts worked on paper.
+//! The worked cases of document 01 and its example of `agree`; the order of request 2.2 and forecasts, worked on paper.
 
 use tomchoen_tests::accounts::accounts;
 use tomchoen_tests::agree::agree;
 use tomchoen_tests::automaton::{Automaton, Room, State, MOST_WEIGHT};
 use tomchoen_tests::calls;
+use tomchoen_tests::columns::{drop_tapes, project, union};
 use tomchoen_tests::forecast::{forecast, leftovers, Forecast};
 use tomchoen_tests::intersect::intersect;
 use tomchoen_tests::memory::encode;
@@ -18,9 +19,19 @@ fn keep(automaton: &Automaton, pairs: &[(usize, usize)], limit: u64) -> Result<A
     intersect(automaton, pairs, limit, Room::AMPLE)
 }
 
-/// How many states and arcs a result has.
-fn counts(result: Result<Automaton, Refusal>) -> Result<(usize, usize), Refusal> {
-    result.map(|automaton| (automaton.states.len(), automaton.arcs.len()))
+/// Lines, each ended by byte 10.
+fn text_of(lines: &[&str]) -> String {
+    lines.iter().map(|line| format!("{line}\n")).collect()
+}
+
+/// The table whose text has these lines.
+fn table_of(lines: &[&str]) -> Automaton {
+    read(text_of(lines).as_bytes(), Room::AMPLE).unwrap()
+}
+
+/// The text of a result.
+fn printed(result: Result<Automaton, Refusal>) -> String {
+    String::from_utf8(write(&result.unwrap())).unwrap()
 }
 
 #[test]
@@ -47,8 +58,9 @@ fn p_in_the_order_of_request_2_2() {
 
 #[test]
 fn q_at_one_and_zero() {
-    assert_eq!(counts(keep(&q(), &[(1, 2)], 1)), Ok((3, 2)));
-    assert_eq!(counts(keep(&q(), &[(1, 2)], 64)), Ok((3, 2)));
+    let kept = first_to_last(2, 3, &[(0, 1, 0, &["A", ""]), (1, 2, 0, &["", "A"])]);
+    assert_eq!(keep(&q(), &[(1, 2)], 1), Ok(kept.clone()));
+    assert_eq!(keep(&q(), &[(1, 2)], 64), Ok(kept));
     assert_eq!(keep(&q(), &[(1, 2)], 0), Err(Refusal::Delay));
 }
 
@@ -108,20 +120,196 @@ fn a_heavy_product() {
 #[test]
 fn worked_cases_through_agree() {
     let answer = |automaton: &Automaton, pairs: &[(u64, u64)], limit| {
-        let output = agree(&[pair_line(pairs, limit), write(automaton)].concat());
-        String::from_utf8(output).unwrap().lines().next().unwrap_or_default().to_string()
+        String::from_utf8(agree(&[pair_line(pairs, limit), write(automaton)].concat())).unwrap()
     };
-    assert_eq!(answer(&p(), &[(1, 3)], 1), "  3     4     3");
-    assert_eq!(answer(&p(), &[(1, 3)], 0), "refused  10");
-    assert_eq!(answer(&q(), &[(1, 2)], 1), "  2     3     2");
-    assert_eq!(answer(&q(), &[(1, 2)], 0), "refused  10");
-    assert_eq!(answer(&r(), &[(1, 2)], 1), "refused  10");
-    assert_eq!(answer(&r(), &[(1, 2)], 31), "refused  10");
-    assert_eq!(answer(&r(), &[(1, 2)], 32), "refused   8");
-    assert_eq!(answer(&s(), &[(1, 2)], 1), "  2     0     0");
-    assert_eq!(answer(&s(), &[(1, 2)], 65), "refused   7");
-    assert_eq!(answer(&s(), &[(1, 1)], 65), "refused   6");
-    assert_eq!(answer(&s(), &[(1, 1), (3, 2)], 65), "refused   5");
+    let of_p: &[Row] = &[(0, 1, 1, &["A", "X", ""]), (1, 2, 2, &["B", "Y", "A"]), (2, 3, 3, &["", "Z", "B"])];
+    assert_eq!(answer(&p(), &[(1, 3)], 1), printed(Ok(first_to_last(3, 4, of_p))));
+    assert_eq!(answer(&p(), &[(1, 3)], 0), "refused  10\n");
+    let of_q: &[Row] = &[(0, 1, 0, &["A", ""]), (1, 2, 0, &["", "A"])];
+    assert_eq!(answer(&q(), &[(1, 2)], 1), printed(Ok(first_to_last(2, 3, of_q))));
+    assert_eq!(answer(&q(), &[(1, 2)], 0), "refused  10\n");
+    assert_eq!(answer(&r(), &[(1, 2)], 1), "refused  10\n");
+    assert_eq!(answer(&r(), &[(1, 2)], 31), "refused  10\n");
+    assert_eq!(answer(&r(), &[(1, 2)], 32), "refused   8\n");
+    assert_eq!(answer(&s(), &[(1, 2)], 1), "  2     0     0\n");
+    assert_eq!(answer(&s(), &[(1, 2)], 65), "refused   7\n");
+    assert_eq!(answer(&s(), &[(1, 1)], 65), "refused   6\n");
+    assert_eq!(answer(&s(), &[(1, 1), (3, 2)], 65), "refused   5\n");
+}
+
+/// A table whose states are first reached in another order than they stand, one of them to be trimmed.
+const LISTED: &[&str] = &[
+    "  2     6     8",
+    "         -         -",
+    "         0         -",
+    "         -         0",
+    "         0         -",
+    "         -         -",
+    "         -         -",
+    "     3     2         0        A        A",
+    "     1     4         1        A         ",
+    "     1     5         2        A        A",
+    "     5     2         3        A        A",
+    "     3     0         4        B        B",
+    "     0     5         5        A        A",
+    "     1     0         6        B        B",
+    "     4     2         7                 B",
+];
+
+/// What is kept of it on tapes 1 = 2: its states 1, 3, 5, 0 and 2.
+const KEPT: &[&str] = &[
+    "  2     5     6",
+    "         0         -",
+    "         0         -",
+    "         -         -",
+    "         -         -",
+    "         -         0",
+    "     0     2         2        A        A",
+    "     0     3         6        B        B",
+    "     1     4         0        A        A",
+    "     1     3         4        B        B",
+    "     2     4         3        A        A",
+    "     3     2         5        A        A",
+];
+
+#[test]
+fn a_build_in_the_order_of_request_2_2() {
+    // 1 and 3 are initial; out of 1 come 4, 5 and 0, out of 3 comes 2; B meets the A left over at 4, which is trimmed
+    assert_eq!(printed(keep(&table_of(LISTED), &[(1, 2)], 1)), text_of(KEPT));
+    let input = [pair_line(&[(1, 2)], 1), text_of(LISTED).into_bytes()].concat();
+    assert_eq!(String::from_utf8(agree(&input)).unwrap(), text_of(KEPT));
+}
+
+/// The first table of a product.
+const FIRST: &[&str] = &[
+    "  1     2     2",
+    "         0        10",
+    "         1         0",
+    "     0     1         1        A",
+    "     0     0         2        B",
+];
+
+/// The second one.
+const SECOND: &[&str] = &[
+    "  1     2     3",
+    "         0        20",
+    "         0        30",
+    "     0     1         3        X",
+    "     1     0         4        Y",
+    "     0     0         5        Z",
+];
+
+/// Their product.
+const PRODUCT: &[&str] = &[
+    "  2     8    21",
+    "         0        30",
+    "         0        40",
+    "         1        20",
+    "         1        30",
+    "         -        30",
+    "         -        20",
+    "         -         0",
+    "         -        10",
+    "     0     3         4        A        X",
+    "     0     2         6        A        Z",
+    "     0     1         5        B        X",
+    "     0     0         7        B        Z",
+    "     0     4        13                 X",
+    "     0     5        15                 Z",
+    "     0     6        21        A         ",
+    "     0     7        22        B         ",
+    "     1     2         5        A        Y",
+    "     1     0         6        B        Y",
+    "     1     5        14                 Y",
+    "     1     6        31        A         ",
+    "     1     7        32        B         ",
+    "     2     4         3                 X",
+    "     2     5         5                 Z",
+    "     3     5         4                 Y",
+    "     4     5         4                 Y",
+    "     5     4         3                 X",
+    "     5     5         5                 Z",
+    "     7     6         1        A         ",
+    "     7     7         2        B         ",
+];
+
+#[test]
+fn a_product_in_the_order_of_request_2_2() {
+    // (0, 0), (0, 1), (1, 0) and (1, 1) start; out of (0, 0) come the arcs of both, those after the first's end to 4
+    // and 5 (the second at 1 and 0), and those after the second's end to 6 and 7 (the first at 1 and 0)
+    assert_eq!(printed(product(&table_of(FIRST), &table_of(SECOND), Room::AMPLE)), text_of(PRODUCT));
+}
+
+/// A table that starts at its last state, has a state on no successful path, and arcs of one state apart.
+const GIVEN: &[&str] = &[
+    "  2     3     3",
+    "         -         1",
+    "         -         -",
+    "         3         -",
+    "     2     0         5        B        C",
+    "     1     1         4        A         ",
+    "     2     1         6                 D",
+];
+
+/// Another one that starts at its last state.
+const SHORTER: &[&str] = &[
+    "  2     2     2",
+    "         -         8",
+    "         7         -",
+    "     1     0         9                 E",
+    "     0     1         2        F         ",
+];
+
+/// Their union.
+const UNITED: &[&str] = &[
+    "  2     5     5",
+    "         -         1",
+    "         -         -",
+    "         3         -",
+    "         -         8",
+    "         7         -",
+    "     2     0         5        B        C",
+    "     1     1         4        A         ",
+    "     2     1         6                 D",
+    "     4     3         9                 E",
+    "     3     4         2        F         ",
+];
+
+/// Tapes 2, 1 and 2 of the first.
+const CHOSEN: &[&str] = &[
+    "  3     3     3",
+    "         -         1",
+    "         -         -",
+    "         3         -",
+    "     2     0         5        C        B        C",
+    "     1     1         4                 A         ",
+    "     2     1         6        D                 D",
+];
+
+/// The first without tape 1.
+const DROPPED: &[&str] = &[
+    "  1     3     3",
+    "         -         1",
+    "         -         -",
+    "         3         -",
+    "     2     0         5        C",
+    "     1     1         4         ",
+    "     2     1         6        D",
+];
+
+#[test]
+fn a_union_keeps_the_order_given() {
+    assert_eq!(printed(union(&table_of(GIVEN), &table_of(SHORTER), Room::AMPLE)), text_of(UNITED));
+}
+
+#[test]
+fn choosing_keeps_the_order_given() {
+    assert_eq!(printed(project(&table_of(GIVEN), &[2, 1, 2], Room::AMPLE)), text_of(CHOSEN));
+}
+
+#[test]
+fn dropping_keeps_the_order_given() {
+    assert_eq!(printed(drop_tapes(&table_of(GIVEN), 0b01, Room::AMPLE)), text_of(DROPPED));
 }
 
 #[test]

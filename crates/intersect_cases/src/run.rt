@@ -44,10 +44,10 @@ fn keep(input: &[u8], at: usize, c: Counts, table_states: &[u8], table_arcs: &[u
     }
 }
 
-// What is built of the table of at most 6 states and 6 arcs that the line names.
+// What is built of the table of at most 6 states and 8 arcs that the line names.
 fn build(input: &[u8], at: usize) -> Built {
     let mut states = [0u8; 60];
-    let mut arcs = [0u8; 480];
+    let mut arcs = [0u8; 640];
     let c = table(input, at, 1, &mut states, &mut arcs);
     keep(input, at, c, &states, &arcs)
 }

@@ -10,8 +10,8 @@ use cases::print::front_clear;
 use cases::print::print_answer;
 use cases::print::print_clear;
 use cases::print::print_clear_line;
+use cases::print::print_made;
 use cases::print::print_refused_kept;
-use cases::print::print_text;
 use join::call::join;
 use memory::answer::Counts;
 use memory::answer::TableAnswer;
@@ -203,13 +203,9 @@ fn join_case(input: &[u8], at: usize) -> Joined {
     )
 }
 
-// The text of a joined table, where it has at most two states.
-fn print_small(answer: TableAnswer, states: &[u8; 600], arcs: &[u8; 16000]) {
-    if let TableAnswer::Table(c) = answer {
-        if c.states <= 2 {
-            print_text(c, states, arcs);
-        }
-    }
+// The text of a joined table.
+fn print_joined(answer: TableAnswer, states: &[u8; 600], arcs: &[u8; 16000]) {
+    print_made(answer, states, arcs);
 }
 
 // The answer, and of a refusal whether the result space kept its bytes.
@@ -244,5 +240,5 @@ pub fn case(input: &[u8], at: usize) {
     io::print_decimal(1, number(input, at, 1) as u64);
     print_kept(answer, &states, &arcs);
     print_all_clear(input, at, &product_states, &product_arcs, &work);
-    print_small(answer, &states, &arcs);
+    print_joined(answer, &states, &arcs);
 }

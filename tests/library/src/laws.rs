@@ -2,6 +2,7 @@
 //!
 //! For random tables and pairs: the join exchanged, joined part by part on either side, with some pairs first, and given again with
 //! more space and a higher limit. Where a call is refused the law says nothing, and the case counts as passed over.
+//! The last two laws give the same table, by request 2.2, and compare it byte for byte.
 
 use crate::calls::outcome;
 use tomchoen_tests::automaton::Automaton;
@@ -99,6 +100,12 @@ fn second_strings(tuple: &Tuple, n: usize, m: usize, pairs: &Pairs) -> Tuple {
         .collect()
 }
 
+/// The counts of a table and the bytes of its records, without the space behind them.
+fn used(table: &LentTable) -> ([u64; 3], &[u8], &[u8]) {
+    let (states, arcs) = (table.states as usize * STATE_BYTES, table.arcs as usize * ARC_BYTES);
+    ([table.tapes, table.states, table.arcs], &table.state_records[..states], &table.arc_records[..arcs])
+}
+
 /// What was found.
 #[derive(Default)]
 pub struct Found {
@@ -114,6 +121,14 @@ impl Found {
         self.compared += 1;
         if one != two {
             self.differences.push(format!("case {case}: {law}: {one:?} and {two:?}"));
+        }
+    }
+
+    /// Notes a comparison of two tables, counts and used records byte for byte.
+    fn same_table(&mut self, law: &str, case: u64, one: &LentTable, two: Option<&LentTable>) {
+        self.tables += 1;
+        if two.is_none_or(|two| used(one) != used(two)) {
+            self.differences.push(format!("case {case}: {law}: another table or a refusal"));
         }
     }
 
@@ -169,6 +184,8 @@ fn some_first(found: &mut Found, random: &mut Random, case: u64, a: &LentTable, 
     for tuple in tuples(random, &j).into_iter().chain(tuples(random, &steps)) {
         found.same("some pairs first", case, weight(&j, &tuple), weight(&steps, &tuple));
     }
+    // the same configurations are kept, and they are reached in the same order
+    found.same_table("some pairs first", case, &j, Some(&steps));
 }
 
 /// The same call with a higher limit and more space.
@@ -176,15 +193,7 @@ fn again(found: &mut Found, random: &mut Random, case: u64, a: &LentTable, b: &L
     let Some([j]) = found.all([join(a, b, pairs, limit, 0)]) else { return };
     let higher = limit + random.below(65 - limit as usize) as u64;
     let k = join(a, b, pairs, higher, random.below(30));
-    found.tables += 1;
-    let same = k.is_some_and(|k| {
-        let counts = (k.tapes, k.states, k.arcs) == (j.tapes, j.states, j.arcs);
-        let (states, arcs) = (j.states as usize * STATE_BYTES, j.arcs as usize * ARC_BYTES);
-        counts && k.state_records[..states] == j.state_records[..states] && k.arc_records[..arcs] == j.arc_records[..arcs]
-    });
-    if !same {
-        found.differences.push(format!("case {case}: given again: another table or a refusal"));
-    }
+    found.same_table("given again", case, &j, k.as_ref());
 }
 
 /// All laws on one case.

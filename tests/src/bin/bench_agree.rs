@@ -63,7 +63,11 @@ fn main() -> std::io::Result<()> {
         let work = time.saturating_sub(idle).as_secs_f64() * 1e6;
         let work_reference = time_reference.saturating_sub(idle_reference).as_secs_f64() * 1e6;
         let growth = if before > 0.0 { format!("{:.1}", work / before) } else { "-".to_string() };
-        println!("{states:>6} {:>7} {work:>12.0} {work_reference:>28.0} {:>7.2} {growth:>17}", 8 * (states - 1), work / work_reference);
+        println!(
+            "{states:>6} {:>7} {work:>12.0} {work_reference:>28.0} {:>7.2} {growth:>17}",
+            8 * (states - 1),
+            work / work_reference
+        );
         before = work;
     }
     Ok(())

@@ -128,7 +128,8 @@ fn run(options: &Options) -> io::Result<u64> {
         println!("difference: {difference}");
     }
     if options.laws > 0 {
-        println!("laws: {} weights compared, {} tables given again, {} passed over", found.compared, found.tables, found.passed_over);
+        let laws::Found { compared, tables, passed_over, .. } = found;
+        println!("laws: {compared} weights compared, {tables} tables compared, {passed_over} passed over");
     }
     Ok(differences + found.differences.len() as u64)
 }
