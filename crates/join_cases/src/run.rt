@@ -203,11 +203,6 @@ fn join_case(input: &[u8], at: usize) -> Joined {
     )
 }
 
-// The text of a joined table.
-fn print_joined(answer: TableAnswer, states: &[u8; 600], arcs: &[u8; 16000]) {
-    print_made(answer, states, arcs);
-}
-
 // The answer, and of a refusal whether the result space kept its bytes.
 fn print_kept(answer: TableAnswer, states: &[u8; 600], arcs: &[u8; 16000]) {
     print_answer(answer);
@@ -240,5 +235,5 @@ pub fn case(input: &[u8], at: usize) {
     io::print_decimal(1, number(input, at, 1) as u64);
     print_kept(answer, &states, &arcs);
     print_all_clear(input, at, &product_states, &product_arcs, &work);
-    print_joined(answer, &states, &arcs);
+    print_made(answer, &states, &arcs);
 }
