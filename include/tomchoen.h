@@ -22,8 +22,8 @@
  *     rest keeps its bytes.
  *   - Work space, and the product space of a join, are zero afterwards, refused or not.
  *   - Space for a result is counted in whole records; more than 1,024 states and 8,192 arcs are never used.
- *   - The numbers of result states and the order of result arcs are fixed, so that the same call gives the same bytes, also with more
- *     space or a higher limit; docs/C-API.md says which order.
+ *   - The numbers of result states and the order of result arcs are fixed: the same call gives the same bytes, also
+ *     with more space or a higher limit. docs/C-API.md says which order.
  */
 #ifndef TOMCHOEN_H
 #define TOMCHOEN_H
