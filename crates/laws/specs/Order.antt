@@ -40,7 +40,7 @@ abbrev pub _≺_ : Key → Key → Type 0
 (m ∷ s) ≺ (n ∷ t) = (m < n) ⊎ ((m ≡ n) × (s ≺ t))
 
 -- a graph by its starting vertices and the steps between its vertices, each with its key
-pub record Ranked (C : Type 0) : Type 1 where
+pub record KeyedGraph (C : Type 0) : Type 1 where
   pub Starts : Key → C → Type 0
   pub Steps : C → Key → C → Type 0
 
@@ -67,7 +67,7 @@ FromBelow k (step i e) = i < k
 -- ---- the order
 
 -- cs numbers vertices: each has its place in it as its number
-module _ {C : Type 0} (G : Ranked C) (cs : List C) where
+module _ {C : Type 0} (G : KeyedGraph C) (cs : List C) where
   -- the arrival reaches the vertex
   abbrev pub Reaches : Arrival → C → Type 0
   Reaches (start s) c = G .Starts s c
@@ -103,7 +103,7 @@ pub record ClosesGaps {C : Type 0} (cs ds : List C) : Type 0 where
 module _ {W : Type 0} where
   -- The states of a table, by number, and its arcs; the keys of its states and of its arcs are given by their numbers.
   -- The states with an initial weight start.
-  abbrev pub tableGraph : Automaton W → (ℕ → Key) → (ℕ → Key) → Ranked ℕ
+  abbrev pub tableGraph : Automaton W → (ℕ → Key) → (ℕ → Key) → KeyedGraph ℕ
   tableGraph A stateKey arcKey = record {
     Starts = λ s k. (i : W) × (initialOf A k ≡ some i) × (stateKey k ≡ s);
     Steps = λ j e k. (m : ℕ) × (a : Arc W) × (getElem? (A .arcs) m ≡ some a) × (a .source ≡ j) × (a .target ≡ k) × (arcKey m ≡ e);
@@ -128,7 +128,7 @@ module _ {W : Type 0} (I : Intersection W) where
 module _ {W : Type 0} (A : Automaton W) (ps : List TapePair) where
   -- The viable configurations (document 01: hopeful): those of initial states start, keyed by the state's number; a
   -- step is keyed by the number of the arc followed. No limit occurs in it.
-  abbrev pub configGraph : Ranked Config
+  abbrev pub configGraph : KeyedGraph Config
   configGraph = record {
     Starts = λ s c. (q : ℕ) × (i : W) × (initialOf A q ≡ some i) × (c ≡ startAt ps q) × Viable A ps c × (q ∷ [] ≡ s);
     Steps = λ c s d. (e : ℕ) × (a : Arc W) × (getElem? (A .arcs) e ≡ some a) × (a .source ≡ c .state) × (follow ps c a ≡ some d) × Viable A ps d × (e ∷ [] ≡ s);
@@ -195,7 +195,7 @@ module _ (S : OrderedSum) (A B : Automaton (S .W)) where
   Moves c s y = MovesBoth c s y ⊎ (MovesSecond c s y ⊎ MovesFirst c s y)
 
   -- all pairs of initial states start, by the first automaton's state, then the second's
-  abbrev pub productGraph : Ranked Vertex
+  abbrev pub productGraph : KeyedGraph Vertex
   productGraph = record {
     Starts = λ s c. (p : ℕ) × (q : ℕ) × (i : W) × (j : W) × (initialOf A p ≡ some i) × (initialOf B q ≡ some j) × (c ≡ (some p, some q)) × (p ∷ q ∷ [] ≡ s);
     Steps = λ c s d. (l : Content W) × Moves c s (l, d);

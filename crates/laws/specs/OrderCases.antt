@@ -1,19 +1,17 @@
 -- Cases of the order of document 02's request 2.2: tables whose input order, order first reached and order last reached
 -- all differ.
-use mathlib.Core.Bool.{not}
 use mathlib.Core.Option.{none, some}
-use mathlib.Core.List.{List, [], _∷_, _++_}
-use Prim.Native.Nat.{ℕ, zero, suc}
+use mathlib.Core.List.{List, [], _∷_, _++_, map, reverse}
+use Prim.Native.Nat.{ℕ}
 use Prim.Native.String.{String}
-use lib.ListN.{getElem?}
-use Rattle.automata.specs.Lists.{filter}
+use Rattle.automata.specs.Lists.{concat}
 use Rattle.automata.specs.OrderedSum.{ℕ-sum}
 use Rattle.automata.specs.Automaton.{State, Arc, Content, Automaton}
 use Rattle.automata.specs.Space.{Space}
 use Rattle.automata.specs.TapePair.{Pair, TapePair, limited}
 use Rattle.automata.specs.Config.{Config, sameConfig}
 use Rattle.automata.specs.Closing.{closingTables, viable}
-use Rattle.automata.specs.Explore.{successors, reached}
+use Rattle.automata.specs.Explore.{insertAll, successors, reached}
 use Rattle.automata.specs.Intersect.{starts, out}
 use Rattle.automata.specs.System.{system, outAt, finalAt}
 use Rattle.automata.specs.Product.{Vertex, sameVertex, allBoth, allAfterFirst, allAfterSecond, allPairs, productSystem}
@@ -51,11 +49,6 @@ reachedStates = 1 ∷ 3 ∷ 4 ∷ 5 ∷ 0 ∷ 2 ∷ []
 abbrev pub branchedText : String
 branchedText = "  2     5     6\n         0         -\n         0         -\n         -         -\n         -         -\n         -         0\n     0     2         2        A        A\n     0     3         6        B        B\n     1     4         0        A        A\n     1     3         4        B        B\n     2     4         3        A        A\n     3     2         5        A        A\n"
 
--- a list backwards
-abbrev pub backwards : {A : Type 0} → List A → List A
-backwards [] = []
-backwards (x ∷ xs) = backwards xs ++ (x ∷ [])
-
 -- the configurations that start, and the steps out of each
 abbrev pub begins : List Config
 begins = starts branching oneApart (viable (closingTables branching oneApart))
@@ -63,23 +56,18 @@ begins = starts branching oneApart (viable (closingTables branching oneApart))
 abbrev pub leads : Config → List ((ℕ × Arc ℕ) × Config)
 leads c = out branching oneApart (viable (closingTables branching oneApart)) c
 
--- a search that numbers each configuration where it was last reached: each step puts its end behind all others
-abbrev pub lastReached : ℕ → ℕ → List Config → List Config
-lastReached zero k cs = cs
-lastReached (suc fuel) k cs = elim (getElem? cs k) [ none ↦ cs | some c ↦ lastReached fuel (suc k) (putAll cs (successors leads c)) ]
-  where
-    putAll : List Config → List Config → List Config
-    putAll cs [] = cs
-    putAll cs (d ∷ ds) = putAll (filter (λ c. not (sameConfig c d)) cs ++ (d ∷ [])) ds
+-- each configuration where it is reached last, as a starting one or by a step
+abbrev pub lastReached : List Config
+lastReached = reverse (insertAll sameConfig [] (reverse (begins ++ concat (map (successors leads) (reached sameConfig leads 64 begins)))))
 
 -- what wrong searches find: starting states backwards, arcs out of a state backwards, and each where it was last
 -- reached
 abbrev pub wrongSearches : List (List Config)
-wrongSearches = reached sameConfig leads 64 (backwards begins) ∷ reached sameConfig (λ c. backwards (leads c)) 64 begins ∷ lastReached 6 zero begins ∷ []
+wrongSearches = reached sameConfig leads 64 (reverse begins) ∷ reached sameConfig (λ c. reverse (leads c)) 64 begins ∷ lastReached ∷ []
 
 -- the same by the input states
 abbrev pub wrongStates : List (List ℕ)
-wrongStates = (3 ∷ 1 ∷ 2 ∷ 0 ∷ 4 ∷ 5 ∷ []) ∷ (1 ∷ 3 ∷ 0 ∷ 5 ∷ 4 ∷ 2 ∷ []) ∷ (1 ∷ 3 ∷ 4 ∷ 0 ∷ 5 ∷ 2 ∷ []) ∷ []
+wrongStates = (3 ∷ 1 ∷ 2 ∷ 0 ∷ 4 ∷ 5 ∷ []) ∷ (1 ∷ 3 ∷ 0 ∷ 5 ∷ 4 ∷ 2 ∷ []) ∷ (1 ∷ 3 ∷ 4 ∷ 0 ∷ 2 ∷ 5 ∷ []) ∷ []
 
 -- ---- a product
 
@@ -116,7 +104,7 @@ abbrev pub wrongProducts : List (List Vertex)
 wrongProducts =
     reached sameVertex (productSystem ℕ-sum left right .out) 64 ((some 0, some 0) ∷ (some 1, some 0) ∷ (some 0, some 1) ∷ (some 1, some 1) ∷ [])
     ∷ reached sameVertex exchangedMoves 64 (allPairs (0 ∷ 1 ∷ []) (0 ∷ 1 ∷ []))
-    ∷ reached sameVertex (λ c. backwards (productSystem ℕ-sum left right .out c)) 64 (allPairs (0 ∷ 1 ∷ []) (0 ∷ 1 ∷ []))
+    ∷ reached sameVertex (λ c. reverse (productSystem ℕ-sum left right .out c)) 64 (allPairs (0 ∷ 1 ∷ []) (0 ∷ 1 ∷ []))
     ∷ []
 
 -- they are these

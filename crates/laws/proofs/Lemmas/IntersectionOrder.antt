@@ -35,7 +35,7 @@ use Rattle.laws.specs.PathBijection.{Exact}
 use Rattle.laws.proofs.Lemmas.ResultPaths.{kept, keptEdges, result, kept-live, initial-weight, start-weights, CopyOf, arc-edge}
 use Rattle.laws.proofs.Lemmas.ResultCopies.{result-exact}
 use Rattle.laws.specs.Order as Order
-use Rattle.laws.specs.Order.{Live, Key, _≺_, Ranked, Arrival, start, step, _⊏_, Reaches, Ordered, ClosesGaps, tableGraph, OrderedTable, inputState, inputArc, configGraph, IntersectionOrder}
+use Rattle.laws.specs.Order.{Live, Key, _≺_, KeyedGraph, Arrival, start, step, _⊏_, Reaches, Ordered, ClosesGaps, tableGraph, OrderedTable, inputState, inputArc, configGraph, IntersectionOrder}
 use Rattle.laws.proofs.Lemmas.Sorted.{pairwise-weaken}
 use Rattle.laws.proofs.Lemmas.OrderFacts.{listed, reached-ordered, ordered-iff, arrival, arrived}
 use Rattle.laws.proofs.Lemmas.KeptOrder.{within, kept-ordered, marks-close-gaps}
@@ -77,7 +77,7 @@ module _ {W : Type 0} (A : Automaton W) (ps : List TapePair) (viable : Config �
   step-viable c e d h = let (m, _) = ListFacts.filter-members _ (candidates A ps viable c) h in candidates-viable A ps viable c (e, d) m
 
   -- the graph of the search
-  abbrev searchGraph : Ranked Config
+  abbrev searchGraph : KeyedGraph Config
   searchGraph = listed startKey arcKey (starts A ps viable) (out A ps viable)
 
   module _ (decides : DecidesViable A ps viable) where

@@ -16,7 +16,7 @@ use Rattle.automata.proofs.PairwiseFacts
 use Rattle.automata.proofs.Membership.{place-map⁻¹}
 use Rattle.automata.proofs.Trimmed.{atMarks-members, atMarks-distinct}
 use Rattle.automata.proofs.RankFacts.{rank-marked, rank-monotone, length-atMarks, atMarks-place}
-use Rattle.laws.specs.Order.{Key, Ranked, Arrival, start, step, _⊏_, FromBelow, Reaches, FirstReached, Ordered, ClosesGaps}
+use Rattle.laws.specs.Order.{Key, KeyedGraph, Arrival, start, step, _⊏_, FromBelow, Reaches, FirstReached, Ordered, ClosesGaps}
 
 -- ---- places among those kept
 
@@ -70,10 +70,10 @@ marks-close-gaps marks cs dis = record {
 -- ---- the order of those kept
 
 -- the graph on some of its vertices
-abbrev pub within : {C : Type 0} → Ranked C → List C → Ranked C
+abbrev pub within : {C : Type 0} → KeyedGraph C → List C → KeyedGraph C
 within G cs = record { Starts = λ s c. G .Starts s c × (c ∈ cs); Steps = λ b e c. G .Steps b e c × (b ∈ cs) × (c ∈ cs) }
 
-module _ {C : Type 0} (G : Ranked C) (cs : List C) (marks : List Bool) (o : Ordered G cs)
+module _ {C : Type 0} (G : KeyedGraph C) (cs : List C) (marks : List Bool) (o : Ordered G cs)
     (closed : (b : C) (e : Key) (c : C) → b ∈ cs → G .Steps b e c → c ∈ atMarks marks cs → b ∈ atMarks marks cs) where
   -- what is kept
   abbrev kept : List C

@@ -13,13 +13,13 @@ use Rattle.automata.specs.Projection.{range}
 use Rattle.automata.proofs.ListFacts
 use Rattle.automata.proofs.PairwiseFacts
 use Rattle.laws.proofs.Lemmas.Ranges.{length-range, range-at, range-placed, range-distinct}
-use Rattle.laws.specs.Order.{Key, _≺_, Ranked, Arrival, start, step, _⊏_, Reaches, FirstReached, Ordered}
+use Rattle.laws.specs.Order.{Key, _≺_, KeyedGraph, Arrival, start, step, _⊏_, Reaches, FirstReached, Ordered}
 
 -- ---- the order of numbers
 
-module _ {C : Type 0} (G : Ranked C) (cs : List C) where
+module _ {C : Type 0} (G : KeyedGraph C) (cs : List C) where
   -- the graph by the numbers of its vertices
-  abbrev pub byNumber : Ranked ℕ
+  abbrev pub byNumber : KeyedGraph ℕ
   byNumber = record {
     Starts = λ s k. (c : C) × (getElem? cs k ≡ some c) × G .Starts s c;
     Steps = λ j e k. (b : C) × (c : C) × (getElem? cs j ≡ some b) × (getElem? cs k ≡ some c) × G .Steps b e c;

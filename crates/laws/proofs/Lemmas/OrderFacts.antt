@@ -15,7 +15,7 @@ use Rattle.automata.proofs.PairwiseFacts
 use Rattle.automata.proofs.Membership.{place-cases}
 use Rattle.automata.proofs.Explored.{member-sound, member-complete, insertAll-place, explore-cases}
 use Rattle.laws.proofs.Lemmas.Sorted.{same-places, only-place, map-map, pairwise-map}
-use Rattle.laws.specs.Order.{Key, _≺_, Ranked, Arrival, start, step, _⊏_, FromBelow, Reaches, FirstReached, Ordered}
+use Rattle.laws.specs.Order.{Key, _≺_, KeyedGraph, Arrival, start, step, _⊏_, FromBelow, Reaches, FirstReached, Ordered}
 
 -- ---- the order of keys and of arrivals is strict
 
@@ -60,7 +60,7 @@ from-below-up m n (step i e) h b = omega arith
 
 -- ---- one numbering alone
 
-module _ {C : Type 0} (G : Ranked C) where
+module _ {C : Type 0} (G : KeyedGraph C) where
   -- the first arrival at a vertex
   module _ (cs : List C) (o : Ordered G cs) (k : ℕ) (c : C) (e : getElem? cs k ≡ some c) where
     at-arrival : (x : Arrival) × (getElem? (o .arrivals) k ≡ some x)
@@ -152,7 +152,7 @@ module _ {C : Type 0} (G : Ranked C) where
 
 -- ---- other words for the starts and the steps
 
-module _ {C : Type 0} (G H : Ranked C) (cs : List C)
+module _ {C : Type 0} (G H : KeyedGraph C) (cs : List C)
     (starts : (s : Key) (c : C) → c ∈ cs → G .Starts s c → H .Starts s c) (starts⁻¹ : (s : Key) (c : C) → H .Starts s c → G .Starts s c)
     (steps : (b : C) (e : Key) (c : C) → b ∈ cs → c ∈ cs → G .Steps b e c → H .Steps b e c)
     (steps⁻¹ : (b : C) (e : Key) (c : C) → b ∈ cs → H .Steps b e c → G .Steps b e c) where
@@ -307,7 +307,7 @@ module _ {C : Type 0} (same : C → C → Bool) (decided : Decides same) where
 
 -- the vertices of a list, and the labelled steps out of each, with keys
 module _ {C L : Type 0} (startKey : C → Key) (key : L → Key) (starts : List C) (out : C → List (L × C)) where
-  abbrev pub listed : Ranked C
+  abbrev pub listed : KeyedGraph C
   listed = record {
     Starts = λ s c. (startKey c ≡ s) × (c ∈ starts);
     Steps = λ c e d. (l : L) × (key l ≡ e) × _∈_ {A = L × C} (l, d) (out c);

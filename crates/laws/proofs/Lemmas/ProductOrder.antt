@@ -25,7 +25,7 @@ use Rattle.automata.proofs.Explored.{reached-again}
 use Rattle.automata.proofs.Edges.{edges-members, edges-keeps}
 use Rattle.automata.proofs.Numbering.{initial-numbered}
 use Rattle.automata.proofs.ProductStates.{vertices-decided, added⁻¹, initialAt⁻¹, initial-listed, gave-product, pairs-in}
-use Rattle.laws.specs.Order.{Key, _≺_, Ranked, Arrival, step, _⊏_, Ordered, tableGraph, OrderedTable, pairKey, Leaves, Moves, productGraph, ProductOrder}
+use Rattle.laws.specs.Order.{Key, _≺_, KeyedGraph, Arrival, step, _⊏_, Ordered, tableGraph, OrderedTable, pairKey, Leaves, Moves, productGraph, ProductOrder}
 use Rattle.laws.proofs.Lemmas.Sorted.{map-map, pairwise-map}
 use Rattle.laws.proofs.Lemmas.OrderFacts.{listed, reached-ordered, ordered-iff}
 use Rattle.laws.proofs.Lemmas.NumberOrder.{byNumber, numbers-ordered, edges-increase}
@@ -328,7 +328,7 @@ module _ (S : OrderedSum) (A B : Automaton (S .W)) where
     found-again : reached sameVertex keyedOut cap initials ≡ productStates S cap A B
     found-again = reached-again sameVertex vertices-decided (productSystem S A B .out) keyedOut initials cap cap (omega arith) small (λ c m. successors-forget c)
 
-    abbrev keyedGraph : Ranked Vertex
+    abbrev keyedGraph : KeyedGraph Vertex
     keyedGraph = listed pairKey (λ (l : Key × Content W). l .0) initials keyedOut
 
     keyed-ordered : Ordered keyedGraph (productStates S cap A B)
