@@ -81,7 +81,7 @@ pub data Compared : List Calls → Type 0 → Type 1 where
   some-pairs-first : (l l₁ : JoinLent) (D : ℕ) (s s₁ : Slices) (work : List ℕ) (ps first later : List Pair) (a a₁ b b₁ : Calls)
       → SharedOut ps first later → Alike a a₁ → Alike b b₁
       → Compared (joining l ps a b ∷ stepwise l₁ D s s₁ work first later a₁ b₁ ∷ []) (Alike (joining l ps a b) (stepwise l₁ D s s₁ work first later a₁ b₁))
-  -- given again: any list of calls that gave a table, made again with no less, gives it again
+  -- given again: any list of calls that gave a table, made again with no less, gives the same bytes of records
   given-again : (c c′ : Calls) → NoLess c c′ → Compared (c ∷ []) (Again c c′)
 
 -- Demand 3: whatever is said of lists of calls holds where none of them is refused.
