@@ -3,7 +3,7 @@ use memory::bytes::get64;
 use memory::bytes::put64;
 ghost use mathlib.Core.Path.{_≡_};
 ghost use Prim.Native.Nat.{_+_, _*_, _≤_, _<_};
-ghost use lib.ListN.{length, getD, replicate};
+ghost use lib.ListN.{length, getD, set, replicate};
 ghost use Rattle.cell_moves.specs.Distances.{cellsOf, Lowers};
 
 // The number of the cell of a state and a combination, there being so many combinations in all.
@@ -20,6 +20,14 @@ pub fn weight_at(work: &[u8], k: usize) -> u64
     ensures { λ r. ⌜ r ≡ getD (cellsOf (now (work .entry))) k 0 ⌝ }
 {
     get64(work, 8 * k)
+}
+
+// The number `v` in a cell.
+pub fn set_number(work: &mut [u8], k: usize, v: u64)
+    requires { ⌜ 8 * k + 8 ≤ length (now work) ⌝ }
+    ensures { λ _. ⌜ (cellsOf (now (work .exit)) ≡ set (cellsOf (now (work .entry))) k v) × (length (now (work .exit)) ≡ length (now (work .entry))) ⌝ }
+{
+    put64(work, 8 * k, v);
 }
 
 // The weight `v` in a cell, if it is less than the one there. Tells whether it is.

@@ -4,6 +4,7 @@ use mathlib.Core.Logic.{_⊎_, inl, inr}
 use mathlib.Core.Option.{Option}
 use mathlib.Core.List.{List}
 use Prim.Native.Nat.{ℕ, suc, _+_, _*_, _≤_, _<_}
+use native.Mathlib.Nat.{zero-add}
 use native.Mathlib.Decide.{decLe}
 use native.Mathlib.Omega.{arith}
 use lib.ListN.{length, getD, length-replicate}
@@ -12,27 +13,29 @@ use Rattle.automata.specs.Automaton.{size, Tuple}
 use Rattle.automata.specs.Lookup.{lookup}
 use Rattle.automata.specs.Calls.Work.{combinations, lookupWork}
 use Rattle.automata.specs.Memory.{Memory, tableOf}
-use Rattle.automata.proofs.SoundFacts.{sound-holds}
+use Rattle.automata.proofs.SoundFacts.{sound-well-formed, sound-holds}
+use Rattle.automata.proofs.WellFormedFacts.{well-formed, weights-bounded}
 use Rattle.memory.specs.Answers.{lent}
 use Rattle.memory.specs.Records.{arcAt, contentAt}
 use Rattle.memory.specs.declared.answer.Counts.{Counts}
 use Rattle.memory.proofs.SoundLaws.{states-lent, arcs-lent, few-states, few-arcs, arc-target}
-use Rattle.automata.proofs.Cells.{place}
+use Rattle.automata.specs.Cells.{place}
 use Rattle.tuple.specs.declared.Strings.{Strings}
 use Rattle.tuple.specs.Strings.{Stands}
 use Rattle.cell_moves.specs.declared.spot.Spot.{Spot}
 use Rattle.cell_moves.specs.declared.spot.Spans.{Spans}
 use Rattle.cell_moves.specs.Distances.{far, weightOf, cellsOf}
 use Rattle.distances.specs.Ends.{startedFrom, StartsAll, Stated, leastUpTo}
-use Rattle.cells.specs.Fillable.{Fillable}
+use Rattle.cells.specs.Fillable.{Fillable, CellsFilled}
 use Rattle.cell_moves.specs.Spots.{Spanned, spotOf, Placed, Positive}
 use Rattle.distances.specs.Pushes.{targetOf, Ready, Spaced, Settles}
 use Rattle.cell_moves.proofs.CellLaws.{length-cells}
-use Rattle.distances.proofs.DistanceLaws.{Distances}
+use Rattle.distances.proofs.DistanceLaws.{Distances, distances-filled}
+use Rattle.distances.proofs.PushLaws.{reach-rest}
 use Rattle.distances.proofs.PushMeaning.{AtSpot, ready, settled-done}
 use Rattle.distances.proofs.SpotMeaning.{digits, place-digits, all-at, spans-positive, at-spot}
 use Rattle.distances.proofs.MoveMeaning.{combinations-positive}
-use Rattle.distances.proofs.StartMeaning.{sixteens, begun-distances}
+use Rattle.distances.proofs.StartMeaning.{sixteens, cleared-cell, begun-distances, started-rest}
 use Rattle.distances.proofs.LeastMeaning.{stands-short, lookup-means}
 
 -- the combinations from a number on are done
@@ -40,6 +43,7 @@ pub record Filling (c : Counts) (states arcs text : List ℕ) (s : Strings) (spa
   pub spanned : Spanned (s .lengths) spans
   pub left-is : left ≤ spans .all
   pub same-length : length w ≡ room
+  pub rest : (k : ℕ) → c .states * spans .all ≤ k → 8 * k + 8 ≤ room → getD (cellsOf w) k 0 ≡ far
   pub distances : (t : Tuple) → Stands text t s → length t ≡ c .tapes → Distances (tableOf (lent c states arcs)) t (cellsOf w) left
 
 -- the number of a combination
@@ -101,11 +105,17 @@ module _ (c : Counts) (states arcs text : List ℕ) (s : Strings) (room : ℕ) (
     tuple-room t h = subst (λ (n : ℕ). 8 * (n * combinations t) ≤ room) size-is
         (subst (λ (n : ℕ). 8 * (c .states * n) ≤ room) (sym (fits-all t spans h sp)) table-room)
 
+    rest-of : (k : ℕ) → c .states * spans .all ≤ k → (0 + c .states) * spans .all ≤ k
+    rest-of k = subst (λ (n : ℕ). n * spans .all ≤ k) (sym (zero-add (c .states)))
+
     pub fill-start : (v w : List ℕ) → v ≡ sixteens room → StartsAll states (spans .all) (c .states) w v → Filling c states arcs text s spans room (spans .all) w
     fill-start v w e a = record {
       spanned = sp;
       left-is = omega arith;
       same-length = a .same-length ∙ ap length e ∙ length-replicate room 16;
+      rest = λ k out lt.
+          ap (λ (xs : List ℕ). getD xs k 0) (a .cells-are) ∙ started-rest (c .states) 0 states (spans .all) all-positive (cellsOf v) k (rest-of k out)
+          ∙ ap (λ (x : List ℕ). getD (cellsOf x) k 0) e ∙ cleared-cell room k lt;
       distances = λ t h tapes.
           subst (λ (xs : List ℕ). Distances (tableOf (lent c states arcs)) t xs (spans .all))
           (sym (a .cells-are ∙ ap (λ (x : List ℕ). startedFrom (c .states) 0 states (spans .all) (cellsOf x)) e))
@@ -114,11 +124,8 @@ module _ (c : Counts) (states arcs text : List ℕ) (s : Strings) (room : ℕ) (
 
   module _ (spans : Spans) (left rest : ℕ) (w : List ℕ) (g : Filling c states arcs text s spans room left w) where
     -- what is known of the cells
-    pub fill-below : (k : ℕ) → getD (cellsOf w) k 0 ≤ far
+    fill-below : (k : ℕ) → getD (cellsOf w) k 0 ≤ far
     fill-below = g .distances (f .tuple) st (f .tapes-are) .below
-
-    pub fill-stated : Stated states (c .states) (spans .all) w
-    fill-stated = stated spans (g .spanned) w (g .same-length)
 
     module _ (d : left ≡ suc rest) (spot : Spot) (e : spot ≡ spotOf s spans rest) where
       small : (t : Tuple) → Stands text t s → rest < combinations t
@@ -126,6 +133,9 @@ module _ (c : Counts) (states arcs text : List ℕ) (s : Strings) (room : ℕ) (
 
       spot-at : (t : Tuple) → Stands text t s → AtSpot text t spot (digits rest t)
       spot-at t h = subst (λ (z : Spot). AtSpot text t z (digits rest t)) (sym e) (at-spot text t s h spans (g .spanned) rest (small t h))
+
+      all-is : spot .all ≡ spans .all
+      all-is = spot-at (f .tuple) st .all-is ∙ sym (all-at text (f .tuple) s st spans (g .spanned))
 
       pub fill-requires : Ready c arcs text spot × Spaced (c .states) spot w
       fill-requires =
@@ -141,6 +151,8 @@ module _ (c : Counts) (states arcs text : List ℕ) (s : Strings) (room : ℕ) (
         spanned = g .spanned;
         left-is = omega (arith, g .left-is, d);
         same-length = z .same-length ∙ g .same-length;
+        rest = λ k out lt. reach-rest c arcs text spot (fill-requires .0) (fill-requires .1 .number-is) (cellsOf w) (cellsOf u) (z .reach) k
+            (subst (λ (n : ℕ). c .states * n ≤ k) (sym all-is) out) ∙ g .rest k out lt;
         distances = λ t h tapes.
             let p = place-digits rest t (small t h) in
             let b : suc (place (digits rest t) t) ≡ left = omega (arith, p, d) in
@@ -150,8 +162,24 @@ module _ (c : Counts) (states arcs text : List ℕ) (s : Strings) (room : ℕ) (
             (subst (λ (n : ℕ). Distances (tableOf (lent c states arcs)) t (cellsOf w) n) (sym b) (g .distances t h tapes)));
       }
 
-    pub fill-end : left ≡ 0 → (o : Option ℕ) → o ≡ weightOf (leastUpTo (c .states) states (spans .all) (cellsOf w))
+    -- all combinations are done
+    pub fill-end : left ≡ 0 → CellsFilled (lent c states arcs) text s w
+    fill-end d = record {
+      filled = λ t h tapes.
+          let wf = sound-well-formed (lent c states arcs) (f .sound) in
+          distances-filled (tableOf (lent c states arcs)) t (cellsOf w) (well-formed (tableOf (lent c states arcs)) wf .within)
+          (subst (λ (n : ℕ). Distances (tableOf (lent c states arcs)) t (cellsOf w) n) d (g .distances t h tapes))
+          (weights-bounded (tableOf (lent c states arcs)) wf)
+          (omega (arith, few-states (lent c states arcs) (f .sound), size-is spans (g .spanned))) (stands-short text t s h);
+      rest = λ t h k out lt. g .rest k (subst (λ (n : ℕ). c .states * n ≤ k) (sym (all-at text t s h spans (g .spanned))) out) (omega (arith, lt, g .same-length));
+    }
+
+  -- the least over the initial states where the cells are filled
+  module _ (spans : Spans) (sp : Spanned (s .lengths) spans) (w : List ℕ) (l : length w ≡ room) (g : CellsFilled (lent c states arcs) text s w) where
+    pub weight-requires : Stated states (c .states) (spans .all) w × ((k : ℕ) → getD (cellsOf w) k 0 ≤ far)
+    weight-requires = (stated spans sp w l, g .filled (f .tuple) st (f .tapes-are) .below)
+
+    pub weight-is : (o : Option ℕ) → o ≡ weightOf (leastUpTo (c .states) states (spans .all) (cellsOf w))
         → (t : Tuple) → Stands text t s → length t ≡ c .tapes → o ≡ lookup ℕ-sum (tableOf (lent c states arcs)) t
-    fill-end d o e t h tapes =
-        e ∙ lookup-means c states arcs (f .sound) t (stands-short text t s h) (cellsOf w)
-        (subst (λ (n : ℕ). Distances (tableOf (lent c states arcs)) t (cellsOf w) n) d (g .distances t h tapes)) (spans .all) (all-at text t s h spans (g .spanned))
+    weight-is o e t h tapes =
+        e ∙ lookup-means c states arcs (f .sound) t (stands-short text t s h) (cellsOf w) (g .filled t h tapes) (spans .all) (all-at text t s h spans sp)

@@ -41,7 +41,7 @@ pub fn start_states(states: &[u8], count: usize, all: usize, work: &mut [u8])
 }
 
 // The initial weight of a state and the weight in its cell at the first combination, or the number for "none".
-fn from_state(states: &[u8], q: usize, all: usize, work: &[u8]) -> u64
+pub fn from_state(states: &[u8], q: usize, all: usize, work: &[u8]) -> u64
     requires { ⌜ (10 * q + 10 ≤ length (now states)) × (0 < all) × (8 * (q * all + all) ≤ length (now work)) × (getD (cellsOf (now work)) (q * all + 0) 0 ≤ far) ⌝ }
     ensures { λ r. ⌜ r ≡ fromState (now (states .entry)) all (cellsOf (now (work .entry))) q ⌝ }
 {

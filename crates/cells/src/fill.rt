@@ -26,11 +26,11 @@ ghost use Rattle.memory.specs.Answers.{lent};
 ghost use Rattle.tuple.specs.Strings.{Stands};
 ghost use Rattle.cells.specs.Answers.{optionAs};
 ghost use Rattle.distances.specs.Pushes.{Marking};
-ghost use Rattle.cells.specs.Fillable.{Fillable};
+ghost use Rattle.cells.specs.Fillable.{Fillable, CellsFilled};
 ghost use Rattle.cells.specs.Recall.{Fresh};
 ghost use Rattle.label_numbers.specs.Numbers.{Numbered};
 
-// The least weight of the strings in the table, or none, by the chains of its arcs.
+// Every cell, by the chains of the arcs and the numbers of their labels.
 fn fill(
     counts: Counts,
     states: &[u8],
@@ -42,9 +42,9 @@ fn fill(
     index: &[u16],
     queue: &mut [u16],
     work: &mut [u8],
-) -> Weight64
+)
     requires { ⌜ Fillable (lent counts (now states) (now arcs)) (now text) strings (length (now work)) × Marking counts (now arcs) (now index) (now queue) × Numbered (counts .tapes) (counts .arcs) (now arcs) (now numbers) × Fresh 18446744073709551615 (now memo) ⌝ }
-    ensures { λ r. ⌜ ((t : Tuple) → Stands (now (text .entry)) t strings → length t ≡ counts .tapes → optionAs r ≡ lookup ℕ-sum (tableOf (lent counts (now (states .entry)) (now (arcs .entry)))) t) ⌝ }
+    ensures { λ _. ⌜ CellsFilled (lent counts (now (states .entry)) (now (arcs .entry))) (now (text .entry)) strings (now (work .exit)) ⌝ }
 {
     let spans = spans_of(strings);
     clear_cells(work);
@@ -55,20 +55,19 @@ fn fill(
         let spot = spot_at(strings, spans, left);
         settle(counts, arcs, text, spot, numbers, memo, index, queue, work);
     }
-    least_from(states, counts.states, spans.all, work)
 }
 
-// The least weight of the strings in the table, or none.
-pub fn least_weight(
+// Every cell.
+pub fn fill_cells(
     counts: Counts,
     states: &[u8],
     arcs: &[u8],
     text: &[u8],
     strings: Strings,
     work: &mut [u8],
-) -> Weight64
+)
     requires { ⌜ Fillable (lent counts (now states) (now arcs)) (now text) strings (length (now work)) ⌝ }
-    ensures { λ r. ⌜ ((t : Tuple) → Stands (now (text .entry)) t strings → length t ≡ counts .tapes → optionAs r ≡ lookup ℕ-sum (tableOf (lent counts (now (states .entry)) (now (arcs .entry)))) t) ⌝ }
+    ensures { λ _. ⌜ CellsFilled (lent counts (now (states .entry)) (now (arcs .entry))) (now (text .entry)) strings (now (work .exit)) ⌝ }
 {
     let mut index = no_chains();
     chain_arcs(counts, arcs, &mut index);
@@ -87,5 +86,22 @@ pub fn least_weight(
         &index,
         &mut queue,
         work,
-    )
+    );
+}
+
+// The least weight of the strings in the table, or none.
+pub fn least_weight(
+    counts: Counts,
+    states: &[u8],
+    arcs: &[u8],
+    text: &[u8],
+    strings: Strings,
+    work: &mut [u8],
+) -> Weight64
+    requires { ⌜ Fillable (lent counts (now states) (now arcs)) (now text) strings (length (now work)) ⌝ }
+    ensures { λ r. ⌜ ((t : Tuple) → Stands (now (text .entry)) t strings → length t ≡ counts .tapes → optionAs r ≡ lookup ℕ-sum (tableOf (lent counts (now (states .entry)) (now (arcs .entry)))) t) ⌝ }
+{
+    fill_cells(counts, states, arcs, text, strings, work);
+    let spans = spans_of(strings);
+    least_from(states, counts.states, spans.all, work)
 }

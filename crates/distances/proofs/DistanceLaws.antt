@@ -1,13 +1,13 @@
 -- A table of numbers that runs attain, and that no ending and no arc can lower, holds the least weights.
 use mathlib.Core.Path.{_≡_, refl, sym, ap, subst, _∙_}
 use mathlib.Core.Option.{Option, none, some, Option·none-ne-some, Option·some-injective}
-use mathlib.Core.List.{List, []}
+use mathlib.Core.List.{List, [], _∷_}
 use Prim.Native.Nat.{ℕ, _+_, _≤_, _<_, suc-le-suc}
 use native.Mathlib.Nat.{mul-le-mul}
 use native.Mathlib.Decide.{decLe}
 use native.Mathlib.Omega.{arith}
 use lib.Dec.{leb→le}
-use lib.ListN.{length, getD, getElem?}
+use lib.ListN.{length, getD, getElem?, length-drop}
 use borrow.Author.Tests.{lt-ltb, le-ltb}
 use Rattle.automata.specs.Lists.{total}
 use Rattle.automata.specs.OrderedSum.{ℕ-sum}
@@ -18,8 +18,10 @@ use Rattle.automata.proofs.Spelling.{Spells, spells-tail}
 use Rattle.automata.proofs.LookupRuns.{onward, Onward, best-least}
 use Rattle.automata.proofs.LookupFacts.{short-enough}
 use Rattle.automata.proofs.LookupBounds.{WeightsBounded, best-le}
-use Rattle.automata.proofs.Cells.{Positions, dropAll, moved, place, cell, leftQuotients-drop, beginnings, positions-beginnings, dropAll-beginnings}
+use Rattle.automata.specs.Cells.{Positions, dropAll, place, cell}
+use Rattle.automata.proofs.Cells.{moved, leftQuotients-drop}
 use Rattle.cell_moves.specs.Distances.{far, weightOf}
+use Rattle.distances.specs.Filled.{Filled}
 use Rattle.distances.proofs.MoveMeaning.{place-moved}
 
 module _ (A : Automaton ℕ) (t : Tuple) (xs : List ℕ) where
@@ -47,45 +49,60 @@ module _ (A : Automaton ℕ) (t : Tuple) (xs : List ℕ) where
       = distances-bound within b d f (moved ps (a .labels)) (within n a at .1) k (omega (arith, le, place-moved ps (a .labels) t h)) w e (subst (λ z. Spells es z) r s′) in
       omega (arith, d .goes q ps lt h n a at from rest g (omega (arith, le, place-moved ps (a .labels) t h)), i)
 
-  module _ (within : Within (graph A) (size A)) (d : Distances 0) where
-    module _ (ok : WeightsBounded A) (few : size A ≤ 1024) (short : total length t ≤ 512) (q : ℕ) (lt : q < size A) where
-      abbrev pub start : ℕ
-      start = val q (beginnings t)
+-- what is left of strings has no more symbols
+rests-short : (ps : List ℕ) (t : Tuple) → total length (dropAll ps t) ≤ total length t
+rests-short [] t = omega arith
+rests-short (p ∷ ps) [] = omega arith
+rests-short (p ∷ ps) (s ∷ t) = omega (arith, length-drop p s, rests-short ps t)
 
-      -- a run from the beginnings
-      start-bound : (k w : ℕ) → Onward ℕ-sum A k q t w → start ≤ w
-      start-bound k w o =
-          let s : Spells (o .arcs) (dropAll (beginnings t) t) = subst (λ z. Spells (o .arcs) z) (sym (dropAll-beginnings t)) (o .spells) in
-          let i = distances-bound within 0 d (o .final) (beginnings t) lt (positions-beginnings t) (omega arith) (o .leads .1) (o .ends) s in
-          omega (arith, i, o .weight)
+-- what `best` finds is far below the number for "none"
+pub best-small : (A : Automaton ℕ) → WeightsBounded A → size A ≤ 1024 → (rests : Tuple) → total length rests ≤ 512 → (q w : ℕ)
+    → best ℕ-sum A (arcsEnough ℕ-sum A rests) q rests ≡ some w → w < 1000000000000000000
+best-small A ok few rests short q w e = omega (arith, best-le A ok (arcsEnough ℕ-sum A rests) q rests w e, mul-le-mul few (suc-le-suc short))
 
-      -- where the number is a weight, `best` finds one that is no more
-      start-found : start < far → (w : ℕ) × (best ℕ-sum A (arcsEnough ℕ-sum A t) q t ≡ some w) × (w ≤ start)
-      start-found small =
-          let (k, o) = d .attained q (beginnings t) lt (positions-beginnings t) small in
-          let s : Spells (o .arcs) t = subst (λ z. Spells (o .arcs) z) (dropAll-beginnings t) (o .spells) in
-          let (u, o′, h) = short-enough ℕ-sum A within t (length (o .arcs)) (o .final) (omega arith) lt (o .leads .1) (o .ends) s in
-          let (w, e, g) = best-least ℕ-sum A (arcsEnough ℕ-sum A t) q t .bound u o′ in
-          (w, e, omega (arith, leb→le w u g, leb→le u (onward ℕ-sum A (o .arcs) (o .final)) h, o .weight))
+module _ (A : Automaton ℕ) (t : Tuple) (xs : List ℕ) (within : Within (graph A) (size A)) (d : Distances A t xs 0) (ok : WeightsBounded A)
+    (few : size A ≤ 1024) (short : total length t ≤ 512) where
+  module _ (q : ℕ) (ps : List ℕ) (lt : q < size A) (h : Positions ps t) where
+    -- what is left there, what `best` finds of it, and the number there
+    abbrev rests : Tuple
+    rests = dropAll ps t
 
-      -- what `best` finds is far below the number for "none"
-      pub best-small : (w : ℕ) → best ℕ-sum A (arcsEnough ℕ-sum A t) q t ≡ some w → w < 1000000000000000000
-      best-small w e = omega (arith, best-le A ok (arcsEnough ℕ-sum A t) q t w e, mul-le-mul few (suc-le-suc short))
+    abbrev found : Option ℕ
+    found = best ℕ-sum A (arcsEnough ℕ-sum A rests) q rests
 
-      -- The number stands for what `best` finds with as many arcs as are enough.
-      pub distances-best : weightOf start ≡ best ℕ-sum A (arcsEnough ℕ-sum A t) q t
-      distances-best = go (best ℕ-sum A (arcsEnough ℕ-sum A t) q t) refl
-        where
-          none-far : best ℕ-sum A (arcsEnough ℕ-sum A t) q t ≡ none → Dec (far ≤ start) → far ≤ start
-          none-far e (yes h) = h
-          none-far e (no h) = let (w, g, l) = start-found (omega arith) in absurd (Option·none-ne-some w (sym e ∙ g))
+    abbrev here : ℕ
+    here = val A t xs q ps
 
-          go : (o : Option ℕ) → best ℕ-sum A (arcsEnough ℕ-sum A t) q t ≡ o → weightOf start ≡ o
-          go none e = rw (le-ltb start far (none-far e (decLe far start)))
-          go (some w) e =
-              let up : start ≤ w = start-bound (arcsEnough ℕ-sum A t) w (best-least ℕ-sum A (arcsEnough ℕ-sum A t) q t .holds w e) in
-              let small : start < far = omega (arith, up, best-small w e) in
-              let (v, g, l) = start-found small in
-              let same : w ≡ v = Option·some-injective w v (sym e ∙ g) in
-              let eq : start ≡ w = omega (arith, up, l, same) in
-              rw (lt-ltb start far small) (ap some eq)
+    here-bound : (k w : ℕ) → Onward ℕ-sum A k q rests w → here ≤ w
+    here-bound k w o =
+        let i = distances-bound A t xs within 0 d (o .final) ps lt h (omega arith) (o .leads .1) (o .ends) (o .spells) in omega (arith, i, o .weight)
+
+    -- where the number is a weight, `best` finds one that is no more
+    here-found : here < far → (w : ℕ) × (found ≡ some w) × (w ≤ here)
+    here-found small =
+        let (k, o) = d .attained q ps lt h small in
+        let (u, o′, g) = short-enough ℕ-sum A within rests (length (o .arcs)) (o .final) (omega arith) lt (o .leads .1) (o .ends) (o .spells) in
+        let (w, e, l) = best-least ℕ-sum A (arcsEnough ℕ-sum A rests) q rests .bound u o′ in
+        (w, e, omega (arith, leb→le w u l, leb→le u (onward ℕ-sum A (o .arcs) (o .final)) g, o .weight))
+
+    -- The number stands for what `best` finds with as many arcs as are enough.
+    here-best : weightOf here ≡ found
+    here-best = go found refl
+      where
+        none-far : found ≡ none → Dec (far ≤ here) → far ≤ here
+        none-far e (yes l) = l
+        none-far e (no l) = let (w, g, k) = here-found (omega arith) in absurd (Option·none-ne-some w (sym e ∙ g))
+
+        go : (o : Option ℕ) → found ≡ o → weightOf here ≡ o
+        go none e = rw (le-ltb here far (none-far e (decLe far here)))
+        go (some w) e =
+            let up : here ≤ w = here-bound (arcsEnough ℕ-sum A rests) w (best-least ℕ-sum A (arcsEnough ℕ-sum A rests) q rests .holds w e) in
+            let small : here < far = omega (arith, up, best-small A ok few rests (omega (arith, rests-short ps t)) q w e) in
+            let (v, g, l) = here-found small in
+            let same : w ≡ v = Option·some-injective w v (sym e ∙ g) in
+            let eq : here ≡ w = omega (arith, up, l, same) in
+            rw (lt-ltb here far small) (ap some eq)
+
+  -- Once all combinations are done, the cells are filled.
+  pub distances-filled : Filled A t xs
+  distances-filled = record { below = d .below; least = here-best }

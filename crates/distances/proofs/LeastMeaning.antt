@@ -12,11 +12,13 @@ use Rattle.automata.specs.OrderedSum.{ℕ-sum}
 use Rattle.automata.specs.Least.{lesser, plus, leastBelow}
 use Rattle.automata.specs.Automaton.{Automaton, size, initialOf, Tuple}
 use Rattle.automata.specs.Lookup.{best, arcsEnough, lookup}
+use Rattle.automata.specs.LeastPath.{leastOnward}
 use Rattle.automata.specs.Calls.Work.{combinations}
 use Rattle.automata.specs.Memory.{Sound, tableOf}
 use Rattle.automata.proofs.SoundFacts.{sound-well-formed, sound-holds}
-use Rattle.automata.proofs.WellFormedFacts.{well-formed, weights-bounded}
-use Rattle.automata.proofs.Cells.{place, cell, beginnings}
+use Rattle.automata.proofs.WellFormedFacts.{weights-bounded}
+use Rattle.automata.specs.Cells.{place, cell}
+use Rattle.automata.proofs.Cells.{beginnings, positions-beginnings, dropAll-beginnings}
 use Rattle.memory.specs.Answers.{lent}
 use Rattle.memory.specs.Records.{optionOf, stateAt}
 use Rattle.memory.specs.declared.answer.Counts.{Counts}
@@ -27,7 +29,8 @@ use Rattle.tuple.specs.declared.Strings.{Strings}
 use Rattle.tuple.specs.Strings.{Stands}
 use Rattle.cell_moves.specs.Distances.{far, weightOf}
 use Rattle.distances.specs.Ends.{beginning, fromState, leastUpTo}
-use Rattle.distances.proofs.DistanceLaws.{val, Distances, best-small, distances-best}
+use Rattle.distances.specs.Filled.{Filled}
+use Rattle.distances.proofs.DistanceLaws.{best-small}
 
 -- ---- none as a number
 
@@ -52,7 +55,7 @@ weight-plus w x o light e small = go (decLe far x)
         let m = small x n in
         rw (n, lt-ltb (w + x) far (omega (arith, m, light)))
 
-place-beginnings : (t : Tuple) → place (beginnings t) t ≡ 0
+pub place-beginnings : (t : Tuple) → place (beginnings t) t ≡ 0
 place-beginnings [] = refl
 place-beginnings (s ∷ t) = omega (arith, place-beginnings t)
 
@@ -65,7 +68,7 @@ pub stands-short : (text : List ℕ) (t : Tuple) (s : Strings) → Stands text t
 stands-short text t s st = omega (arith, total-le t (λ h lt. omega (arith, st .length-is h lt, st .short h)), st .few)
 
 module _ (c : Counts) (states arcs : List ℕ) (sound : Sound (lent c states arcs)) (t : Tuple) (short : total length t ≤ 512) (xs : List ℕ)
-    (d : Distances (tableOf (lent c states arcs)) t xs 0) (all : ℕ) (all-is : all ≡ combinations t) where
+    (f : Filled (tableOf (lent c states arcs)) t xs) (all : ℕ) (all-is : all ≡ combinations t) where
   abbrev table : Automaton ℕ
   table = tableOf (lent c states arcs)
 
@@ -80,14 +83,13 @@ module _ (c : Counts) (states arcs : List ℕ) (sound : Sound (lent c states arc
     few : size table ≤ 1024
     few = omega (arith, few-states (lent c states arcs) sound, sound-holds (lent c states arcs) sound .states)
 
-    value-is : getD xs (q * all + 0) 0 ≡ val table t xs q (beginnings t)
+    value-is : getD xs (q * all + 0) 0 ≡ getD xs (cell q (beginnings t) t) 0
     value-is =
         let e : q * all ≡ q * combinations t = ap (λ (k : ℕ). q * k) all-is in
-        let f : q * all + 0 ≡ cell q (beginnings t) t = omega (arith, e, place-beginnings t) in ap (λ (k : ℕ). getD xs k 0) f
+        let g : q * all + 0 ≡ cell q (beginnings t) t = omega (arith, e, place-beginnings t) in ap (λ (k : ℕ). getD xs k 0) g
 
     best-is : weightOf (getD xs (q * all + 0) 0) ≡ best ℕ-sum table (arcsEnough ℕ-sum table t) q t
-    best-is = ap weightOf value-is ∙ distances-best table t xs (well-formed table (sound-well-formed (lent c states arcs) sound) .within) d
-        (weights-bounded table (sound-well-formed (lent c states arcs) sound)) few short q in-table
+    best-is = ap weightOf value-is ∙ f .least q (beginnings t) in-table (positions-beginnings t) ∙ ap (leastOnward ℕ-sum table q) (dropAll-beginnings t)
 
     initial-is : initialOf table q ≡ optionOf (stateAt (10 * q) states .initial)
     initial-is = ap (λ o. bind o (λ s. s .initial)) (state-loaded (lent c states arcs) sound q lt)
@@ -102,8 +104,7 @@ module _ (c : Counts) (states arcs : List ℕ) (sound : Sound (lent c states arc
             let i : initialOf table q ≡ some w = initial-is ∙ ap optionOf e in
             rw (from, i) (weight-plus w (getD xs (q * all + 0) 0) (best ℕ-sum table (arcsEnough ℕ-sum table t) q t)
             (weights-bounded table (sound-well-formed (lent c states arcs) sound) .initials q w i) best-is
-            (λ v f. best-small table t xs (well-formed table (sound-well-formed (lent c states arcs) sound) .within) d
-            (weights-bounded table (sound-well-formed (lent c states arcs) sound)) few short q in-table v f))
+            (λ v g. best-small table (weights-bounded table (sound-well-formed (lent c states arcs) sound)) few t short q v g))
 
   least-means : (n : ℕ) → n ≤ c .states → weightOf (leastUpTo n states all xs) ≡ leastBelow ℕ-sum from n
   unfolding leastUpTo

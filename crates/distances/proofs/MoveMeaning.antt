@@ -14,7 +14,8 @@ use Rattle.automata.specs.Lists.{if, and, bind, sameList, consBoth}
 use Rattle.automata.specs.Automaton.{Tuple}
 use Rattle.automata.specs.Lookup.{leftQuotient, leftQuotients}
 use Rattle.automata.specs.Calls.Work.{combinations}
-use Rattle.automata.proofs.Cells.{Positions, dropAll, moved, place}
+use Rattle.automata.specs.Cells.{Positions, dropAll, place}
+use Rattle.automata.proofs.Cells.{moved}
 use Rattle.memory.specs.Region.{part}
 use Rattle.memory.specs.Records.{labelAs, labelAt, labelsAt}
 use Rattle.memory.proofs.PartLaws.{length-part}
@@ -51,7 +52,7 @@ unfolding labelAt part
 label-part arcs at h = take-take (getD arcs at 0) 8 (drop (at + 1) arcs) h
 
 -- so long is it
-label-length : (arcs : List ℕ) (at : ℕ) → at + 9 ≤ length arcs → getD arcs at 0 ≤ 8 → length (labelAs (labelAt at arcs)) ≡ getD arcs at 0
+pub label-length : (arcs : List ℕ) (at : ℕ) → at + 9 ≤ length arcs → getD arcs at 0 ≤ 8 → length (labelAs (labelAt at arcs)) ≡ getD arcs at 0
 label-length arcs at lent short = ap length (label-part arcs at short) ∙ length-part (at + 1) (getD arcs at 0) arcs (omega arith)
 
 module _ (arcs : List ℕ) (at : ℕ) (text : List ℕ) (start p span : ℕ) (x : List ℕ) (lent : at + 9 ≤ length arcs) (short : getD arcs at 0 ≤ 8)
@@ -163,11 +164,11 @@ module _ (text : List ℕ) (s : Spot) (h p : ℕ) (ps x : List ℕ) (t : Tuple) 
   first-move arcs at = ap₂ (λ (i j : ℕ). tapeMove arcs at text (getD (s .starts) h 0) i j) first-position first-span
 
 -- the labels behind the first
-next-short : (n at : ℕ) (arcs : List ℕ) → ((i : ℕ) → i < suc n → getD arcs (at + 9 * i) 0 ≤ 8) → (i : ℕ) → i < n → getD arcs (at + 9 + 9 * i) 0 ≤ 8
+pub next-short : (n at : ℕ) (arcs : List ℕ) → ((i : ℕ) → i < suc n → getD arcs (at + 9 * i) 0 ≤ 8) → (i : ℕ) → i < n → getD arcs (at + 9 + 9 * i) 0 ≤ 8
 next-short n at arcs short i lt =
     let z : at + 9 * suc i ≡ at + 9 + 9 * i = omega arith in subst (λ (j : ℕ). getD arcs j 0 ≤ 8) z (short (suc i) (omega arith))
 
-first-short : (n at : ℕ) (arcs : List ℕ) → ((i : ℕ) → i < suc n → getD arcs (at + 9 * i) 0 ≤ 8) → getD arcs at 0 ≤ 8
+pub first-short : (n at : ℕ) (arcs : List ℕ) → ((i : ℕ) → i < suc n → getD arcs (at + 9 * i) 0 ≤ 8) → getD arcs at 0 ≤ 8
 first-short n at arcs short = let z : at + 9 * 0 ≡ at = omega arith in subst (λ (j : ℕ). getD arcs j 0 ≤ 8) z (short 0 (omega arith))
 
 -- the positions from which labels lead to the positions ps, by which they move the number of the combination

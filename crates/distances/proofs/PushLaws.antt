@@ -211,6 +211,17 @@ module _ (c : Counts) (arcs text : List ℕ) (s : Spot) where
   pushed-all-le xs ys start j = omega arith
   pushed-all-le xs ys (more {ys = vs} e lt q) j = omega (arith, pushed-all-le xs vs q j, pushed-le (c .tapes) e arcs text s vs j)
 
+  -- cells behind those of the states stay
+  pub reach-rest : Ready c arcs text s → s .number < s .all → (xs ys : List ℕ) → Pushed c arcs text s xs ys → (j : ℕ) → c .states * s .all ≤ j → getD ys j 0 ≡ getD xs j 0
+  unfolding pushed
+  reach-rest ready small xs ys start j out = refl
+  reach-rest ready small xs ys (more {ys = vs} e lt q) j out = pushed-rest (backBy (c .tapes) e arcs text s) ∙ reach-rest ready small xs vs q j out
+    where
+      pushed-rest : (o : Option ℕ) → getD (passed o (sourceOf arcs e) (targetOf arcs e) (arcWeight arcs e) s vs) j 0 ≡ getD vs j 0
+      pushed-rest none = refl
+      pushed-rest (some k) = lowered-other (cellBack s (sourceOf arcs e) k) (arcWeight arcs e + getD vs (cellAt s (targetOf arcs e)) 0) vs j
+          (λ same. omega (arith, same, out, digits-lt {q = sourceOf arcs e} {m = c .states} {r = s .number - k} {c = s .all} (ready .each e lt .source) (omega arith)))
+
   pub spreads-none : (w m : List ℕ) → Queue m → Spreads c arcs text s w w m m
   spreads-none w m g = record { reach = start; same-length = refl; same-queue = refl; lined = g; no-more = omega arith }
 

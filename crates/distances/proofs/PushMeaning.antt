@@ -15,7 +15,8 @@ use Rattle.automata.specs.Memory.{Sound, tableOf}
 use Rattle.automata.proofs.SoundFacts.{sound-well-formed, sound-holds}
 use Rattle.automata.proofs.WellFormedFacts.{well-formed, weights-bounded}
 use Rattle.automata.proofs.ListFacts.{place-bound}
-use Rattle.automata.proofs.Cells.{Positions, dropAll, moved, place, cell}
+use Rattle.automata.specs.Cells.{Positions, dropAll, place, cell}
+use Rattle.automata.proofs.Cells.{moved}
 use Rattle.memory.specs.Answers.{lent}
 use Rattle.memory.specs.Records.{labelAs, labelAt, labelsAt, contentAt, arcAt, arcAs, Padded}
 use Rattle.memory.specs.declared.answer.Counts.{Counts}
@@ -78,7 +79,7 @@ module _ (c : Counts) (states arcs text : List ℕ) (sound : Sound (lent c state
           (subst (λ (k : ℕ). All Padded (labelsAt 8 k arcs)) (add-assoc (80 * e) 4 4) (arc-canonical (lent c states arcs) sound e lt .padded));
     }
 
-    arc-labels : labelled (c .tapes) (80 * e + 8) arcs ≡ arc .labels
+    pub arc-labels : labelled (c .tapes) (80 * e + 8) arcs ≡ arc .labels
     unfolding arcAt contentAt
     arc-labels =
         ap (map labelAs) (sym (take-labels (c .tapes) 8 (80 * e + 8) arcs (few-tapes (lent c states arcs) sound))
@@ -90,7 +91,7 @@ module _ (c : Counts) (states arcs text : List ℕ) (sound : Sound (lent c state
         (spot .positions, spot .spotted, omega (arith, arc-labelled .lent, f), λ i h. arc-labelled .short i (omega (arith, f)))
 
     -- where its labels end at the combination, they lead there from an earlier one
-    arc-before : (k : ℕ) → backBy (c .tapes) e arcs text s ≡ some k → Before (arc .labels) t ps k
+    pub arc-before : (k : ℕ) → backBy (c .tapes) e arcs text s ≡ some k → Before (arc .labels) t ps k
     arc-before k f =
         let (pos, sp, room, short) = arc-spotted in
         let (i, j, b) = moves-sound (c .tapes) 0 (80 * e + 8) 0 arcs text s ps t tapes-are pos sp room short k f in
@@ -98,7 +99,7 @@ module _ (c : Counts) (states arcs text : List ℕ) (sound : Sound (lent c state
         subst (λ (n : ℕ). Before (arc .labels) t ps n) z (subst (λ (ls : List (List ℕ)). Before ls t ps i) arc-labels b)
 
     -- and the other way round
-    arc-back : (ps′ : List ℕ) (rest : Tuple) → Positions ps′ t → moved ps′ (arc .labels) ≡ ps → leftQuotients (arc .labels) (dropAll ps′ t) ≡ some rest
+    pub arc-back : (ps′ : List ℕ) (rest : Tuple) → Positions ps′ t → moved ps′ (arc .labels) ≡ ps → leftQuotients (arc .labels) (dropAll ps′ t) ≡ some rest
         → backBy (c .tapes) e arcs text s ≡ some (shift (arc .labels) t)
     arc-back ps′ rest pos′ m q =
         let (pos, sp, room, short) = arc-spotted in

@@ -14,7 +14,8 @@ use Rattle.automata.specs.Automaton.{Automaton, Arc, size, graph, Tuple}
 use Rattle.automata.specs.Lookup.{leftQuotients}
 use Rattle.automata.specs.Calls.Work.{combinations}
 use Rattle.automata.proofs.LookupRuns.{Onward, onward-join}
-use Rattle.automata.proofs.Cells.{Positions, dropAll, moved, place, place-inj, cell, cell-lt, cell-inj, leftQuotients-drop}
+use Rattle.automata.specs.Cells.{Positions, dropAll, place, cell}
+use Rattle.automata.proofs.Cells.{moved, place-inj, cell-lt, cell-inj, leftQuotients-drop}
 use Rattle.cell_moves.specs.Distances.{far, lowered}
 use Rattle.distances.proofs.DistanceLaws.{val, Distances}
 use Rattle.distances.proofs.MoveMeaning.{place-moved}

@@ -10,7 +10,7 @@ use lib.ListN.{length, getD, drop, length-drop, List·getD-eq-default}
 use lib.Seq.{getD-drop}
 use Rattle.automata.specs.Automaton.{Tuple}
 use Rattle.automata.specs.Calls.Work.{combinations}
-use Rattle.automata.proofs.Cells.{Positions, place}
+use Rattle.automata.specs.Cells.{Positions, place}
 use Rattle.memory.specs.Region.{part}
 use Rattle.memory.proofs.PartLaws.{part-part}
 use Rattle.tuple.specs.declared.Strings.{Strings}

@@ -21,7 +21,8 @@ use Rattle.automata.proofs.Finite.{digits-≡}
 use Rattle.automata.proofs.SoundFacts.{sound-holds}
 use Rattle.automata.proofs.Spelling.{Spells, allEmpty-spells, spells-allEmpty}
 use Rattle.automata.proofs.LookupRuns.{Onward, onward-of}
-use Rattle.automata.proofs.Cells.{Positions, dropAll, moved, place, place-lt, cell, cell-lt, leftQuotients-drop}
+use Rattle.automata.specs.Cells.{Positions, dropAll, place, cell}
+use Rattle.automata.proofs.Cells.{moved, place-lt, cell-lt, leftQuotients-drop}
 use Rattle.memory.specs.Region.{part}
 use Rattle.memory.specs.Endian.{le}
 use Rattle.memory.specs.Answers.{lent}
@@ -41,7 +42,7 @@ use Rattle.distances.proofs.MoveMeaning.{combinations-positive}
 -- ---- the last combination
 
 -- at the last combination nothing is left
-last-empty : (ps : List ℕ) (t : Tuple) → Positions ps t → suc (place ps t) ≡ combinations t → allEmpty (dropAll ps t) ≡ true
+pub last-empty : (ps : List ℕ) (t : Tuple) → Positions ps t → suc (place ps t) ≡ combinations t → allEmpty (dropAll ps t) ≡ true
 last-empty [] [] h e = refl
 last-empty [] (s ∷ t) h e = absurd h
 last-empty (p ∷ ps) [] h e = absurd h
@@ -53,7 +54,7 @@ last-empty (p ∷ ps) (s ∷ t) (l, h) e =
     ap (λ (z : List ℕ). allEmpty (z ∷ dropAll ps t)) (drop-of-length-le s {i = p} (omega (arith, i))) ∙ last-empty ps t h (omega (arith, j, c))
 
 -- and nothing is left only there
-empty-last : (ps : List ℕ) (t : Tuple) → Positions ps t → allEmpty (dropAll ps t) ≡ true → suc (place ps t) ≡ combinations t
+pub empty-last : (ps : List ℕ) (t : Tuple) → Positions ps t → allEmpty (dropAll ps t) ≡ true → suc (place ps t) ≡ combinations t
 empty-last [] [] h e = refl
 empty-last [] (s ∷ t) h e = absurd h
 empty-last (p ∷ ps) [] h e = absurd h
@@ -242,3 +243,16 @@ module _ (c : Counts) (states arcs : List ℕ) (sound : Sound (lent c states arc
         goes = λ q ps lt h e x at from rest g l.
             absurd (omega (arith, place-lt (moved ps (x .labels)) t (leftQuotients-drop (x .labels) ps t rest h g .1), l, a));
       }
+
+-- cells behind those of the states stay
+pub started-rest : (n q : ℕ) (states : List ℕ) (all : ℕ) → 0 < all → (xs : List ℕ) (j : ℕ) → (q + n) * all ≤ j → getD (startedFrom n q states all xs) j 0 ≡ getD xs j 0
+unfolding startedFrom started
+started-rest zero q states all pos xs j out = refl
+started-rest (suc n) q states all pos xs j out =
+    let e : q + suc n ≡ q + 1 + n = omega arith in
+    started-rest n (q + 1) states all pos (started states all q xs) j (subst (λ (k : ℕ). k * all ≤ j) e out) ∙ ended-rest (stateAt (10 * q) states .last)
+  where
+    ended-rest : (w : Weight) → getD (endedBy w (q * all + (all - 1)) xs) j 0 ≡ getD xs j 0
+    ended-rest Absent = refl
+    ended-rest (Present w) = lowered-other (q * all + (all - 1)) w xs j
+        (λ same. omega (arith, same, out, digits-lt {q = q} {m = q + suc n} {r = all - 1} {c = all} (omega arith) (omega arith)))

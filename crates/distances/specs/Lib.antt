@@ -3,3 +3,4 @@ pub mod Chains
 pub mod Queues
 pub mod Pushes
 pub mod Ends
+pub mod Filled

@@ -2,6 +2,7 @@
 use mathlib.Core.Path.{_≡_, sym, ap}
 use mathlib.Core.Bool.{Bool, true}
 use mathlib.Core.Logic.{_↔_, _⊎_, ⊎-elim, Iff·trans}
+use mathlib.Core.Option.{Option, none, some}
 use mathlib.Core.List.{List}
 use Prim.Native.Nat.{ℕ, _*_}
 use native.Mathlib.Omega.{arith}
@@ -9,7 +10,7 @@ use lib.ListN.{length}
 use Rattle.automata.specs.Answer.{_>>=_, Answer, ok, refused, judge}
 use Rattle.automata.specs.OrderedSum.{ℕ-sum}
 use Rattle.automata.specs.Automaton.{Automaton, size}
-use Rattle.automata.specs.Table.{weightFits}
+use Rattle.automata.specs.Table.{weightFits, WellFormed}
 use Rattle.automata.specs.TapePair.{Pair}
 use Rattle.automata.specs.Lists.{and}
 use Rattle.automata.specs.Forecast.{Forecast}
@@ -22,9 +23,11 @@ use Rattle.automata.specs.Union.{union}
 use Rattle.automata.specs.Projection.{project, dropTapes}
 use Rattle.automata.specs.TableText.{writeTable}
 use Rattle.automata.specs.LookupCall.{lookupCall}
+use Rattle.automata.specs.LeastPath.{Account}
+use Rattle.automata.specs.LeastPathCall.{leastPathCall}
 use Rattle.automata.specs.Refusal
 use Rattle.automata.specs.Calls.Outcome.{Slices, spaceOf, put, build, conclude, print}
-use Rattle.automata.specs.Calls.Work.{buildWork, productWork, lookupWork, forecastWork, enough}
+use Rattle.automata.specs.Calls.Work.{buildWork, productWork, lookupWork, pathWork, forecastWork, enough}
 use Rattle.automata.specs.Calls.Read.{readAnswer, readOutcome}
 use Rattle.automata.specs.Calls.Intersect.{intersectAnswer, intersectOutcome}
 use Rattle.automata.specs.Calls.Product.{productAnswer, productOutcome}
@@ -34,6 +37,7 @@ use Rattle.automata.specs.Calls.Project.{projectAnswer, projectOutcome}
 use Rattle.automata.specs.Calls.Drop.{inMask, dropAnswer, dropOutcome}
 use Rattle.automata.specs.Calls.Write.{writeAnswer, writeOutcome}
 use Rattle.automata.specs.Calls.Lookup.{lines, lookupAnswer, lookupOutcome}
+use Rattle.automata.specs.Calls.LeastPath.{placesIn, pathAnswer, listPath, pathOutcome, toldSize, pathRecorded}
 use Rattle.automata.specs.Calls.Forecast.{forecastSize, forecastRecords, forecastAnswer, forecastOutcome, forecastRecorded}
 use Rattle.laws.specs.TableRefused.{ReadRefused}
 use Rattle.laws.specs.Refused.{
@@ -46,6 +50,7 @@ use Rattle.laws.specs.Refused.{
   DropRefused,
   WriteRefused,
   LookupRefused,
+  PathRefused,
 }
 use Rattle.laws.specs.CallsRefused.{
   OneTableRefused,
@@ -58,13 +63,14 @@ use Rattle.laws.specs.CallsRefused.{
   CallsRefused,
 }
 use Rattle.automata.proofs.AnswerFacts.{refused≢ok, then-refuses}
+use Rattle.automata.proofs.MemoryLaws.{decode-only}
 use Rattle.laws.proofs.Lemmas.Judging.{bind-cases, then-on}
 use Rattle.laws.proofs.TableRefused.{read-refused, table-refused}
 use Rattle.laws.proofs.BuildRefused.{build-call-refused, forecast-refused}
 use Rattle.laws.proofs.ProductRefused.{product-call-refused}
 use Rattle.laws.proofs.JoinRefused.{join-refused}
 use Rattle.laws.proofs.ColumnsRefused.{union-refused, project-refused, drop-refused}
-use Rattle.laws.proofs.TextRefused.{write-refused, lookup-refused}
+use Rattle.laws.proofs.TextRefused.{write-refused, lookup-refused, path-refused}
 
 -- an outcome tells the refusal of its answer
 pub put-refused : (r : Answer (Automaton ℕ)) (s : Slices) (n : ℕ) → (put r s .answer ≡ refused n) ↔ (r ≡ refused n)
@@ -78,17 +84,23 @@ unfolding print
 print-refused (ok x) output n = (λ e. let z : _≡_ {A = ℕ} 0 1 = cc in absurd (omega arith), λ e. let z : _≡_ {A = ℕ} 0 1 = cc in absurd (omega arith))
 print-refused (refused m) output n = (λ e. let z : m ≡ n = cc in ap refused z, λ e. let z : m ≡ n = cc in ap refused z)
 
--- a table, then the operation
-one-table : {X : Type 0} (m : Memory) (k : Automaton ℕ → Answer X) (why : Automaton ℕ → ℕ → Type 0) → ((A : Automaton ℕ) (n : ℕ) → (k A ≡ refused n) ↔ why A n)
+-- a table, then the operation on it, which is well-formed
+one-judged : {X : Type 0} (m : Memory) (k : Automaton ℕ → Answer X) (why : Automaton ℕ → ℕ → Type 0)
+    → ((A : Automaton ℕ) → WellFormed A → (n : ℕ) → (k A ≡ refused n) ↔ why A n)
     → (n : ℕ) → ((decodeTable m >>= k) ≡ refused n) ↔ OneTableRefused m why n
-one-table m k why h n = (
-  λ e. ⊎-elim (λ x. bad-table n (table-refused m n .0 x)) (λ (A, d, x). good-table A d n (h A n .0 x)) (bind-cases (decodeTable m) k n e),
+one-judged m k why h n = (
+  λ e. ⊎-elim (λ x. bad-table n (table-refused m n .0 x)) (λ (A, d, x). good-table A d n (h A (decode-only m A d .0) n .0 x)) (bind-cases (decodeTable m) k n e),
   answer n,
 )
   where
     answer : (n : ℕ) → OneTableRefused m why n → (decodeTable m >>= k) ≡ refused n
     answer _ (bad-table n x) = then-refuses (decodeTable m) k n (table-refused m n .1 x)
-    answer _ (good-table A d n x) = then-on (decodeTable m) k A n d (h A n .1 x)
+    answer _ (good-table A d n x) = then-on (decodeTable m) k A n d (h A (decode-only m A d .0) n .1 x)
+
+-- the same of an operation that refuses alike whatever it is given
+one-table : {X : Type 0} (m : Memory) (k : Automaton ℕ → Answer X) (why : Automaton ℕ → ℕ → Type 0) → ((A : Automaton ℕ) (n : ℕ) → (k A ≡ refused n) ↔ why A n)
+    → (n : ℕ) → ((decodeTable m >>= k) ≡ refused n) ↔ OneTableRefused m why n
+one-table m k why h n = one-judged m k why (λ A wf. h A) n
 
 -- two tables, then the operation
 two-tables : (a b : Memory) (k : Automaton ℕ → Automaton ℕ → Answer (Automaton ℕ)) (why : Automaton ℕ → Automaton ℕ → ℕ → Type 0)
@@ -193,6 +205,29 @@ unfolding lookupOutcome lookupAnswer
 lookup-call-refused m text work n =
     one-table m (λ A. lines text >>= λ t. lookupCall (enough (lookupWork (size A) t) work) A t) (LookupRefused text work) (lookup-refused text work) n
 
+-- the path that is told, or its refusal, whatever room there is for what is told
+path-answer-refused : (m : Memory) (text : List ℕ) (room : Bool) (list work : List ℕ) (n : ℕ)
+    → (listPath (pathAnswer m text room list work) list work .answer ≡ refused n) ↔ OneTableRefused m (PathRefused text room list work) n
+unfolding pathAnswer
+path-answer-refused m text room list work n = Iff·trans (told (pathAnswer m text room list work))
+    (one-judged m (λ A. lines text >>= λ t. leastPathCall (and room (enough (pathWork (size A) t) work)) (placesIn list) A t)
+    (PathRefused text room list work) (path-refused text room list work) n)
+  where
+    told : (a : Answer (Option (Account ℕ))) → (listPath a list work .answer ≡ refused n) ↔ (a ≡ refused n)
+    told (ok (some x)) = (λ e. absurd (refused≢ok (sym e)), λ e. absurd (refused≢ok (sym e)))
+    told (ok none) = (λ e. absurd (refused≢ok (sym e)), λ e. absurd (refused≢ok (sym e)))
+    told (refused k) = (λ e. let z : k ≡ n = cc in ap refused z, λ e. let z : k ≡ n = cc in ap refused z)
+
+path-call-refused : (m : Memory) (text list work : List ℕ) (n : ℕ)
+    → (pathOutcome m text list work .answer ≡ refused n) ↔ OneTableRefused m (PathRefused text true list work) n
+unfolding pathOutcome
+path-call-refused m text list work n = path-answer-refused m text true list work n
+
+path-recorded-refused : (m : Memory) (text result list work : List ℕ) (n : ℕ)
+    → (pathRecorded m text result list work .found .answer ≡ refused n) ↔ OneTableRefused m (PathRefused text (enough toldSize result) list work) n
+unfolding pathRecorded
+path-recorded-refused m text result list work n = path-answer-refused m text (enough toldSize result) list work n
+
 -- the theorem
 pub calls-refused : CallsRefused
 calls-refused = record {
@@ -208,4 +243,6 @@ calls-refused = record {
   dropTapes = drop-call-refused;
   write = write-call-refused;
   lookup = lookup-call-refused;
+  path = path-call-refused;
+  pathRecorded = path-recorded-refused;
 }

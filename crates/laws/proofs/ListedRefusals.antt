@@ -1,5 +1,5 @@
--- Every refusal that a call tells stands in document 01's list; a table in memory is refused by 1 to 4 only, a text by
--- these, 8 and 9 only.
+-- Every refusal that a call tells stands in document 01's list, but for 14 of the lookup that tells the path; a table
+-- in memory is refused by 1 to 4 only, a text by these, 8 and 9 only.
 use mathlib.Core.Path.{_≡_, refl}
 use mathlib.Core.Logic.{_⊎_, inl, inr}
 use mathlib.Core.Bool.{Bool, true, false}
@@ -72,6 +72,13 @@ use Rattle.laws.specs.Refused.{
   lookup-size,
   lookup-form,
   lookup-work,
+  PathRefused,
+  path-text,
+  path-count,
+  path-size,
+  path-form,
+  path-space,
+  path-list,
 }
 use Rattle.laws.specs.CallsRefused.{OneTableRefused, bad-table, good-table, TwoTablesRefused, bad-first, bad-second, good-tables}
 use Rattle.laws.specs.ListedRefusals.{OfTable, Listed, ListedRefusals}
@@ -187,6 +194,7 @@ lines-listed s (b ∷ x) = go (eqb b 10) (lines-listed [] x) (lines-listed (s ++
     go true h g = fine-bind (linesFrom [] x) (λ t. ok (s ∷ t)) h (λ t n e. let z : _≡_ {A = ℕ} 0 1 = cc in absurd (omega arith))
     go false h g = g
 
+-- the lookup of a tuple, and the one that tells the path
 lookup-listed : {text work : List ℕ} {A : Automaton ℕ} (n : ℕ) → LookupRefused text work A n → Listed n
 unfolding lines
 lookup-listed {text} _ (lookup-text n e) = more n (lines-listed [] text n e)
@@ -195,9 +203,23 @@ lookup-listed _ (lookup-size _ _ _ _) = (omega arith, omega arith)
 lookup-listed _ (lookup-form _ _ _ _ _) = (omega arith, omega arith)
 lookup-listed _ (lookup-work _ _ _ _ _ _) = (omega arith, omega arith)
 
+path-listed : {text : List ℕ} {room : Bool} {list work : List ℕ} {A : Automaton ℕ} (n : ℕ) → PathRefused text room list work A n → Listed n ⊎ (n ≡ 14)
+unfolding lines
+path-listed {text} _ (path-text n e) = inl (more n (lines-listed [] text n e))
+path-listed _ (path-count _ _ _) = inl (omega arith, omega arith)
+path-listed _ (path-size _ _ _ _) = inl (omega arith, omega arith)
+path-listed _ (path-form _ _ _ _ _) = inl (omega arith, omega arith)
+path-listed _ (path-space _ _ _ _ _ _) = inl (omega arith, omega arith)
+path-listed _ (path-list _ _ _ _ _ _ _ _ _ _) = inr refl
+
+-- of a table that was judged good it is a number of the list, or another that the operation has
+one-listed-or : (m : Memory) (why : Automaton ℕ → ℕ → Type 0) (P : ℕ → Type 0) → ((n : ℕ) → Listed n → P n) → ((A : Automaton ℕ) (n : ℕ) → why A n → P n)
+    → (n : ℕ) → OneTableRefused m why n → P n
+one-listed-or m why P l h _ (bad-table n e) = l n (more n (table-listed m n (calls-refused .table m n .1 e)))
+one-listed-or m why P l h _ (good-table A _ n x) = h A n x
+
 one-listed : (m : Memory) (why : Automaton ℕ → ℕ → Type 0) → ((A : Automaton ℕ) (n : ℕ) → why A n → Listed n) → (n : ℕ) → OneTableRefused m why n → Listed n
-one-listed m why h _ (bad-table n e) = more n (table-listed m n (calls-refused .table m n .1 e))
-one-listed m why h _ (good-table A _ n x) = h A n x
+one-listed m why h = one-listed-or m why Listed (λ n l. l) h
 
 two-listed : (a b : Memory) (why : Automaton ℕ → Automaton ℕ → ℕ → Type 0) → ((A B : Automaton ℕ) (n : ℕ) → why A B n → Listed n)
     → (n : ℕ) → TwoTablesRefused a b why n → Listed n
@@ -220,4 +242,7 @@ listed-refusals = record {
   project = λ m js s n e. one-listed m _ (λ A. project-listed) n (calls-refused .project m js s n .0 e);
   dropTapes = λ m mask s n e. one-listed m _ (λ A. drop-listed) n (calls-refused .dropTapes m mask s n .0 e);
   lookup = λ m text work n e. one-listed m _ (λ A. lookup-listed) n (calls-refused .lookup m text work n .0 e);
+  path = λ m text list work n e. one-listed-or m _ (λ n. Listed n ⊎ (n ≡ 14)) (λ n. inl) (λ A. path-listed) n (calls-refused .path m text list work n .0 e);
+  pathRecorded = λ m text result list work n e.
+      one-listed-or m _ (λ n. Listed n ⊎ (n ≡ 14)) (λ n. inl) (λ A. path-listed) n (calls-refused .pathRecorded m text result list work n .0 e);
 }

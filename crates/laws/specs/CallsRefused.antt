@@ -1,6 +1,7 @@
 -- The cases in which each public call refuses, on bytes: a table that is lent is judged first, then what the call asks.
 use mathlib.Core.Path.{_≡_}
 use mathlib.Core.Logic.{_↔_}
+use mathlib.Core.Bool.{true}
 use mathlib.Core.List.{List}
 use Prim.Native.Nat.{ℕ, _*_}
 use lib.ListN.{length}
@@ -22,9 +23,10 @@ use Rattle.automata.specs.Calls.Project.{projectOutcome}
 use Rattle.automata.specs.Calls.Drop.{inMask, dropOutcome}
 use Rattle.automata.specs.Calls.Write.{writeOutcome}
 use Rattle.automata.specs.Calls.Lookup.{lookupOutcome}
+use Rattle.automata.specs.Calls.LeastPath.{pathOutcome, toldSize, pathRecorded}
 use Rattle.automata.specs.Calls.Forecast.{forecastOutcome, forecastSize, forecastRecorded}
 use Rattle.laws.specs.TableRefused.{ReadRefused, TableRefused}
-use Rattle.laws.specs.Refused.{BuildCallRefused, ForecastRefused, ProductCallRefused, JoinRefused, UnionRefused, ProjectRefused, DropRefused, WriteRefused, LookupRefused}
+use Rattle.laws.specs.Refused.{BuildCallRefused, ForecastRefused, ProductCallRefused, JoinRefused, UnionRefused, ProjectRefused, DropRefused, WriteRefused, LookupRefused, PathRefused}
 
 -- Why a call on one table refuses: the table is refused, else the call refuses it.
 pub data OneTableRefused (m : Memory) (why : Automaton ℕ → ℕ → Type 0) : ℕ → Type 0 where
@@ -63,3 +65,8 @@ pub record CallsRefused : Type 0 where
       → (dropOutcome m mask s .answer ≡ refused n) ↔ OneTableRefused m (DropRefused (spaceOf s) (inMask mask)) n
   pub write : (m : Memory) (output : List ℕ) (n : ℕ) → (writeOutcome m output .answer ≡ refused n) ↔ OneTableRefused m (WriteRefused output) n
   pub lookup : (m : Memory) (text work : List ℕ) (n : ℕ) → (lookupOutcome m text work .answer ≡ refused n) ↔ OneTableRefused m (LookupRefused text work) n
+  pub path : (m : Memory) (text list work : List ℕ) (n : ℕ)
+      → (pathOutcome m text list work .answer ≡ refused n) ↔ OneTableRefused m (PathRefused text true list work) n
+  pub pathRecorded : (m : Memory) (text result list work : List ℕ) (n : ℕ)
+      → (pathRecorded m text result list work .found .answer ≡ refused n)
+      ↔ OneTableRefused m (PathRefused text (enough toldSize result) list work) n

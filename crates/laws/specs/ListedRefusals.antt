@@ -16,6 +16,7 @@ use Rattle.automata.specs.Calls.Union.{unionOutcome}
 use Rattle.automata.specs.Calls.Project.{projectOutcome}
 use Rattle.automata.specs.Calls.Drop.{dropOutcome}
 use Rattle.automata.specs.Calls.Lookup.{lookupOutcome}
+use Rattle.automata.specs.Calls.LeastPath.{pathOutcome, pathRecorded}
 use Rattle.automata.specs.Calls.Forecast.{forecastOutcome, forecastRecorded}
 
 -- the refusals of a table: short, form, size, state
@@ -27,7 +28,7 @@ abbrev pub Listed : ℕ → Type 0
 Listed n = (1 ≤ n) × (n ≤ 13)
 
 -- A table in memory is refused by 1 to 4 only, a text by these, 8 and 9 only, and every call by a number of the list
--- only.
+-- only; the lookup that tells the path also by 14 (document 02, 2.3).
 pub record ListedRefusals : Type 0 where
   pub table : (m : Memory) (n : ℕ) → decodeTable m ≡ refused n → OfTable n
   pub read : (x : List ℕ) (s : Slices) (n : ℕ) → readOutcome x s .answer ≡ refused n → OfTable n ⊎ ((n ≡ 8) ⊎ (n ≡ 9))
@@ -41,3 +42,5 @@ pub record ListedRefusals : Type 0 where
   pub project : (m : Memory) (js : List ℕ) (s : Slices) (n : ℕ) → projectOutcome m js s .answer ≡ refused n → Listed n
   pub dropTapes : (m : Memory) (mask : ℕ) (s : Slices) (n : ℕ) → dropOutcome m mask s .answer ≡ refused n → Listed n
   pub lookup : (m : Memory) (text work : List ℕ) (n : ℕ) → lookupOutcome m text work .answer ≡ refused n → Listed n
+  pub path : (m : Memory) (text list work : List ℕ) (n : ℕ) → pathOutcome m text list work .answer ≡ refused n → Listed n ⊎ (n ≡ 14)
+  pub pathRecorded : (m : Memory) (text result list work : List ℕ) (n : ℕ) → pathRecorded m text result list work .found .answer ≡ refused n → Listed n ⊎ (n ≡ 14)

@@ -13,10 +13,12 @@ use Rattle.automata.specs.Lists.{_∈_, Distinct}
 use Rattle.automata.specs.Refusal
 use Rattle.automata.specs.Answer.{ok, refused}
 use Rattle.automata.specs.Space.{Space, stateCap, arcCap}
-use Rattle.automata.specs.OrderedSum.{OrderedSum}
+use Rattle.automata.specs.OrderedSum.{OrderedSum, ℕ-sum}
 use Rattle.automata.specs.Automaton.{Automaton, Arc, Content, Tuple, size}
 use Rattle.automata.specs.TapePair.{Pair, TapePair, limited}
 use Rattle.automata.specs.Tapes.{moved, placeAfter}
+use Rattle.automata.specs.Paths.{SuccessfulPath}
+use Rattle.automata.specs.LeastPath.{FirstLeast}
 use Rattle.automata.specs.Config.{Config, tooLong}
 use Rattle.automata.specs.Closing.{closingTables, viable}
 use Rattle.automata.specs.Explore.{Reachable}
@@ -25,8 +27,9 @@ use Rattle.automata.specs.IntersectCall.{named}
 use Rattle.automata.specs.Product.{Vertex, productSystem, initialsFrom, allPairs, crossProduct}
 use Rattle.automata.specs.TableText.{writeTable}
 use Rattle.automata.specs.Join.{Lent}
-use Rattle.automata.specs.Calls.Work.{lookupWork, enough}
+use Rattle.automata.specs.Calls.Work.{lookupWork, pathWork, enough}
 use Rattle.automata.specs.Calls.Lookup.{lines}
+use Rattle.automata.specs.Calls.LeastPath.{placesIn}
 
 -- ---- counting
 
@@ -177,7 +180,7 @@ pub data JoinRefused (S : OrderedSum) (fits : S .W → Bool) (lent : Lent) (ps :
   join-build : JoinTested lent ps (A .tapes) (B .tapes) → (P : Automaton (S .W)) → crossProduct S fits (lent .product) A B ≡ ok P
       → (n : ℕ) → BuildRefused P (limited (lent .delay) (moved (λ j. A .tapes + j) ps)) (lent .result) n → JoinRefused S fits lent ps A B n
 
--- ---- union, choosing, dropping, writing, lookup
+-- ---- union, choosing, dropping, writing, lookup and path
 
 -- a table of so many states and arcs does not fit the space lent
 pub data FitRefused (states arcs : ℕ) (space : Space) : ℕ → Type 0 where
@@ -215,3 +218,17 @@ pub data LookupRefused (text work : List ℕ) (A : Automaton ℕ) : ℕ → Type
       → ¬ SymbolStrings t → LookupRefused text work A Refusal.form
   lookup-work : (t : Tuple) → lines text ≡ ok t → length t ≡ A .tapes → ShortStrings t
       → SymbolStrings t → length work < lookupWork (size A) t → LookupRefused text work A Refusal.space
+
+-- why the lookup that tells the path refuses: as the lookup does, 13 also where there is no room for what is told; and
+-- last a list with fewer places than the first of the least paths has arcs
+pub data PathRefused (text : List ℕ) (room : Bool) (list work : List ℕ) (A : Automaton ℕ) : ℕ → Type 0 where
+  path-text : (n : ℕ) → lines text ≡ refused n → PathRefused text room list work A n
+  path-count : (t : Tuple) → lines text ≡ ok t → ¬ (length t ≡ A .tapes) → PathRefused text room list work A Refusal.tape
+  path-size : (t : Tuple) → lines text ≡ ok t → length t ≡ A .tapes → ¬ ShortStrings t → PathRefused text room list work A Refusal.size
+  path-form : (t : Tuple) → lines text ≡ ok t → length t ≡ A .tapes → ShortStrings t
+      → ¬ SymbolStrings t → PathRefused text room list work A Refusal.form
+  path-space : (t : Tuple) → lines text ≡ ok t → length t ≡ A .tapes → ShortStrings t
+      → SymbolStrings t → (room ≡ false) ⊎ (length work < pathWork (size A) t) → PathRefused text room list work A Refusal.space
+  path-list : (t : Tuple) → lines text ≡ ok t → length t ≡ A .tapes → ShortStrings t
+      → SymbolStrings t → room ≡ true → pathWork (size A) t ≤ length work
+      → (π : SuccessfulPath A) → FirstLeast ℕ-sum A t π → placesIn list < length (π .run) → PathRefused text room list work A Refusal.path

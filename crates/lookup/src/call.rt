@@ -1,23 +1,22 @@
 // The call: the table, the tuple and the work space judged in this order, the least weight, and work space cleared.
+use crate::judge::cell_count;
+use crate::judge::judge_call;
 use cells::answer::Weight64;
 use cells::fill::least_weight;
 use memory::answer::Counts;
 use memory::answer::Judged;
 use memory::answer::Refusal;
 use memory::bytes::zero;
-use memory::judge::judge;
-use tuple::Strings;
-use tuple::judge::judge_tuple;
-use tuple::size::combinations;
 ghost use mathlib.Core.Path.{_≡_};
-ghost use Prim.Native.Nat.{_*_, _≤_};
 ghost use Rattle.automata.specs.Answer.{ok};
 ghost use Rattle.automata.specs.Calls.Outcome.{foundOf};
 ghost use Rattle.automata.specs.Calls.Lookup.{lookupAnswer, lookupOutcome};
 ghost use Rattle.memory.specs.Answers.{judgedAs, lent};
-ghost use Rattle.tuple.specs.Positions.{positions, ShortStrings};
 ghost use Rattle.cells.specs.Answers.{optionAs};
 ghost use Rattle.lookup.specs.Answers.{weightAs, noneAfter};
+
+// The bytes of work space for each work cell.
+const CELL: usize = 8;
 
 // What the call answers: the weight, none, or a refusal.
 pub enum WeightAnswer {
@@ -46,29 +45,17 @@ fn answer_of(found: Weight64) -> WeightAnswer
     }
 }
 
-// How many bytes of work space are needed: eight for each state and combination of positions.
-fn work_for(states: usize, strings: Strings) -> usize
-    requires { ⌜ (states ≤ 1024) × ShortStrings strings ⌝ }
-    ensures { λ r. ⌜ r ≡ 8 * (states * positions (strings .lengths)) ⌝ }
-{
-    8 * (states * combinations(strings))
-}
-
 // The answer of the call, with whatever is left in work space.
 fn find(counts: Counts, states: &[u8], arcs: &[u8], tuple: &[u8], work: &mut [u8]) -> WeightAnswer
     ensures { λ r. ⌜ weightAs r ≡ lookupAnswer (lent counts (now (states .entry)) (now (arcs .entry))) (now (tuple .entry)) (now (work .entry)) ⌝ }
 {
-    let table = judge(counts, states, arcs);
-    let Judged::Fine = table else {
-        return refused_by(table);
-    };
-    let parsed = judge_tuple(tuple, counts.tapes);
+    let parsed = judge_call(counts, states, arcs, tuple);
     let judged = parsed.judged;
     let Judged::Fine = judged else {
         return refused_by(judged);
     };
     let strings = parsed.strings;
-    if work.len() < work_for(counts.states, strings) {
+    if work.len() < CELL * cell_count(counts.states, strings) {
         return WeightAnswer::Refused(Refusal::Space);
     }
     let found = least_weight(counts, states, arcs, tuple, strings, work);

@@ -1,2 +1,3 @@
 // The weight of a tuple as it is called.
 pub mod call;
+pub mod judge;

@@ -1,4 +1,4 @@
--- What the answers by value stand for, case by case, with document 01's number of each refusal.
+-- What the answers by value stand for, case by case, with the number of each refusal.
 use Prim.Native.Nat.{ℕ}
 use mathlib.Core.List.{List}
 use Rattle.automata.specs.Refusal as refusal
@@ -6,14 +6,14 @@ use Rattle.automata.specs.Answer.{Answer, ok, refused}
 use Rattle.automata.specs.Memory as automata
 use Rattle.automata.specs.Calls.Outcome.{TableCounts}
 use Rattle.memory.specs.declared.answer.Refusal.{Refusal}
-use Rattle.memory.specs.declared.answer.Refusal.the-variants.{Short, Form, Size, State, Tape, Pairs, Limit, StatesFull, ArcsFull, Delay, Weight, Width, Space}
+use Rattle.memory.specs.declared.answer.Refusal.the-variants.{Short, Form, Size, State, Tape, Pairs, Limit, StatesFull, ArcsFull, Delay, Weight, Width, Space, Path}
 use Rattle.memory.specs.declared.answer.Judged.{Judged}
 use Rattle.memory.specs.declared.answer.Judged.the-variants as judged
 use Rattle.memory.specs.declared.answer.Counts.{Counts}
 use Rattle.memory.specs.declared.answer.TableAnswer.{TableAnswer}
 use Rattle.memory.specs.declared.answer.TableAnswer.the-variants as table
 
--- the number of each refusal in document 01's list
+-- the number of each refusal
 abbrev pub refusalNumber : Refusal → ℕ
 refusalNumber Short = refusal.short
 refusalNumber Form = refusal.form
@@ -28,6 +28,7 @@ refusalNumber Delay = refusal.delay
 refusalNumber Weight = refusal.weight
 refusalNumber Width = refusal.width
 refusalNumber Space = refusal.space
+refusalNumber Path = refusal.path
 
 -- a judgement: nothing, or a refusal
 abbrev pub judgedAs : Judged → Answer (Unit {0})

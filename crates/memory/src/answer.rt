@@ -1,9 +1,9 @@
-// What a call answers: the thirteen refusals, a judgement, and the counts of a table.
+// What a call answers: the fourteen refusals, a judgement, and the counts of a table.
 ghost use mathlib.Core.Path.{_≡_};
 ghost use Rattle.automata.specs.Answer.{forget, beside};
 ghost use Rattle.memory.specs.Answers.{refusalNumber, judgedAs};
 
-// The refusals of document 01's list, in its order: numbers 1 to 13.
+// The refusals of document 01's list, in its order, numbers 1 to 13, and 14 of document 02 (request 2.3).
 pub enum Refusal {
     Short,
     Form,
@@ -18,6 +18,7 @@ pub enum Refusal {
     Weight,
     Width,
     Space,
+    Path,
 }
 
 // The number of a refusal.
@@ -38,6 +39,7 @@ pub fn refusal_number(r: Refusal) -> u8
         Refusal::Weight => 11,
         Refusal::Width => 12,
         Refusal::Space => 13,
+        Refusal::Path => 14,
     }
 }
 

@@ -63,7 +63,7 @@ fn place(text: &[u8], count: usize) -> Strings
 }
 
 // No strings.
-fn no_strings() -> Strings {
+pub fn no_strings() -> Strings {
     Strings {
         count: 0,
         starts: [0; 8],

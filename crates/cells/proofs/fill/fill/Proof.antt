@@ -1,5 +1,5 @@
 -- `cells::fill::fill` meets its contract. Assumes nothing.
-use Rattle.cells.proofs.FillLaws.{Filling, spot-number, fillable-kept, placed, stated, positive, fill-start, fill-below, fill-stated, fill-requires, fill-turn, fill-end}
+use Rattle.cells.proofs.FillLaws.{Filling, spot-number, fillable-kept, placed, stated, positive, fill-start, fill-requires, fill-turn, fill-end}
 use Rattle.cells.proofs.RecallLaws.{fresh-below}
 use Rattle.cells.specs.Recall.{Fresh}
 use Prim.Native.Nat.{_-_, _<_}
@@ -18,7 +18,6 @@ use Rattle.cells.proofs.fill.fill.Lts as lts
 use Rattle.cell_moves.proofs.cell.clear_cells.Reads as clear-cells-reads
 use Rattle.cell_moves.proofs.spot.spans_of.Reads as spans-of-reads
 use Rattle.cell_moves.proofs.spot.spot_at.Reads as spot-at-reads
-use Rattle.cells.proofs.ends.least_from.Reads as least-from-reads
 use Rattle.cells.proofs.ends.start_states.Reads as start-states-reads
 use Rattle.cells.proofs.push.settle.Reads as settle-reads
 
@@ -92,30 +91,22 @@ loop-again c =
       fresh-below _ (l .left - 1) _ (omega (arith, m)) (t .2),
     )
 
-least-from-requires : tie.Need-least-from-requires Inv-loop μ-loop
-least-from-requires c κs =
-    let s = c .before .before .before .before .before .before .before .before .before .before .before .before .before .before .before .before .before .before .before .before in
-    let n = c .before .before .before .before .before .start-states .ensures .same-length ∙ c .before .before .before .before .before .before .before .before .before .clear-cells .kept .0 in
-    let f = fillable-kept _ _ _ _ _ n (s .pre .0) in
-    let l = c .before .before .loop in
-    (fill-stated _ _ _ _ _ _ f _ (l .left) (l .left) _ (l .inv .0), fill-below _ _ _ _ _ _ f _ (l .left) (l .left) _ (l .inv .0))
-
 same-length : tie.Need-same-length Inv-loop μ-loop
-same-length c = c .before .before .before .loop .inv .2 .size-is ∙ sym (c .before .before .before .before .before .before .before .before .before .before .before .before .before .before .before .before .before .before .before .before .before .pre .3 .size-is)
+same-length c = c .before .loop .inv .2 .size-is ∙ sym (c .before .before .before .before .before .before .before .before .before .before .before .before .before .before .before .before .before .before .before .pre .3 .size-is)
 
 same-length-2 : tie.Need-same-length-2 Inv-loop μ-loop
-same-length-2 c = c .before .before .before .loop .inv .1 .size-is ∙ sym (c .before .before .before .before .before .before .before .before .before .before .before .before .before .before .before .before .before .before .before .before .before .pre .1 .lined .size-is)
+same-length-2 c = c .before .loop .inv .1 .size-is ∙ sym (c .before .before .before .before .before .before .before .before .before .before .before .before .before .before .before .before .before .before .before .pre .1 .lined .size-is)
 
 same-length-3 : tie.Need-same-length-3 Inv-loop μ-loop
-same-length-3 c = c .before .before .before .loop .inv .0 .same-length ∙ c .before .before .before .before .before .before .start-states .ensures .same-length ∙ c .before .before .before .before .before .before .before .before .before .before .clear-cells .kept .0
+same-length-3 c = c .before .loop .inv .0 .same-length ∙ c .before .before .before .before .start-states .ensures .same-length ∙ c .before .before .before .before .before .before .before .before .clear-cells .kept .0
 
 returns : tie.Need-returns Inv-loop μ-loop
 returns c =
-    let s = c .before .before .before .before .before .before .before .before .before .before .before .before .before .before .before .before .before .before .before .before .before in
-    let n = c .before .before .before .before .before .before .start-states .ensures .same-length ∙ c .before .before .before .before .before .before .before .before .before .before .clear-cells .kept .0 in
+    let s = c .before .before .before .before .before .before .before .before .before .before .before .before .before .before .before .before .before .before .before in
+    let n = c .before .before .before .before .start-states .ensures .same-length ∙ c .before .before .before .before .before .before .before .before .clear-cells .kept .0 in
     let f = fillable-kept _ _ _ _ _ n (s .pre .0) in
-    let l = c .before .before .before .loop in
-    fill-end _ _ _ _ _ _ f _ (l .left) (l .left) _ (l .inv .0) (omega (arith, c .before .before .loop-test .left)) _ (c .least-from .ensures)
+    let l = c .before .loop in
+    fill-end _ _ _ _ _ _ f _ (l .left) (l .left) _ (l .inv .0) (omega (arith, c .loop-test .left))
 
 pub fill-spec : {M : Type 1} → statement M
 fill-spec =
@@ -132,7 +123,6 @@ fill-spec =
     settle-requires
     loop-less
     loop-again
-    least-from-requires
     same-length
     same-length-2
     same-length-3
