@@ -1,0 +1,2 @@
+-- What the contracts of the call `path` cite.
+pub mod Answers

@@ -1,0 +1,5 @@
+-- What the contracts of the search for the path behind a weight cite.
+pub mod Answers
+pub mod Searchable
+pub mod Trail
+pub mod Traced
