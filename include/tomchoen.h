@@ -10,16 +10,17 @@
  *
  * Whatever is unused is zero. An array may be longer than its records; what follows them is not part of the table.
  *
- * Every function answers with one number. Its low byte is 0, or the number of a refusal (enum tomchoen_refusal), or, of a lookup,
- * TOMCHOEN_NONE. Above the low byte stands what the function tells; the macros below take it out.
+ * Every function answers with one number. Its low byte is 0, or the number of a refusal (enum tomchoen_refusal), or,
+ * of a lookup or a path, TOMCHOEN_NONE. Above the low byte stands what the function tells; the macros below take it
+ * out. Of a path that is told the number is 0: what it tells stands in its result and list.
  *
  * For all functions:
  *   - Every array is a pointer and a length in bytes, and any contents and lengths are allowed: what is wrong is refused. A pointer
  *     must not be null, also where the length is 0, and must have as many bytes as the length says.
  *   - The arrays of one call must not overlap, except that two which are only read (const) may.
  *   - A function reads and writes no memory but the arrays lent to it, allocates nothing and keeps nothing between calls.
- *   - A refusal leaves the result arrays (out_states, out_arcs, output, result) as they were. Otherwise the records stand at their front and the
- *     rest keeps its bytes.
+ *   - A refusal leaves the result arrays (out_states, out_arcs, output, result, list) as they were, and so does
+ *     TOMCHOEN_NONE. Otherwise the records stand at their front and the rest keeps its bytes.
  *   - Work space, and the product space of a join, are zero afterwards, refused or not.
  *   - Space for a result is counted in whole records; more than 1,024 states and 8,192 arcs are never used.
  *   - The numbers of result states and the order of result arcs are fixed: the same call gives the same bytes, also
@@ -49,10 +50,11 @@ enum tomchoen_refusal {
     TOMCHOEN_DELAY = 10,       /* a step that is needed leaves more than the delay limit */
     TOMCHOEN_WEIGHT = 11,      /* a summed weight above 999,999,999 in a product */
     TOMCHOEN_WIDTH = 12,       /* more than eight tapes */
-    TOMCHOEN_SPACE = 13        /* work, output or, of a forecast, result space shorter than needed */
+    TOMCHOEN_SPACE = 13,       /* work, output or, of a forecast or a path, result space shorter than needed */
+    TOMCHOEN_PATH = 14         /* a lent list shorter than the path behind a weight */
 };
 
-/* A lookup found no successful path that spells the tuple. */
+/* Of a lookup and of a path: no successful path spells the tuple. */
 #define TOMCHOEN_NONE 255
 
 /* The parts of an answer: the low byte; of a table its counts; of a text or of forecasts the length; of a lookup the
@@ -71,8 +73,14 @@ enum tomchoen_refusal {
 /* Bytes of the forecasts of so many pairs. */
 #define TOMCHOEN_FORECAST_BYTES(pairs) ((size_t)6 * (pairs))
 
-/* The record of pair k, counted from 0, in the result of tomchoen_forecast: what it tells, the delay, the number. */
+/* The number in two, four or eight bytes at a place, low byte first. */
 #define TOMCHOEN_TWO_BYTES(bytes, at) ((unsigned)((bytes)[at] | (unsigned)(bytes)[(at) + 1] << 8))
+#define TOMCHOEN_FOUR_BYTES(bytes, at) \
+    ((uint32_t)TOMCHOEN_TWO_BYTES(bytes, at) | (uint32_t)TOMCHOEN_TWO_BYTES(bytes, (at) + 2) << 16)
+#define TOMCHOEN_EIGHT_BYTES(bytes, at) \
+    ((uint64_t)TOMCHOEN_FOUR_BYTES(bytes, at) | (uint64_t)TOMCHOEN_FOUR_BYTES(bytes, (at) + 4) << 32)
+
+/* The record of pair k, counted from 0, in the result of tomchoen_forecast: what it tells, the delay, the number. */
 #define TOMCHOEN_FORECAST(result, k) TOMCHOEN_TWO_BYTES(result, TOMCHOEN_FORECAST_BYTES(k))
 #define TOMCHOEN_DELAY_OF(result, k) TOMCHOEN_TWO_BYTES(result, TOMCHOEN_FORECAST_BYTES(k) + 2)
 #define TOMCHOEN_NUMBER_OF(result, k) TOMCHOEN_TWO_BYTES(result, TOMCHOEN_FORECAST_BYTES(k) + 4)
@@ -81,6 +89,20 @@ enum tomchoen_refusal {
 #define TOMCHOEN_FORECAST_NUMBER 1 /* the delay, and the number of states */
 #define TOMCHOEN_FORECAST_OVER 2   /* the delay; the number is above 65,535, and its place holds 0 */
 #define TOMCHOEN_FORECAST_MIXED 3  /* neither: some successful path touches cycles of positive and of negative delay */
+
+/* Bytes of the result of tomchoen_path, and of a list with places for so many arcs. */
+#define TOMCHOEN_PATH_BYTES ((size_t)24)
+#define TOMCHOEN_PATH_LIST_BYTES(arcs) ((size_t)2 * (arcs))
+
+/* The most arcs that a path told can have; symbols is the number of symbols of the tuple, all strings together. */
+#define TOMCHOEN_PATH_MOST_ARCS(states, symbols) ((size_t)(states) * ((size_t)1 + (symbols)))
+
+/* What the result of tomchoen_path tells: the weight, the starting state, the number of arcs; and the number of arc k
+ * of the path, counted from 0, in its list. States and arcs have their numbers in the table, counted from 0. */
+#define TOMCHOEN_PATH_WEIGHT(result) TOMCHOEN_EIGHT_BYTES(result, 0)
+#define TOMCHOEN_PATH_START(result) ((size_t)TOMCHOEN_FOUR_BYTES(result, 16))
+#define TOMCHOEN_PATH_ARCS(result) ((size_t)TOMCHOEN_FOUR_BYTES(result, 20))
+#define TOMCHOEN_PATH_ARC(list, k) TOMCHOEN_TWO_BYTES(list, TOMCHOEN_PATH_LIST_BYTES(k))
 
 /* Bytes of the text of a table. */
 #define TOMCHOEN_TEXT_BYTES(tapes, states, arcs) \
@@ -95,6 +117,7 @@ enum tomchoen_refusal {
     (TOMCHOEN_PRODUCT_WORK(product_states, product_arcs) + TOMCHOEN_BUILD_WORK(out_states, out_arcs, product_states))
 /* combinations is the product, over the strings of the tuple, of (length + 1). */
 #define TOMCHOEN_LOOKUP_WORK(states, combinations) ((size_t)8 * (states) * (combinations))
+#define TOMCHOEN_PATH_WORK(states, combinations) ((size_t)24 * (states) * (combinations))
 
 /* Reads the text of a table. Refusals: 1, 2, 3, 4, 8, 9. Tells the counts. */
 uint64_t tomchoen_read(const uint8_t *text, size_t text_length,
@@ -178,6 +201,20 @@ uint64_t tomchoen_lookup(size_t tapes, size_t states, size_t arcs,
                          const uint8_t *state_bytes, size_t state_bytes_length, const uint8_t *arc_bytes, size_t arc_bytes_length,
                          const uint8_t *tuple, size_t tuple_length,
                          uint8_t *work, size_t work_length);
+
+/* The weight of a tuple, lent as to tomchoen_lookup, with a path of that weight: of the successful paths that spell
+ * the tuple at its weight the one with the fewest arcs, then the lower starting state, then at the first difference the
+ * lower arc number. The result gets 24 bytes, low byte first: the weight (bytes 0 to 7), 0 (8 to 15: room for a second
+ * part of the weight), the starting state (16 to 19) and the number of arcs (20 to 23). The list gets the arc numbers
+ * in the order of the path, two bytes each; a last byte alone is no place. Without a path the answer is TOMCHOEN_NONE,
+ * and no list is needed. Refusals: 1 to 4 of the table, 1 of the tuple, 5, 3, 2, 13 (also where the result is shorter
+ * than 24 bytes), 14. */
+uint64_t tomchoen_path(size_t tapes, size_t states, size_t arcs,
+                       const uint8_t *state_bytes, size_t state_bytes_length,
+                       const uint8_t *arc_bytes, size_t arc_bytes_length,
+                       const uint8_t *tuple, size_t tuple_length,
+                       uint8_t *result, size_t result_length, uint8_t *list, size_t list_length,
+                       uint8_t *work, size_t work_length);
 
 #ifdef __cplusplus
 }

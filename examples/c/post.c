@@ -1,5 +1,6 @@
 /*
- * The skeleton of a posting program: reads two tables, joins them on one pair of tapes, writes the joined table and looks a tuple up.
+ * The skeleton of a posting program: reads two tables, joins them on one pair of tapes, writes the joined table, looks
+ * a tuple up and shows which arcs gave its penalty.
  *
  *   post FIRST SECOND TAPE-OF-FIRST TAPE-OF-SECOND DELAY-LIMIT STRING..
  *
@@ -89,26 +90,65 @@ static void print_joined(void) {
     fwrite(text, 1, TOMCHOEN_LENGTH(answer), stdout);
 }
 
-/* Looks the tuple of the command line up in the joined table, with as much work space as it needs. */
-static uint64_t look_up(int count, char **strings) {
-    uint8_t tuple[TUPLE + 1];
-    size_t length = 0, combinations = 1;
+/* A tuple: its text, how many combinations of positions its strings have, and how many symbols. */
+struct tuple {
+    uint8_t text[TUPLE + 1];
+    size_t length, combinations, symbols;
+};
+
+/* Takes the tuple of the command line. */
+static void take_tuple(int count, char **strings, struct tuple *tuple) {
+    tuple->length = 0, tuple->combinations = 1, tuple->symbols = 0;
     for (int i = 0; i < count; i++) {
         size_t size = strlen(strings[i]);
-        if (size > 64 || length + size + 1 > sizeof tuple) stop("too long: ", strings[i]);
-        memcpy(tuple + length, strings[i], size);
-        tuple[length + size] = '\n';
-        length += size + 1;
-        if (combinations > ((size_t)1 << 40) / (size + 1)) stop("too many combinations at ", strings[i]);
-        combinations *= size + 1;
+        if (size > 64 || tuple->length + size + 1 > sizeof tuple->text) stop("too long: ", strings[i]);
+        memcpy(tuple->text + tuple->length, strings[i], size);
+        tuple->text[tuple->length + size] = '\n';
+        tuple->length += size + 1;
+        tuple->symbols += size;
+        if (tuple->combinations > ((size_t)1 << 40) / (size + 1)) stop("too many combinations at ", strings[i]);
+        tuple->combinations *= size + 1;
     }
-    size_t need = TOMCHOEN_LOOKUP_WORK(joined.states, combinations);
-    uint8_t *cells = malloc(need + 1);
-    if (cells == NULL) stop("no memory for ", "the lookup");
+}
+
+/* As many bytes as are needed, and one more: no array may be null. */
+static uint8_t *lend(size_t need, const char *what) {
+    uint8_t *bytes = malloc(need + 1);
+    if (bytes == NULL) stop("no memory for ", what);
+    return bytes;
+}
+
+/* Looks the tuple up in the joined table, with as much work space as it needs. */
+static uint64_t look_up(const struct tuple *tuple) {
+    size_t need = TOMCHOEN_LOOKUP_WORK(joined.states, tuple->combinations);
+    uint8_t *cells = lend(need, "the lookup");
     uint64_t answer = tomchoen_lookup(joined.tapes, joined.states, joined.arcs, joined.state_bytes, sizeof joined.state_bytes,
-                                      joined.arc_bytes, sizeof joined.arc_bytes, tuple, length, cells, need);
+                                      joined.arc_bytes, sizeof joined.arc_bytes, tuple->text, tuple->length,
+                                      cells, need);
     free(cells);
     return answer;
+}
+
+/* Prints what to post for a tuple of this weight, and the arcs of the joined table that gave it. The list has places
+ * for the longest path, so that 14 is not told. */
+static void post(const struct tuple *tuple, uint64_t weight) {
+    uint8_t result[TOMCHOEN_PATH_BYTES];
+    size_t list_bytes = TOMCHOEN_PATH_LIST_BYTES(TOMCHOEN_PATH_MOST_ARCS(joined.states, tuple->symbols));
+    size_t need = TOMCHOEN_PATH_WORK(joined.states, tuple->combinations);
+    uint8_t *list = lend(list_bytes, "the path"), *cells = lend(need, "the path");
+    uint64_t answer = tomchoen_path(joined.tapes, joined.states, joined.arcs,
+                                    joined.state_bytes, sizeof joined.state_bytes,
+                                    joined.arc_bytes, sizeof joined.arc_bytes, tuple->text, tuple->length,
+                                    result, sizeof result, list, list_bytes, cells, need);
+    free(cells);
+    stop_if_refused("path", answer);
+    printf("post %llu\n", (unsigned long long)weight);
+    if (TOMCHOEN_REFUSAL(answer) == 0) {
+        printf("path: from state %zu, arcs", TOMCHOEN_PATH_START(result));
+        for (size_t k = 0; k < TOMCHOEN_PATH_ARCS(result); k++) printf(" %u", TOMCHOEN_PATH_ARC(list, k));
+        printf("\n");
+    }
+    free(list);
 }
 
 int main(int argc, char **argv) {
@@ -120,12 +160,14 @@ int main(int argc, char **argv) {
     join((uint8_t)tape, (uint8_t)other, number(argv[5]));
     printf("joined: %zu tapes, %zu states, %zu arcs\n", joined.tapes, joined.states, joined.arcs);
     print_joined();
-    uint64_t answer = look_up(argc - 6, argv + 6);
+    struct tuple tuple;
+    take_tuple(argc - 6, argv + 6, &tuple);
+    uint64_t answer = look_up(&tuple);
     stop_if_refused("lookup", answer);
     if (TOMCHOEN_REFUSAL(answer) == TOMCHOEN_NONE) {
         printf("none\n");
     } else {
-        printf("post %llu\n", (unsigned long long)TOMCHOEN_WEIGHT_OF(answer));
+        post(&tuple, TOMCHOEN_WEIGHT_OF(answer));
     }
     return 0;
 }

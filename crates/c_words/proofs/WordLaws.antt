@@ -1,11 +1,11 @@
 -- The number with which a function for C answers determines the answer of its call.
-use mathlib.Core.Path.{_≡_, refl, sym, _∙_, ap, ap₂}
+use mathlib.Core.Path.{_≡_, refl, sym, _∙_, ap, ap₂, subst}
 use mathlib.Core.Logic.{_⊎_, inl, inr}
 use mathlib.Core.Bool.{Bool}
 use mathlib.Core.Option.{Option, none, some}
 use mathlib.Core.List.{List, [], _∷_, _++_, map, append-assoc}
 use Prim.Native.Nat.{ℕ, zero, suc, _+_, _*_, _≤_, _<_, _/_, _%_}
-use native.Mathlib.Nat.{add-zero}
+use native.Mathlib.Nat.{add-zero, zero-add}
 use native.Mathlib.Omega.{arith}
 use lib.Dec.{eqb}
 use lib.ListN.{length, getD, drop}
@@ -13,9 +13,14 @@ use lib.Seq.{getD-drop, drop-drop}
 use borrow.Author.Tests.{eq-eqb, ne-eqb}
 use Rattle.automata.specs.Lists.{if, All}
 use Rattle.automata.specs.Answer.{_>>=_, Answer, ok, refused}
+use Rattle.automata.specs.OrderedSum.{ℕ-sum}
 use Rattle.automata.specs.Automaton.{Automaton}
 use Rattle.automata.specs.Table.{Counts}
 use Rattle.automata.specs.TapePair.{Pair}
+use Rattle.automata.specs.Paths.{Trace}
+use Rattle.automata.specs.LeastPath.{Account}
+use Rattle.automata.specs.Records.{writeAll}
+use Rattle.automata.specs.LittleEndian.{little}
 use Rattle.automata.specs.Memory.{Memory, tableOf}
 use Rattle.automata.specs.Forecast.{number, over, Forecast, mixed, needs}
 use Rattle.automata.specs.ForecastCall.{forecastOf}
@@ -31,16 +36,21 @@ use Rattle.automata.specs.Calls.Project.{projectAnswer, projectOutcome}
 use Rattle.automata.specs.Calls.Drop.{dropAnswer, dropOutcome}
 use Rattle.automata.specs.Calls.Lookup.{lookupOutcome}
 use Rattle.automata.specs.Calls.Forecast.{forecastAnswer, forecastSize, forecastRecord, forecastRecords, forecastRecorded}
+use Rattle.automata.specs.Calls.LeastPath.{entrySize, entries, pathAnswer, Told, toldOf, toldAnswer, pathIn, toldSize, toldBytes, recordTold, PathRecorded, pathRecordedOf, pathRecorded}
+use Rattle.automata.proofs.RecordFacts.{All-map}
 use Rattle.automata.proofs.WellFormedFacts.{well-formed}
 use Rattle.automata.proofs.SoundFacts.{sound-well-formed}
 use Rattle.automata.proofs.ForecastRanges.{Small, forecast-small}
 use Rattle.automata.proofs.ForecastCalls.{ToldOf, told-of, length-records}
 use Rattle.laws.specs.Storable.{Storable}
 use Rattle.laws.specs.ListedRefusals.{OfTable, Listed}
+use Rattle.laws.proofs.LeastPath.{least-paths}
+use Rattle.laws.proofs.CallPath.{walk-numbers, path-calls}
 use Rattle.laws.proofs.ListedRefusals.{listed-refusals}
 use Rattle.laws.proofs.Lemmas.CallTables.{read-fits, intersect-fits, product-fits, join-fits, union-fits, project-fits, drop-fits}
-use Rattle.c_words.specs.Words.{tableWord, bytesWord, weightWord, toldRecorded}
-use Rattle.c_words.specs.WordParts.{lowByte, above, countsIn, tableTold, bytesTold, weightTold, twoBytes, forecastIn, forecastsIn, forecastsTold, WordsTell}
+use Rattle.laws.proofs.Lemmas.PathAnswers.{PathParts, path-parts}
+use Rattle.c_words.specs.Words.{tableWord, bytesWord, weightWord, toldRecorded, toldPath}
+use Rattle.c_words.specs.WordParts.{lowByte, above, countsIn, twoBytes, fourBytes, eightBytes, valuesIn, tableTold, bytesTold, orNone, weightTold, forecastIn, forecastsTold, accountIn, pathTold, WordsTell}
 
 -- a test that passes, and one that fails
 passes : {A : Type 0} (m n : ℕ) (x y : A) → m ≡ n → if (eqb m n) x y ≡ x
@@ -103,21 +113,31 @@ bytes-back (refused n) l =
     let small : n % 256 ≡ n = omega arith in
     fails (lowByte n) 0 (ok (above n)) (refused (lowByte n)) (λ e. absurd (omega arith)) ∙ ap refused small
 
+-- of a call that may tell none: what it tells, none, and a refusal
+some-back : {A : Type 0} (w : ℕ) (x : A) → lowByte w ≡ 0 → orNone w x ≡ ok (some x)
+unfolding orNone
+some-back w x e = passes (lowByte w) 0 _ _ e
+
+none-back : {A : Type 0} (x : A) → orNone 255 x ≡ ok none
+unfolding orNone
+none-back x = refl
+
+refused-back : {A : Type 0} (n : ℕ) (x : A) → 1 ≤ n → n ≤ 14 → orNone n x ≡ refused n
+unfolding orNone
+refused-back n x a b =
+    let small : n % 256 ≡ n = omega arith in
+    fails (lowByte n) 0 (ok (some x)) (if (eqb (lowByte n) 255) (ok none) (refused (lowByte n))) (λ e. absurd (omega arith))
+    ∙ fails (lowByte n) 255 (ok none) (refused (lowByte n)) (λ e. absurd (omega arith)) ∙ ap refused small
+
 weight-back : (a : Answer (Option ℕ)) → AllListed a → weightTold (weightWord a) ≡ a
-unfolding weightTold
 weight-back (ok (some w)) l =
     let zero-low : 256 * w % 256 ≡ 0 = omega arith in
     let rest : 256 * w / 256 ≡ w = omega arith in
-    passes (lowByte (256 * w)) 0 (ok (some (above (256 * w)))) (if (eqb (lowByte (256 * w)) 255) (ok none) (refused (lowByte (256 * w)))) zero-low
-    ∙ ap (λ w. ok (some w)) rest
-weight-back (ok none) l = refl
-weight-back (refused n) l =
-    let (a, b) = l n refl in
-    let small : n % 256 ≡ n = omega arith in
-    fails (lowByte n) 0 (ok (some (above n))) (if (eqb (lowByte n) 255) (ok none) (refused (lowByte n))) (λ e. absurd (omega arith))
-    ∙ fails (lowByte n) 255 (ok none) (refused (lowByte n)) (λ e. absurd (omega arith)) ∙ ap refused small
+    some-back (256 * w) (above (256 * w)) zero-low ∙ ap (λ w. ok (some w)) rest
+weight-back (ok none) l = none-back (above 255)
+weight-back (refused n) l = let (a, b) = l n refl in refused-back n (above n) a (omega arith)
 
--- ---- the records of forecasts
+-- ---- values in lent bytes
 
 -- two bytes behind others
 two-shift : (at k : ℕ) (r : List ℕ) → twoBytes (at + k) r ≡ twoBytes k (drop at r)
@@ -125,24 +145,49 @@ two-shift at k r =
     let e : at + k + 1 ≡ at + (k + 1) = omega arith in
     ap₂ (λ (x y : ℕ). x + 256 * y) (sym (getD-drop at r k 0)) (ap (λ (i : ℕ). getD r i 0) e ∙ sym (getD-drop at r (k + 1) 0))
 
--- a record behind others
-record-shift : (at : ℕ) (r : List ℕ) → forecastIn at r ≡ forecastIn 0 (drop at r)
-unfolding forecastIn
-record-shift at r =
-    let e : twoBytes at r ≡ twoBytes 0 (drop at r) = ap (λ (i : ℕ). twoBytes i r) (sym (add-zero at)) ∙ two-shift at 0 r in
-    rw (e, two-shift at 2 r, two-shift at 4 r)
-
-records-shift : (n at : ℕ) (r : List ℕ) → forecastsIn at n r ≡ forecastsIn 0 n (drop at r)
-unfolding forecastsIn
-records-shift zero at r = refl
-records-shift (suc n) at r =
-    let e : forecastsIn (at + forecastSize) n r ≡ forecastsIn forecastSize n (drop at r)
-    = records-shift n (at + forecastSize) r ∙ ap (forecastsIn 0 n) (sym (drop-drop forecastSize at r)) ∙ sym (records-shift n forecastSize (drop at r)) in
-    ap₂ (λ (f : Forecast) (fs : List Forecast). f ∷ fs) (record-shift at r) e
+two-behind : (at : ℕ) (r : List ℕ) → twoBytes at r ≡ twoBytes 0 (drop at r)
+two-behind at r = ap (λ (i : ℕ). twoBytes i r) (sym (add-zero at)) ∙ two-shift at 0 r
 
 -- a number of two bytes
 two-back : (n : ℕ) → n < 65536 → n % 256 + 256 * (n / 256 % 256) ≡ n
 two-back n h = omega arith
+
+-- values of one size
+module _ {A : Type 0} (value : ℕ → List ℕ → A) (size : ℕ) (shift : (at : ℕ) (r : List ℕ) → value at r ≡ value 0 (drop at r)) where
+  values-shift : (n at : ℕ) (r : List ℕ) → valuesIn value size at n r ≡ valuesIn value size 0 n (drop at r)
+  unfolding valuesIn
+  values-shift zero at r = refl
+  values-shift (suc n) at r =
+      let e : valuesIn value size (at + size) n r ≡ valuesIn value size (0 + size) n (drop at r)
+      = values-shift n (at + size) r ∙ ap (valuesIn value size 0 n) (sym (drop-drop size at r)) ∙ sym (values-shift n size (drop at r))
+      ∙ ap (λ (k : ℕ). valuesIn value size k n (drop at r)) (sym (zero-add size)) in
+      ap₂ (λ (x : A) (xs : List A). x ∷ xs) (shift at r) e
+
+  -- each so written that it can be read again
+  module _ (write : A → List ℕ) (Good : A → Type 0) (behind : (x : A) (r : List ℕ) → drop size (write x ++ r) ≡ r)
+      (back : (x : A) (r : List ℕ) → Good x → value 0 (write x ++ r) ≡ x) where
+    values-back : (xs : List A) (rest : List ℕ) → All Good xs → valuesIn value size 0 (length xs) (writeAll write xs ++ rest) ≡ xs
+    unfolding valuesIn
+    values-back [] rest h = refl
+    values-back (x ∷ xs) rest h =
+        let r = writeAll write xs ++ rest in
+        ap (valuesIn value size 0 (suc (length xs))) (append-assoc (write x) (writeAll write xs) rest)
+        ∙ ap₂ (λ (y : A) (ys : List A). y ∷ ys) (back x r (h .0))
+        (ap (λ (k : ℕ). valuesIn value size k (length xs) (write x ++ r)) (zero-add size) ∙ values-shift (length xs) size (write x ++ r)
+        ∙ ap (valuesIn value size 0 (length xs)) (behind x r) ∙ values-back xs rest (h .1))
+
+-- ---- the records of forecasts
+
+-- a record behind others
+record-shift : (at : ℕ) (r : List ℕ) → forecastIn at r ≡ forecastIn 0 (drop at r)
+unfolding forecastIn
+record-shift at r = rw (two-behind at r, two-shift at 2 r, two-shift at 4 r)
+
+-- what stands behind a record
+record-behind : (f : Forecast) (r : List ℕ) → drop forecastSize (forecastRecord f ++ r) ≡ r
+record-behind (needs d (number n)) r = refl
+record-behind (needs d over) r = refl
+record-behind mixed r = refl
 
 -- the forecast of a record
 record-back : (f : Forecast) (rest : List ℕ) → Small f → forecastIn 0 (forecastRecord f ++ rest) ≡ f
@@ -152,18 +197,9 @@ record-back (needs d over) rest a = ap (λ (x : ℕ). needs x over) (two-back d 
 record-back mixed rest s = refl
 
 -- the forecasts of several
-records-back : (fs : List Forecast) (rest : List ℕ) → All Small fs → forecastsIn 0 (length fs) (forecastRecords fs ++ rest) ≡ fs
-unfolding forecastsIn
-records-back [] rest h = refl
-records-back (f ∷ fs) rest h =
-    ap₂ (λ (g : Forecast) (gs : List Forecast). g ∷ gs)
-    (ap (forecastIn 0) (append-assoc (forecastRecord f) (forecastRecords fs) rest) ∙ record-back f (forecastRecords fs ++ rest) (h .0))
-    (records-shift (length fs) forecastSize ((forecastRecord f ++ forecastRecords fs) ++ rest) ∙ ap (forecastsIn 0 (length fs)) (behind f) ∙ records-back fs rest (h .1))
-  where
-    behind : (g : Forecast) → drop forecastSize ((forecastRecord g ++ forecastRecords fs) ++ rest) ≡ forecastRecords fs ++ rest
-    behind (needs d (number n)) = refl
-    behind (needs d over) = refl
-    behind mixed = refl
+records-back : (fs : List Forecast) (rest : List ℕ) → All Small fs
+    → valuesIn forecastIn forecastSize 0 (length fs) (forecastRecords fs ++ rest) ≡ fs
+records-back = values-back forecastIn forecastSize record-shift forecastRecord Small record-behind record-back
 
 -- forecasts that were told are small
 told-small : (m : Memory) (ps : List Pair) (room : Bool) (fs : List Forecast) → ToldOf m ps room fs → All Small fs
@@ -192,12 +228,80 @@ forecasts-back m ps result work = go (forecastAnswer m ps room work) refl
         let low : 256 * k % 256 ≡ 0 = omega arith in
         let count : 256 * k / 256 / forecastSize ≡ length fs = omega (arith, length-records fs) in
         passes (lowByte (256 * k)) 0 _ _ low
-        ∙ ap (λ (n : ℕ). ok (forecastsIn 0 n (forecastRecords fs ++ drop k result))) count
+        ∙ ap (λ (n : ℕ). ok (valuesIn forecastIn forecastSize 0 n (forecastRecords fs ++ drop k result))) count
         ∙ ap ok (records-back fs (drop k result) (told-small m ps room fs (told-of m ps room work fs e)))
     go (refused n) e =
         let (a, b) = listed-refusals .forecastRecorded m ps result work n (recorded-refused n e) in
         let small : n % 256 ≡ n = omega arith in
         fails (lowByte n) 0 _ _ (λ e. absurd (omega arith)) ∙ ap refused small
+
+-- ---- a path
+
+-- the arc numbers of a list
+arcs-back : (run rest : List ℕ) → All (λ e. e < 65536) run → valuesIn twoBytes entrySize 0 (length run) (entries run ++ rest) ≡ run
+arcs-back = values-back twoBytes entrySize two-behind (little entrySize .write) (λ e. e < 65536) (λ e r. refl) (λ e r h. two-back e h)
+
+-- the numbers of a result
+module _ (x : Told) (rest : List ℕ) where
+  weight-in : x .weight < 18446744073709551616 → eightBytes 0 (toldBytes x ++ rest) ≡ x .weight
+  weight-in h = omega arith
+
+  start-in : x .start < 4294967296 → fourBytes 16 (toldBytes x ++ rest) ≡ x .start
+  start-in h = omega arith
+
+  arcs-in : x .arcs < 4294967296 → fourBytes 20 (toldBytes x ++ rest) ≡ x .arcs
+  arcs-in h = omega arith
+
+-- arc numbers that are told have two bytes
+run-small : (m : Memory) (text : List ℕ) (room : Bool) (list work : List ℕ) (x : Account ℕ) → PathParts m text room list work (some x)
+    → All (λ e. e < 65536) (x .path .run)
+run-small m text room list work x p =
+    let A = tableOf m in
+    let wf = sound-well-formed m (p .judged) in
+    let (π, q, _, _) = least-paths ℕ-sum A (well-formed A wf) (p .tuple) (p .good .width) .told x .0 (p .is) in
+    All-map (λ e. e < length (A .arcs)) (λ e. e < 65536) (λ e l. omega (arith, l, wf .counts .arcsFit)) (x .path .run)
+    (subst (λ (τ : Trace). All (λ e. e < length (A .arcs)) (τ .run)) q (walk-numbers A (π .successful .walk)))
+
+path-back : (m : Memory) (text result list work : List ℕ)
+    → pathTold (toldPath (pathRecorded m text result list work)) ≡ pathAnswer m text (enough toldSize result) list work
+unfolding pathRecorded
+path-back m text result list work = go (pathAnswer m text room list work) refl
+  where
+    room : Bool
+    room = enough toldSize result
+
+    -- the outcome with this answer
+    outcome : Answer (Option (Account ℕ)) → PathRecorded
+    outcome a = pathRecordedOf (toldAnswer a) (recordTold (toldAnswer a) result) (pathIn a list) (cleared work)
+
+    -- the account that stands in what is left of one
+    left : Account ℕ → Account ℕ
+    left x = accountIn (outcome (ok (some x)) .result) (outcome (ok (some x)) .found .list)
+
+    account-back : (x : Account ℕ) → pathAnswer m text room list work ≡ ok (some x) → left x ≡ x
+    account-back x e =
+        let t = toldOf x in
+        let told = path-calls .recorded m text result list work (some t) (ap toldAnswer e) .0 .told t refl in
+        let run = x .path .run in
+        let behind = drop (length (entries run)) list in
+        let n = arcs-in t (drop toldSize result) (omega (arith, told .few-arcs)) in
+        λ i. record {
+          weight = weight-in t (drop toldSize result) (told .small) i;
+          path = record {
+            start = start-in t (drop toldSize result) (omega (arith, told .state)) i;
+            run = (ap (λ (k : ℕ). valuesIn twoBytes entrySize 0 k (entries run ++ behind)) n
+                ∙ arcs-back run behind (run-small m text room list work x (path-parts m text room list work (some x) e))) i;
+          };
+        }
+
+    listed : (n : ℕ) → Listed n ⊎ (n ≡ 14) → (1 ≤ n) × (n ≤ 14)
+    listed n (inl (a, b)) = (a, omega arith)
+    listed n (inr e) = (omega arith, omega arith)
+
+    go : (a : Answer (Option (Account ℕ))) → pathAnswer m text room list work ≡ a → pathTold (toldPath (outcome a)) ≡ a
+    go (ok (some x)) e = some-back 0 (left x) refl ∙ ap {B = Answer (Option (Account ℕ))} (λ (y : Account ℕ). ok (some y)) (account-back x e)
+    go (ok none) e = none-back (accountIn result list)
+    go (refused n) e = let (a, b) = listed n (listed-refusals .pathRecorded m text result list work n (ap toldAnswer e)) in refused-back n (accountIn result list) a b
 
 -- ---- the calls
 
@@ -228,5 +332,6 @@ words-tell = record {
   project = λ m js s. put-back (projectAnswer m js (spaceOf s)) s (project-fits m js (spaceOf s)) (listed-refusals .project m js s);
   drop = λ m mask s. put-back (dropAnswer m mask (spaceOf s)) s (drop-fits m mask (spaceOf s)) (listed-refusals .dropTapes m mask s);
   forecast = forecasts-back;
+  path = path-back;
   lookup = λ m text work. weight-back (lookupOutcome m text work .answer) (listed-refusals .lookup m text work);
 }

@@ -5,6 +5,7 @@ use mathlib.Core.List.{List}
 use Prim.Native.Nat.{ℕ, _+_, _*_, _≤_, _<_}
 use Rattle.automata.specs.Answer.{Answer, ok, refused}
 use Rattle.automata.specs.Calls.Forecast.{Recorded}
+use Rattle.automata.specs.Calls.LeastPath.{Told, PathRecorded}
 use Rattle.automata.specs.Calls.Outcome.{Slices, TableCounts, Made, Built, Joined, Written, Found, slicesOf}
 
 -- ---- the numbers
@@ -24,6 +25,12 @@ abbrev pub weightWord : Answer (Option ℕ) → ℕ
 weightWord (ok (some w)) = 256 * w
 weightWord (ok none) = 255
 weightWord (refused n) = n
+
+-- 0 for a path, which stands in lent bytes, 255 for none, or the refusal's number
+abbrev pub pathWord : Answer (Option Told) → ℕ
+pathWord (ok (some x)) = 0
+pathWord (ok none) = 255
+pathWord (refused n) = n
 
 -- ---- when they are numbers of 64 bits from which the parts can be told
 
@@ -124,3 +131,18 @@ tellsRecorded word result work = record { written = tellsWritten word result; wo
 -- of an outcome
 abbrev pub toldRecorded : Recorded → ToldRecorded
 toldRecorded o = record { written = toldWritten (o .written); work = o .work }
+
+-- a number for the answer of a path, the result space, the list and work space
+pub record ToldPath : Type 0 where
+  pub word : ℕ
+  pub result : List ℕ
+  pub list : List ℕ
+  pub work : List ℕ
+
+-- the same by its parts
+abbrev pub tellsPath : ℕ → List ℕ → List ℕ → List ℕ → ToldPath
+tellsPath word result list work = record { word = word; result = result; list = list; work = work }
+
+-- of an outcome
+abbrev pub toldPath : PathRecorded → ToldPath
+toldPath o = tellsPath (pathWord (o .found .answer)) (o .result) (o .found .list) (o .found .work)

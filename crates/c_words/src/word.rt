@@ -6,15 +6,17 @@ use memory::answer::Counts;
 use memory::answer::Judged;
 use memory::answer::TableAnswer;
 use memory::answer::refusal_number;
+use path_search::answer::PathAnswer;
 use text::WriteAnswer;
 ghost use mathlib.Core.Path.{_≡_};
 ghost use Prim.Native.Nat.{_+_, _*_, _≤_, _<_};
 ghost use Rattle.memory.specs.Answers.{tableAs};
 ghost use Rattle.text.specs.Answers.{writtenAs};
 ghost use Rattle.lookup.specs.Answers.{weightAs};
+ghost use Rattle.path_search.specs.Answers.{pathAs};
 ghost use Rattle.automata.specs.Calls.Forecast.{recordBytes};
 ghost use Rattle.forecast_records.specs.Values.{answerAs};
-ghost use Rattle.c_words.specs.Words.{tableWord, bytesWord, weightWord, CountsFit, BytesFit, WeightFits};
+ghost use Rattle.c_words.specs.Words.{tableWord, bytesWord, weightWord, pathWord, CountsFit, BytesFit, WeightFits};
 
 // The counts of a table: tapes from bit 8 on, states from bit 16 on, arcs from bit 32 on.
 fn counts_word(c: Counts) -> u64
@@ -63,6 +65,17 @@ pub fn weight_word(answer: WeightAnswer) -> u64
         WeightAnswer::Weight(w) => shifted(w),
         WeightAnswer::Nothing => 255,
         WeightAnswer::Refused(why) => refusal_number(why) as u64,
+    }
+}
+
+// 0 for a path, which stands in lent bytes, 255 for none, or the refusal's number.
+pub fn path_word(answer: PathAnswer) -> u64
+    ensures { λ r. ⌜ r ≡ pathWord (pathAs answer) ⌝ }
+{
+    match answer {
+        PathAnswer::Path(_) => 0,
+        PathAnswer::Nothing => 255,
+        PathAnswer::Refused(why) => refusal_number(why) as u64,
     }
 }
 

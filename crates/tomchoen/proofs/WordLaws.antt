@@ -6,8 +6,9 @@ use Prim.Native.Nat.{ℕ}
 use Rattle.automata.specs.Answer.{Answer}
 use Rattle.automata.specs.Calls.Outcome.{TableCounts, Made, Built, Joined, Written, Found, madeOf, builtOf, joinedOf, foundOf}
 use Rattle.automata.specs.Calls.Forecast.{Recorded, recordedOf}
+use Rattle.automata.specs.Calls.LeastPath.{Told, PathRecorded, pathRecordedOf}
 use Rattle.text.specs.Answers.{writtenOf}
-use Rattle.c_words.specs.Words.{tableWord, bytesWord, weightWord, tellsMade, toldMade, tellsBuilt, toldBuilt, tellsJoined, toldJoined, tellsWritten, toldWritten, tellsFound, toldFound, tellsRecorded, toldRecorded}
+use Rattle.c_words.specs.Words.{tableWord, bytesWord, weightWord, pathWord, tellsMade, toldMade, tellsBuilt, toldBuilt, tellsJoined, toldJoined, tellsWritten, toldWritten, tellsFound, toldFound, tellsRecorded, toldRecorded, tellsPath, toldPath}
 
 -- calls that make a table
 pub made-told : (r : ℕ) (a : Answer TableCounts) (states arcs : List ℕ) (o : Made) → madeOf a states arcs ≡ o → r ≡ tableWord a
@@ -37,3 +38,8 @@ found-told r a work o e w = ap (λ (n : ℕ). tellsFound n work) w ∙ ap toldFo
 pub recorded-told : (r : ℕ) (a : Answer ℕ) (result work : List ℕ) (o : Recorded) → recordedOf a result work ≡ o → r ≡ bytesWord a
     → tellsRecorded r result work ≡ toldRecorded o
 recorded-told r a result work o e w = ap (λ (n : ℕ). tellsRecorded n result work) w ∙ ap toldRecorded e
+
+-- a path
+pub path-told : (r : ℕ) (a : Answer (Option Told)) (result list work : List ℕ) (o : PathRecorded) → pathRecordedOf a result list work ≡ o → r ≡ pathWord a
+    → tellsPath r result list work ≡ toldPath o
+path-told r a result list work o e w = ap (λ (n : ℕ). tellsPath n result list work) w ∙ ap toldPath e

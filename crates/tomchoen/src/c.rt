@@ -1,8 +1,10 @@
 // The calls for C. A slice is a pointer and a length; slices of a call must not overlap, but two only read may.
 use c_words::word::bytes_word;
 use c_words::word::forecast_word;
+use c_words::word::path_word;
 use c_words::word::table_word;
 use c_words::word::weight_word;
+use least_path::record::path_into;
 use memory::answer::Counts;
 ghost use mathlib.Core.Path.{_≡_};
 ghost use Rattle.automata.specs.Memory.{memoryOf};
@@ -16,9 +18,10 @@ ghost use Rattle.automata.specs.Calls.Union.{unionOutcome};
 ghost use Rattle.automata.specs.Calls.Project.{projectOutcome};
 ghost use Rattle.automata.specs.Calls.Drop.{dropOutcome};
 ghost use Rattle.automata.specs.Calls.Lookup.{lookupOutcome};
+ghost use Rattle.automata.specs.Calls.LeastPath.{pathRecorded};
 ghost use Rattle.automata.specs.Calls.Forecast.{forecastRecorded};
 ghost use Rattle.pairs.specs.PairBytes.{pairsOf};
-ghost use Rattle.c_words.specs.Words.{tellsMade, toldMade, tellsBuilt, toldBuilt, tellsJoined, toldJoined, tellsWritten, toldWritten, tellsFound, toldFound, tellsRecorded, toldRecorded};
+ghost use Rattle.c_words.specs.Words.{tellsMade, toldMade, tellsBuilt, toldBuilt, tellsJoined, toldJoined, tellsWritten, toldWritten, tellsFound, toldFound, tellsRecorded, toldRecorded, tellsPath, toldPath};
 
 // Reads the text of a table.
 #[no_mangle]
@@ -299,6 +302,31 @@ pub extern "C" fn tomchoen_lookup(
     };
     let answer = lookup::call::lookup(counts, state_bytes, arc_bytes, tuple, work);
     weight_word(answer)
+}
+
+// Looks the weight of a tuple up with the path behind it: weight, starting state and number of arcs in `result`, the
+// arc numbers in `list`.
+#[no_mangle]
+pub extern "C" fn tomchoen_path(
+    tapes: usize,
+    states: usize,
+    arcs: usize,
+    state_bytes: &[u8],
+    arc_bytes: &[u8],
+    tuple: &[u8],
+    result: &mut [u8],
+    list: &mut [u8],
+    work: &mut [u8],
+) -> u64
+    ensures { λ r. ⌜ tellsPath r (now (result .exit)) (now (list .exit)) (now (work .exit)) ≡ toldPath (pathRecorded (memoryOf tapes states arcs (now («state_bytes» .entry)) (now («arc_bytes» .entry))) (now (tuple .entry)) (now (result .entry)) (now (list .entry)) (now (work .entry))) ⌝ }
+{
+    let counts = Counts {
+        tapes,
+        states,
+        arcs,
+    };
+    let answer = path_into(counts, state_bytes, arc_bytes, tuple, result, list, work);
+    path_word(answer)
 }
 
 // Tells for pairs of tapes, two bytes a pair, what a build on each can need.
