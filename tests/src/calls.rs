@@ -4,7 +4,7 @@
 //! join's product space are zero after every call.
 
 use crate::agree::agree;
-use crate::automaton::{Automaton, Room};
+use crate::automaton::{Automaton, Room, Tuple};
 use crate::columns;
 use crate::forecast::{self, FORECAST_BYTES};
 use crate::intersect;
@@ -12,6 +12,7 @@ use crate::join;
 use crate::lookup;
 use crate::memory::{encode_arcs, encode_states, judge, LentTable, ARC_BYTES, STATE_BYTES};
 use crate::pairs::{judge_intersect, judge_join, judge_pairs};
+use crate::path::{self, Path, PATH_BYTES, PLACE_BYTES};
 use crate::product;
 use crate::refusal::{refuse_if, Refusal};
 use crate::text;
@@ -79,6 +80,19 @@ pub struct ForecastOutcome {
     pub work: Vec<u8>,
 }
 
+/// The word of a call for a path where the tuple has no weight.
+pub const NO_PATH: u64 = 255;
+
+/// What a call for a path answers and leaves behind. The word is 0 where a path is told, 255 where the tuple has no
+/// weight, else the number of a refusal.
+#[derive(Clone, Debug, PartialEq, Eq)]
+pub struct PathOutcome {
+    pub word: u64,
+    pub result: Vec<u8>,
+    pub list: Vec<u8>,
+    pub work: Vec<u8>,
+}
+
 /// `bytes` over the front of `space`.
 fn over(space: &[u8], bytes: &[u8]) -> Vec<u8> {
     [bytes, &space[bytes.len()..]].concat()
@@ -132,6 +146,11 @@ pub fn join_work(between: Room, room: Room) -> u128 {
 /// Work of a lookup (docs/SPACE.md): 8 bytes a cell.
 pub fn lookup_work(automaton: &Automaton, tuple: &[Vec<u8>]) -> u128 {
     8 * lookup::cells(automaton, tuple)
+}
+
+/// Work of a path: 24 bytes a cell of the lookup.
+pub fn path_work(automaton: &Automaton, tuple: &[Vec<u8>]) -> u128 {
+    24 * lookup::cells(automaton, tuple)
 }
 
 /// Work of a forecast: 64 bytes a state of the table read.
@@ -236,16 +255,57 @@ pub fn tuple_of_text(text: &[u8]) -> Result<Vec<Vec<u8>>, Refusal> {
     Ok(strings)
 }
 
-/// Lookup: the table, the tuple's text (1), the number of strings (5), their sizes (3), their bytes (2), the work (13).
+/// What a lookup judges before its work: the table, the tuple's text (1), the number of strings (5), their sizes (3),
+/// their bytes (2).
+fn judge_lookup(table: &LentTable, tuple: &[u8]) -> Result<(Automaton, Tuple), Refusal> {
+    let automaton = judge(table)?;
+    let tuple = tuple_of_text(tuple)?;
+    lookup::judge_tuple(&automaton, &tuple)?;
+    Ok((automaton, tuple))
+}
+
+/// Lookup: the table and the tuple, then the work (13).
 pub fn lookup(table: &LentTable, tuple: &[u8], work: &[u8]) -> LookupOutcome {
     let found = || {
-        let automaton = judge(table)?;
-        let tuple = tuple_of_text(tuple)?;
-        lookup::judge_tuple(&automaton, &tuple)?;
+        let (automaton, tuple) = judge_lookup(table, tuple)?;
         judge_space(work.len(), lookup_work(&automaton, &tuple))?;
         Ok(lookup::lookup(&automaton, &tuple))
     };
     LookupOutcome { answer: found(), work: zeros(work) }
+}
+
+/// 14 where a list has fewer places than the path has arcs; a last byte alone is no place, and no path asks for none.
+fn judge_list(lent: usize, path: Option<&Path>) -> Result<(), Refusal> {
+    refuse_if(path.is_some_and(|path| lent / PLACE_BYTES < path.arcs.len()), Refusal::PathList)
+}
+
+/// What a path takes besides its table.
+#[derive(Clone, Debug, PartialEq, Eq)]
+pub struct PathRequest {
+    pub tuple: Vec<u8>,
+    pub result: Vec<u8>,
+    pub list: Vec<u8>,
+    pub work: Vec<u8>,
+}
+
+/// Path: the table and the tuple as for a lookup, then the work and the result (13), last the list (14). What is told
+/// stands over the front of the result and of the list.
+pub fn path(table: &LentTable, request: &PathRequest) -> PathOutcome {
+    let PathRequest { tuple, result, list, work } = request;
+    let found = || {
+        let (automaton, tuple) = judge_lookup(table, tuple)?;
+        judge_space(work.len(), path_work(&automaton, &tuple))?;
+        judge_space(result.len(), PATH_BYTES as u128)?;
+        let path = path::path(&automaton, &tuple);
+        judge_list(list.len(), path.as_ref())?;
+        Ok(path)
+    };
+    let (word, record, places) = match found() {
+        Ok(Some(path)) => (0, path.record(), path.list()),
+        Ok(None) => (NO_PATH, Vec::new(), Vec::new()),
+        Err(refusal) => (Refusal::number(refusal), Vec::new(), Vec::new()),
+    };
+    PathOutcome { word, result: over(result, &record), list: over(list, &places), work: zeros(work) }
 }
 
 /// The pairs of a list lent as bytes, two a pair; a last byte alone is no pair.

@@ -280,7 +280,7 @@ fn chain_case(random: &mut Random) -> Case {
 }
 
 /// Rising places that cut `length` symbols into `pieces`, from 0 to `length`.
-fn cuts(random: &mut Random, length: usize, pieces: usize) -> Vec<usize> {
+pub fn cuts(random: &mut Random, length: usize, pieces: usize) -> Vec<usize> {
     let mut cuts: Vec<usize> = (1..pieces).map(|_| random.below(length + 1)).collect();
     cuts.extend([0, length]);
     cuts.sort_unstable();

@@ -1,8 +1,9 @@
-//! The second implementation of Tomchoen, written from document 01 and document 02's request 2.1 alone, on plain Rust types.
+//! The second implementation of Tomchoen, written from document 01 and document 02's requests 2.1, 2.2 and 2.3 alone,
+//! on plain Rust types.
 //!
-//! `text`, `memory`: tables as texts and as records; `intersect`, `product`, `join`, `columns`, `lookup`, `forecast`: the calls
-//! on automata; `calls`: the same calls on lent bytes; `agree`: the program from text to text. The rest makes and checks test
-//! inputs.
+//! `text`, `memory`: tables as texts and as records; `intersect`, `product`, `join`, `columns`, `lookup`, `path`,
+//! `forecast`: the calls on automata; `calls`: the same calls on lent bytes; `agree`: the program from text to text.
+//! The rest makes and checks test inputs.
 
 #![forbid(unsafe_code)]
 
@@ -22,6 +23,8 @@ pub mod lookup;
 pub mod memory;
 pub mod order;
 pub mod pairs;
+pub mod path;
+pub mod path_cases;
 pub mod product;
 pub mod random;
 pub mod refusal;

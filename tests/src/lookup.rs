@@ -9,7 +9,7 @@ use std::collections::{BinaryHeap, HashMap};
 pub const MOST_STRING: usize = 64;
 
 /// A state and a position in each string.
-type Cell = (usize, Vec<usize>);
+pub type Cell = (usize, Vec<usize>);
 
 /// Judges a tuple: the number of strings by 5, all sizes by 3, all bytes by 2.
 pub fn judge_tuple(automaton: &Automaton, tuple: &[Vec<u8>]) -> Result<(), Refusal> {
@@ -25,7 +25,7 @@ pub fn cells(automaton: &Automaton, tuple: &[Vec<u8>]) -> u128 {
 }
 
 /// The cell after an arc, if the arc's labels stand in the strings at the cell's positions.
-fn after(positions: &[usize], arc: &Arc, tuple: &Tuple) -> Option<Cell> {
+pub fn after(positions: &[usize], arc: &Arc, tuple: &Tuple) -> Option<Cell> {
     let next = |((&position, label), string): ((&usize, &Vec<u8>), &Vec<u8>)| {
         string[position..].starts_with(label).then_some(position + label.len())
     };

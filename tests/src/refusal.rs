@@ -1,6 +1,6 @@
-//! The refusal list of document 01.
+//! The refusal list of document 01, and document 02's number 14.
 
-/// A refusal; its discriminant is the number of document 01's list.
+/// A refusal; its discriminant is the number of the papers' list.
 #[derive(Clone, Copy, Debug, PartialEq, Eq, Hash, PartialOrd, Ord)]
 pub enum Refusal {
     Short = 1,
@@ -16,11 +16,12 @@ pub enum Refusal {
     Weight = 11,
     Width = 12,
     Space = 13,
+    PathList = 14,
 }
 
 impl Refusal {
     /// All of them, in the list's order.
-    pub const ALL: [Refusal; 13] = [
+    pub const ALL: [Refusal; 14] = [
         Refusal::Short,
         Refusal::Form,
         Refusal::Size,
@@ -34,9 +35,10 @@ impl Refusal {
         Refusal::Weight,
         Refusal::Width,
         Refusal::Space,
+        Refusal::PathList,
     ];
 
-    /// The number in document 01's list.
+    /// The number in the papers' list.
     pub fn number(self) -> u64 {
         self as u64
     }

@@ -3,8 +3,9 @@
 //! A harness that links another implementation turns a `Request` into its call and compares what it answers, and every lent
 //! byte, with `outcome`.
 
-use crate::automaton::{Arc, Automaton, Room, State};
-use crate::calls::{self, ForecastOutcome, JoinRequest, LookupOutcome, ResultSpace, TableOutcome, TextOutcome};
+use crate::automaton::{Arc, Automaton, Room, State, Tuple};
+use crate::calls::{self, JoinRequest, PathRequest, ResultSpace};
+use crate::calls::{ForecastOutcome, LookupOutcome, PathOutcome, TableOutcome, TextOutcome};
 use crate::columns::project;
 use crate::damage::damaged_table;
 use crate::forecast::FORECAST_BYTES;
@@ -12,8 +13,11 @@ use crate::forecast_cases::forecast_case;
 use crate::generate::{bad_pairs, case, corridor_arcs, limit, small_case, Case};
 use crate::intersect::intersect;
 use crate::join::join;
+use crate::lookup::judge_tuple;
 use crate::memory::{encode, LentTable, ARC_BYTES, STATE_BYTES};
 use crate::pairs::Pair;
+use crate::path::{path, PATH_BYTES, PLACE_BYTES};
+use crate::path_cases::path_case;
 use crate::product::product;
 use crate::random::Random;
 use crate::text::write;
@@ -31,6 +35,7 @@ pub enum Request {
     DropTapes { table: LentTable, marked: u8, result: ResultSpace },
     Lookup { table: LentTable, tuple: Vec<u8>, work: Vec<u8> },
     Forecast { table: LentTable, pairs: Vec<u8>, result: Vec<u8>, work: Vec<u8> },
+    Path { table: LentTable, request: PathRequest },
 }
 
 /// What a call answers and leaves behind.
@@ -40,6 +45,7 @@ pub enum Outcome {
     Text(TextOutcome),
     Lookup(LookupOutcome),
     Forecast(ForecastOutcome),
+    Path(PathOutcome),
 }
 
 /// The outcome of a request.
@@ -57,6 +63,7 @@ pub fn outcome(request: &Request) -> Outcome {
         Request::DropTapes { table, marked, result } => Outcome::Table(calls::drop_tapes(table, *marked, result)),
         Request::Lookup { table, tuple, work } => Outcome::Lookup(calls::lookup(table, tuple, work)),
         Request::Forecast { table, pairs, result, work } => Outcome::Forecast(calls::forecast(table, pairs, result, work)),
+        Request::Path { table, request } => Outcome::Path(calls::path(table, request)),
     }
 }
 
@@ -295,12 +302,86 @@ fn lookup_request(random: &mut Random) -> Request {
     if random.chance(3) {
         strings.pop();
     }
-    let mut tuple: Vec<u8> = strings.iter().flat_map(|string| [&string[..], b"\n"].concat()).collect();
+    let mut tuple = text_of_tuple(&strings);
     if random.chance(4) {
         tuple.push(random.pick(b"A0a"));
     }
     let work = work_near(random, calls::lookup_work(&automaton, &strings));
     Request::Lookup { table: lent(random, &automaton), tuple, work }
+}
+
+/// The text of a tuple, each string ended by byte 10.
+fn text_of_tuple(strings: &[Vec<u8>]) -> Vec<u8> {
+    strings.iter().flat_map(|string| [&string[..], b"\n"].concat()).collect()
+}
+
+/// Faults of a tuple, each in about `percent` of a hundred cases: a string too long, a byte that is no symbol, a string
+/// too many or too few.
+fn faulty_tuple(random: &mut Random, tuple: &Tuple, percent: usize) -> Tuple {
+    let mut strings = tuple.clone();
+    let (one, two) = (random.below(strings.len()), random.below(strings.len()));
+    if random.chance(percent) {
+        strings[one] = vec![b'A'; random.pick(&[65, 65, 66, 300])];
+    }
+    if random.chance(percent) {
+        strings[two].push(random.pick(b"a@[/: \x00\xff\r"));
+    }
+    if random.chance(percent) {
+        match random.chance(50) {
+            true => strings.push(Vec::new()),
+            false => strings.truncate(strings.len() - 1),
+        }
+    }
+    strings
+}
+
+/// How many arcs the path of a tuple has; where there is none, a few.
+fn places(random: &mut Random, automaton: &Automaton, strings: &Tuple) -> usize {
+    let found = judge_tuple(automaton, strings).ok().and_then(|()| path(automaton, strings));
+    found.map_or_else(|| random.below(4), |path| path.arcs.len())
+}
+
+/// The length of a list for so many places: often just enough or longer, with a byte alone or without, else a byte or a
+/// place too short, or shorter.
+fn list_length(random: &mut Random, places: usize) -> usize {
+    let enough = PLACE_BYTES * places;
+    match random.below(16) {
+        0 => 0,
+        1 => enough.saturating_sub(1),
+        2 => enough.saturating_sub(PLACE_BYTES),
+        3 => random.below(enough + 1),
+        4..=7 => enough,
+        8 => enough + 1,
+        _ => enough + random.below(30),
+    }
+}
+
+/// A request for a path: faults are mostly few, sometimes several, so that the order of judging shows.
+pub fn path_request(random: &mut Random) -> Request {
+    let (automaton, mut tuple) = path_case(random);
+    let percent = if random.chance(15) { 30 } else { 1 };
+    if random.chance(8) {
+        let at = random.below(tuple.len());
+        tuple[at].push(random.pick(b"AB0"));
+    }
+    let strings = faulty_tuple(random, &tuple, percent);
+    let places = places(random, &automaton, &strings);
+    let need = calls::path_work(&automaton, &strings);
+    let work = if random.chance(percent) { filled(random, 5) } else { work_near(random, need) };
+    let length = match random.chance(percent) {
+        true => random.pick(&[0, 1, 8, 16, 23, 23]),
+        false => PATH_BYTES + random.pick(&[0, 0, 1, 8, 40]),
+    };
+    let result = filled(random, length);
+    let length = list_length(random, places);
+    let list = filled(random, length);
+    let mut tuple = text_of_tuple(&strings);
+    if random.chance(percent) {
+        tuple.push(random.pick(b"A0a"));
+    }
+    let damaged = random.chance(percent);
+    let table = if damaged { damaged_table(random, &automaton) } else { lent(random, &automaton) };
+    Request::Path { table, request: PathRequest { tuple, result, list, work } }
 }
 
 /// Pairs as bytes, a tape above 255 as 255; sometimes with a byte alone behind them, which is no pair.
@@ -388,7 +469,7 @@ pub fn request(random: &mut Random) -> Request {
     if random.chance(1) {
         return large_request(random);
     }
-    match random.below(22) {
+    match random.below(25) {
         0 => read_request(random),
         1 => write_request(random),
         2..=6 => intersect_request(random),
@@ -398,7 +479,8 @@ pub fn request(random: &mut Random) -> Request {
         15 => project_request(random),
         16 => drop_request(random),
         17..=19 => lookup_request(random),
-        _ => forecast_request(random),
+        20..=21 => forecast_request(random),
+        _ => path_request(random),
     }
 }
 
@@ -415,6 +497,7 @@ pub fn request_of(call: &str, random: &mut Random) -> Option<Request> {
         "drop" => drop_request,
         "lookup" => lookup_request,
         "forecast" => forecast_request,
+        "path" => path_request,
         _ => return None,
     };
     Some(made(random))

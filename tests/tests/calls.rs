@@ -2,7 +2,7 @@
 
 use std::collections::BTreeMap;
 use tomchoen_tests::automaton::{Automaton, State};
-use tomchoen_tests::calls::{self, Counts, JoinRequest, ResultSpace, TableOutcome};
+use tomchoen_tests::calls::{self, Counts, JoinRequest, PathOutcome, PathRequest, ResultSpace, TableOutcome};
 use tomchoen_tests::damage::damaged_table;
 use tomchoen_tests::generate::small_case;
 use tomchoen_tests::memory::{encode, judge, LentTable, ARC_BYTES, STATE_BYTES};
@@ -383,8 +383,22 @@ fn lent_by(request: &Request) -> (ResultSpace, usize) {
         | Request::DropTapes { result, .. } => (result.clone(), 0),
         Request::Intersect { result, work, .. } | Request::Product { result, work, .. } => (result.clone(), work.len()),
         Request::Join { request, .. } => (request.result.clone(), request.work.len()),
-        Request::Write { .. } | Request::Lookup { .. } | Request::Forecast { .. } => panic!("no table is given"),
+        Request::Write { .. } | Request::Lookup { .. } => panic!("no table is given"),
+        Request::Forecast { .. } | Request::Path { .. } => panic!("no table is given"),
     }
+}
+
+/// Checks what a call for a path leaves behind: what it tells over the front of result and list, the rest kept.
+fn check_path_bytes(outcome: &PathOutcome, lent: &PathRequest) {
+    assert_eq!(outcome.work, vec![0; lent.work.len()]);
+    let (mut told, mut listed) = (0, 0);
+    if outcome.word == 0 {
+        assert_eq!(outcome.result[8..16], [0; 8]);
+        let arcs = u32::from_le_bytes(outcome.result[20..24].try_into().unwrap());
+        (told, listed) = (24, 2 * arcs as usize);
+    }
+    assert_eq!(outcome.result[told..], lent.result[told..]);
+    assert_eq!(outcome.list[listed..], lent.list[listed..]);
 }
 
 /// Whether six bytes are a forecast: which of the three, a delay that a table can have, a number; zeros where it tells none.
@@ -429,10 +443,14 @@ fn random_requests_leave_every_byte_as_stated() {
                 assert!(outcome.result[..told].chunks(6).all(is_forecast_record));
                 count(outcome.answer.err());
             }
+            (Outcome::Path(outcome), Request::Path { request, .. }) => {
+                check_path_bytes(&outcome, request);
+                count(Refusal::ALL.into_iter().find(|refusal| refusal.number() == outcome.word));
+            }
             _ => panic!("an outcome of another call"),
         }
     }
-    assert_eq!(answers.len(), 14, "{answers:?}");
+    assert_eq!(answers.len(), 15, "{answers:?}");
     assert!(answers[&0] > 2_000, "{answers:?}");
     println!("{answers:?}");
 }

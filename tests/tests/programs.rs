@@ -5,14 +5,15 @@ use std::io::Write;
 use std::path::Path;
 use std::process::{Command, Output, Stdio};
 use tomchoen_tests::agree::{agree, MOST_INPUT};
-use tomchoen_tests::automaton::{Arc, Automaton};
-use tomchoen_tests::calls::pairs_of_bytes;
+use tomchoen_tests::automaton::{is_symbol, Arc, Automaton, Tuple};
+use tomchoen_tests::calls::{pairs_of_bytes, path_work, tuple_of_text, PathRequest};
 use tomchoen_tests::forecast::{forecast, is_mixed, symbols_in_use, useful_states, Forecast};
 use tomchoen_tests::generate::agree_input;
-use tomchoen_tests::memory::judge;
+use tomchoen_tests::memory::{judge, LentTable};
 use tomchoen_tests::pairs::Pair;
+use tomchoen_tests::path::{path, Path as Found};
 use tomchoen_tests::random::Random;
-use tomchoen_tests::requests::{forecast_request, outcome, Outcome, Request};
+use tomchoen_tests::requests::{forecast_request, outcome, path_request, Outcome, Request};
 
 /// Runs `differential` on a program.
 fn differential(program: &str, cases: &str, keep: &Path) -> Output {
@@ -148,5 +149,131 @@ fn generated_forecasts_meet_every_answer() {
     assert_eq!(met.len(), 27, "{met:?}");
     assert!(met.values().all(|&count| count >= 5), "{met:?}");
     assert!(met["mixed"] > 300 && met["over"] > 300 && met["a number"] > 1_000, "{met:?}");
+    println!("{met:?}");
+}
+
+/// The least path of a table with an arc made useless for a tuple of other symbols, or a state's initial weight taken.
+fn without(automaton: &Automaton, tuple: &Tuple, arc: Option<usize>, start: Option<usize>) -> Option<Found> {
+    let mut other = automaton.clone();
+    if let Some(arc) = arc {
+        other.arcs[arc].labels[0] = b"QQQQQQQQ".to_vec();
+    }
+    if let Some(start) = start {
+        other.states[start].initial = None;
+    }
+    path(&other, tuple)
+}
+
+/// What is to be met of a path and what would stand in its place: words for what this one shows.
+fn instead(automaton: &Automaton, found: &Found, other: &Found, arc: Option<usize>) -> Vec<&'static str> {
+    let (same, fewer) = (other.weight == found.weight, other.arcs.len() < found.arcs.len());
+    let even = same && other.arcs.len() == found.arcs.len();
+    let later = even && other.start == found.start && arc.is_some();
+    let mut both = found.arcs.iter().zip(&other.arcs);
+    let met = [
+        (!same && fewer, "less weight by more arcs"),
+        (same && other.arcs.len() > found.arcs.len(), "the same weight by more arcs"),
+        (same && other.arcs.len() > found.arcs.len() && other.start < found.start, "fewer arcs from a higher state"),
+        (even && other.start > found.start, "the same from a higher state"),
+        (even && other.start > found.start && other.arcs < found.arcs, "lower arcs from a higher state"),
+        (later, "the same with a higher arc"),
+        (later && both.clone().any(|(one, two)| two < one), "a lower arc behind the first difference"),
+        (later && both.all(|(&one, &two)| automaton.arcs[one] == automaton.arcs[two]), "equal records"),
+    ];
+    met.into_iter().filter(|(shown, _)| *shown).map(|(_, word)| word).collect()
+}
+
+/// What is to be met of a path that is told: words for what this one shows.
+fn shown_by_path(automaton: &Automaton, tuple: &Tuple, lent: &PathRequest, found: &Found) -> Vec<&'static str> {
+    let places = found.arcs.len();
+    let is_idle = |arc: &Arc| arc.weight == 0 && arc.labels.iter().all(Vec::is_empty);
+    let targets = found.arcs.iter().map(|&arc| automaton.arcs[arc].target);
+    let visited: Vec<usize> = [found.start].into_iter().chain(targets).collect();
+    let is_idle_loop = |arc: &Arc| is_idle(arc) && arc.source == arc.target && visited.contains(&arc.source);
+    let met = [
+        (places == 0, "an empty path"),
+        (places == 0 && lent.list.is_empty(), "an empty path and a list of 0"),
+        (places > 0 && lent.list.len() == 2 * places, "a list that is just right"),
+        (places > 0 && lent.list.len() == 2 * places + 1, "a list with a byte alone"),
+        (lent.list.len() > 2 * places + 1, "a long list"),
+        (lent.result.len() == 24, "a result that is just right"),
+        (lent.result.len() == 25, "a result with a byte more"),
+        (lent.work.len() as u128 == path_work(automaton, tuple), "work that is just right"),
+        (found.weight == 0, "no weight"),
+        (found.weight > u64::from(u32::MAX), "a weight of more than four bytes"),
+        (found.start > 255, "a starting state of two bytes"),
+        (found.arcs.iter().any(|&arc| arc > 255), "an arc number of two bytes"),
+        (places > 255, "more than 255 arcs"),
+        (places > 65_535, "more than 65,535 arcs"),
+        (found.arcs.iter().any(|&arc| is_idle(&automaton.arcs[arc])), "an arc that spells and weighs nothing"),
+        (automaton.arcs.iter().any(is_idle_loop), "a loop beside the path that spells and weighs nothing"),
+    ];
+    met.into_iter().filter(|(shown, _)| *shown).map(|(_, word)| word).collect()
+}
+
+/// What would be told in a path's place if one of its arcs or its start were not there: words for what this shows.
+fn shown_by_others(automaton: &Automaton, tuple: &Tuple, found: &Found) -> Vec<&'static str> {
+    let arcs = found.arcs.iter().filter(|_| found.arcs.len() < 100).map(|&arc| (Some(arc), None));
+    let changes = arcs.chain([(None, Some(found.start))]);
+    let shown = |(arc, start)| {
+        let other = without(automaton, tuple, arc, start);
+        other.map_or(Vec::new(), |other| instead(automaton, found, &other, arc))
+    };
+    changes.flat_map(shown).collect()
+}
+
+/// Everything in a request for a path that is refused, in the order of judging: what it is, and its number.
+fn faults(table: &LentTable, lent: &PathRequest) -> Vec<(&'static str, u64)> {
+    let mut strings: Vec<Vec<u8>> = lent.tuple.split(|&byte| byte == 10).map(<[u8]>::to_vec).collect();
+    let cut = strings.pop().is_some_and(|last| !last.is_empty());
+    let cells = strings.iter().fold(u128::from(table.states), |cells, string| cells * (string.len() as u128 + 1));
+    let of_table = judge(table).err().map(|refusal| ("the table", refusal.number()));
+    let of_others = [
+        (cut, ("the text", 1)),
+        (strings.len() as u64 != table.tapes, ("the strings", 5)),
+        (strings.iter().any(|string| string.len() > 64), ("the sizes", 3)),
+        (strings.iter().flatten().any(|&byte| !is_symbol(byte)), ("the bytes", 2)),
+        ((lent.work.len() as u128) < 24 * cells, ("the work", 13)),
+        (lent.result.len() < 24, ("the result", 13)),
+    ];
+    let others = of_others.into_iter().filter(|(wrong, _)| *wrong).map(|(_, fault)| fault);
+    let mut faults: Vec<(&str, u64)> = of_table.into_iter().chain(others).collect();
+    if faults.iter().all(|fault| fault.1 == 13) {
+        let found = path(&judge(table).unwrap(), &strings);
+        faults.extend(found.filter(|found| lent.list.len() / 2 < found.arcs.len()).map(|_| ("the list", 14)));
+    }
+    faults
+}
+
+#[test]
+fn generated_paths_meet_every_answer() {
+    let mut met: BTreeMap<String, usize> = BTreeMap::new();
+    let mut meet = |what: &str| *met.entry(what.to_string()).or_insert(0) += 1;
+    for case in 0..8_000 {
+        let made = path_request(&mut Random::for_case(1, case));
+        let (Outcome::Path(outcome), Request::Path { table, request }) = (outcome(&made), &made) else {
+            panic!("an outcome of another call");
+        };
+        let faults = faults(table, request);
+        faults.windows(2).for_each(|two| meet(&format!("{} before {}", two[0].0, two[1].0)));
+        if let Some((fault, number)) = faults.first() {
+            assert_eq!(outcome.word, *number, "case {case}");
+            meet(&format!("refused {number} by {fault}"));
+            continue;
+        }
+        let (automaton, tuple) = (judge(table).unwrap(), tuple_of_text(&request.tuple).unwrap());
+        let found = path(&automaton, &tuple);
+        assert_eq!(outcome.word, if found.is_some() { 0 } else { 255 }, "case {case}");
+        let Some(found) = found else {
+            meet("none");
+            continue;
+        };
+        meet("told");
+        shown_by_path(&automaton, &tuple, request, &found).into_iter().for_each(&mut meet);
+        shown_by_others(&automaton, &tuple, &found).into_iter().for_each(&mut meet);
+    }
+    assert_eq!(met.len(), 60, "{met:?}");
+    assert!(met.values().all(|&count| count >= 5), "{met:?}");
+    assert!(met["told"] > 3_000 && met["none"] > 500 && met["refused 14 by the list"] > 500, "{met:?}");
     println!("{met:?}");
 }

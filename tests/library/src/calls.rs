@@ -1,6 +1,7 @@
 //! The calls of the static library, safe: vectors in, answers and vectors out.
 
-use tomchoen_tests::calls::{Counts, ForecastOutcome, LookupOutcome, ResultSpace, TableOutcome, TextOutcome};
+use tomchoen_tests::calls::{Counts, ResultSpace};
+use tomchoen_tests::calls::{ForecastOutcome, LookupOutcome, PathOutcome, TableOutcome, TextOutcome};
 use tomchoen_tests::memory::LentTable;
 use tomchoen_tests::refusal::Refusal;
 use tomchoen_tests::requests::{Outcome, Request};
@@ -48,6 +49,10 @@ extern "C" {
     fn tomchoen_forecast(
         tapes: usize, states: usize, arcs: usize, state_bytes: *const u8, s: usize, arc_bytes: *const u8, a: usize,
         pairs: *const u8, p: usize, result: *mut u8, r: usize, work: *mut u8, w: usize,
+    ) -> u64;
+    fn tomchoen_path(
+        tapes: usize, states: usize, arcs: usize, state_bytes: *const u8, s: usize, arc_bytes: *const u8, a: usize,
+        tuple: *const u8, t: usize, result: *mut u8, r: usize, list: *mut u8, l: usize, work: *mut u8, w: usize,
     ) -> u64;
 }
 
@@ -99,6 +104,19 @@ macro_rules! tables {
         let (states2, arcs2) = (&u.state_records, &u.arc_records);
         table!($call($first, u.tapes as usize, u.states as usize, u.arcs as usize, states2.as_ptr(), states2.len(), arcs2.as_ptr(), arcs2.len() $(, $rest)*))
     }};
+}
+
+/// The answer of a lookup as the library gives it, in work space that is lent.
+pub fn lookup(table: &LentTable, tuple: &[u8], work: &mut [u8]) -> u64 {
+    table!(tomchoen_lookup(table, tuple.as_ptr(), tuple.len(), work.as_mut_ptr(), work.len()))
+}
+
+/// The answer of a path, its result, list and work space lent.
+pub fn path(table: &LentTable, tuple: &[u8], result: &mut [u8], list: &mut [u8], work: &mut [u8]) -> u64 {
+    table!(tomchoen_path(
+        table, tuple.as_ptr(), tuple.len(), result.as_mut_ptr(), result.len(), list.as_mut_ptr(), list.len(),
+        work.as_mut_ptr(), work.len()
+    ))
 }
 
 /// What the library answers to a request, and every lent byte after it.
@@ -167,7 +185,7 @@ pub fn outcome(request: &Request) -> Outcome {
         }
         Request::Lookup { table, tuple, work } => {
             let mut work = work.clone();
-            let answer = table!(tomchoen_lookup(table, tuple.as_ptr(), tuple.len(), work.as_mut_ptr(), work.len()));
+            let answer = lookup(table, tuple, &mut work);
             let answer = if answer == 255 { Ok(None) } else { told(answer).map(Some) };
             Outcome::Lookup(LookupOutcome { answer, work })
         }
@@ -177,6 +195,12 @@ pub fn outcome(request: &Request) -> Outcome {
                 table, pairs.as_ptr(), pairs.len(), result.as_mut_ptr(), result.len(), work.as_mut_ptr(), work.len()
             ));
             Outcome::Forecast(ForecastOutcome { answer: told(answer), result, work })
+        }
+        Request::Path { table, request } => {
+            let (mut result, mut list) = (request.result.clone(), request.list.clone());
+            let (mut work, tuple) = (request.work.clone(), &request.tuple);
+            let word = path(table, tuple, &mut result, &mut list, &mut work);
+            Outcome::Path(PathOutcome { word, result, list, work })
         }
     }
 }

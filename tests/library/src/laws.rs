@@ -4,13 +4,20 @@
 //! more space and a higher limit. Where a call is refused the law says nothing, and the case counts as passed over.
 //! The last two compare tables byte for byte: given again by request 2.2; some pairs first because the same configurations are
 //! kept and reached in the same order, which is tested here and not proved.
+//!
+//! For random tables and tuples, of a path (request 2.3): its weight is the one looked up, and there is none where that
+//! is none; its arcs are a successful path that spells the tuple at that weight; a longer list gives the same path.
 
 use crate::calls::outcome;
+use tomchoen_tests::accounts::account_of;
 use tomchoen_tests::automaton::Automaton;
-use tomchoen_tests::calls::{Counts, JoinRequest, ResultSpace};
+use tomchoen_tests::calls::{Counts, JoinRequest, PathRequest, ResultSpace, NO_PATH};
 use tomchoen_tests::columns::project;
 use tomchoen_tests::automaton::Room;
+use tomchoen_tests::lookup::cells;
 use tomchoen_tests::memory::{encode, judge, LentTable, ARC_BYTES, STATE_BYTES};
+use tomchoen_tests::path::{Path, PATH_BYTES};
+use tomchoen_tests::path_cases::path_case;
 use tomchoen_tests::random::Random;
 use tomchoen_tests::requests::{join_pairs, spelled, two_tables, Outcome, Request};
 
@@ -55,9 +62,14 @@ fn drop_tapes(table: &LentTable, marked: u8) -> Option<LentTable> {
     given(&Request::DropTapes { table: table.clone(), marked, result: space(300, 1_500) })
 }
 
+/// The text of a tuple.
+fn text_of(tuple: &Tuple) -> Vec<u8> {
+    tuple.iter().flat_map(|string| [&string[..], b"\n"].concat()).collect()
+}
+
 /// The weight of a tuple, none counting above every weight; strings must be short.
 fn weight(table: &LentTable, tuple: &Tuple) -> Option<u64> {
-    let text: Vec<u8> = tuple.iter().flat_map(|string| [&string[..], b"\n"].concat()).collect();
+    let text = text_of(tuple);
     let cells = tuple.iter().fold(table.states as usize, |cells, string| cells * (string.len() + 1));
     match outcome(&Request::Lookup { table: table.clone(), tuple: text, work: vec![3; 8 * cells] }) {
         Outcome::Lookup(found) => found.answer.expect("a lookup of a short tuple is not refused"),
@@ -112,6 +124,7 @@ fn used(table: &LentTable) -> ([u64; 3], &[u8], &[u8]) {
 pub struct Found {
     pub compared: u64,
     pub tables: u64,
+    pub paths: u64,
     pub passed_over: u64,
     pub differences: Vec<String>,
 }
@@ -130,6 +143,14 @@ impl Found {
         self.tables += 1;
         if two.is_none_or(|two| used(one) != used(two)) {
             self.differences.push(format!("case {case}: {law}: another table or a refusal"));
+        }
+    }
+
+    /// Notes a comparison of two paths.
+    fn same_path(&mut self, law: &str, case: u64, one: Option<&Path>, two: Option<&Path>) {
+        self.paths += 1;
+        if one != two {
+            self.differences.push(format!("case {case}: {law}: {one:?} and {two:?}"));
         }
     }
 
@@ -217,4 +238,46 @@ pub fn check(seed: u64, case: u64, found: &mut Found) {
     part_by_part(found, random, case, &a, &c, &b, &pairs, limit, false);
     some_first(found, random, case, &a, &b, &pairs, limit);
     again(found, random, case, &a, &b, &pairs, limit);
+}
+
+/// The path of a tuple with a list of so many bytes, or the word of the call if it is neither told nor none.
+fn path(table: &LentTable, tuple: &Tuple, list: usize) -> Result<Option<Path>, u64> {
+    let cells = tuple.iter().fold(table.states as usize, |cells, string| cells * (string.len() + 1));
+    let (result, list, work) = (vec![6; PATH_BYTES], vec![6; list], vec![6; 24 * cells]);
+    let request = PathRequest { tuple: text_of(tuple), result, list, work };
+    let Outcome::Path(told) = outcome(&Request::Path { table: table.clone(), request }) else { return Ok(None) };
+    let number = |bytes: &[u8]| bytes.iter().rev().fold(0, |number, &byte| number << 8 | u64::from(byte));
+    match told.word {
+        0 => {
+            let (start, count) = (number(&told.result[16..20]) as usize, number(&told.result[20..24]) as usize);
+            let places = told.list.chunks_exact(2).map(|place| number(place) as usize);
+            Ok(Some(Path { weight: number(&told.result[..8]), start, arcs: places.take(count).collect() }))
+        }
+        NO_PATH => Ok(None),
+        word => Err(word),
+    }
+}
+
+/// The laws of a path on one case. A path that comes to no cell twice fits a list of a place for each cell.
+pub fn check_path(seed: u64, case: u64, found: &mut Found) {
+    let random = &mut Random::for_case(seed, case);
+    let (automaton, tuple) = path_case(random);
+    if tuple.iter().any(|string| string.len() > 64) {
+        found.passed_over += 1;
+        return;
+    }
+    let (table, ample) = (encode(&automaton), 2 * cells(&automaton, &tuple) as usize);
+    let told = match path(&table, &tuple, ample) {
+        Ok(told) => told,
+        Err(word) => return found.differences.push(format!("case {case}: a path with an ample list: word {word}")),
+    };
+    found.same("a path's weight", case, told.as_ref().map(|path| path.weight), weight(&table, &tuple));
+    let Some(told) = told else { return };
+    let spelled = account_of(&automaton, told.start, &told.arcs).filter(|account| account.0 == tuple);
+    found.same("the weight of a path's arcs", case, Some(told.weight), spelled.map(|account| account.1));
+    let enough = 2 * told.arcs.len();
+    for list in [enough, enough + 1, ample + 1 + random.below(99)] {
+        let other = path(&table, &tuple, list).unwrap_or(None);
+        found.same_path("a path with a longer list", case, Some(&told), other.as_ref());
+    }
 }

@@ -1,4 +1,5 @@
-//! The calls of the static library, and demand 3's laws tested on them.
+//! The calls of the static library, demand 3's laws tested on them, and tables that are timed.
 
 pub mod calls;
 pub mod laws;
+pub mod tables;

@@ -3,7 +3,8 @@
 
 use std::time::Instant;
 use tomchoen_library_tests::calls;
-use tomchoen_tests::automaton::{Arc, Automaton, Room, State};
+use tomchoen_library_tests::tables::{chain, empty_chain, endless, wheel, Order};
+use tomchoen_tests::automaton::{Automaton, Room};
 use tomchoen_tests::calls::{intersect_work, join_work, lookup_work, product_work, JoinRequest, ResultSpace};
 use tomchoen_tests::memory::{encode, ARC_BYTES, STATE_BYTES};
 use tomchoen_tests::requests::{self, Request};
@@ -33,21 +34,6 @@ fn time(name: &str, request: &Request, before: Option<f64>) -> f64 {
     library
 }
 
-/// A chain of states with so many arcs in all from each to the next or to itself, in turn; labels by `label`.
-fn chain(tapes: usize, states: usize, arcs: usize, label: impl Fn(usize, usize) -> Vec<u8>) -> Automaton {
-    let mut records = vec![State { initial: None, final_weight: None }; states];
-    records[0].initial = Some(0);
-    for state in &mut records {
-        state.final_weight = Some(1);
-    }
-    let arc = |number: usize| {
-        let source = number % states;
-        let target = if number / states % 2 == 0 { (source + 1) % states } else { source };
-        Arc { source, target, weight: number as u64 % 7, labels: (0..tapes).map(|tape| label(number, tape)).collect() }
-    };
-    Automaton { tapes, states: records, arcs: (0..arcs).map(arc).collect() }
-}
-
 /// A lookup of strings of A with just the work that it needs.
 fn lookup(automaton: &Automaton, lengths: &[usize]) -> Request {
     let strings: Vec<Vec<u8>> = lengths.iter().map(|&length| vec![b'A'; length]).collect();
@@ -69,30 +55,6 @@ fn build(automaton: &Automaton, pairs: u64) -> Request {
     Request::Intersect { table: encode(automaton), pairs, limit: 0, result, work }
 }
 
-/// The chain with one state apart whose loop makes its closing delay endless.
-fn endless(states: usize) -> Automaton {
-    let mut automaton = chain(2, states - 1, 8 * (states - 1), |_, _| b"A".to_vec());
-    automaton.states.push(State { initial: None, final_weight: None });
-    let apart = states - 1;
-    let labels = vec![Vec::new(), b"A".to_vec()];
-    automaton.arcs.push(Arc { source: apart, target: apart, weight: 1, labels: labels.clone() });
-    automaton.arcs.push(Arc { source: apart, target: 0, weight: 1, labels });
-    automaton
-}
-
-/// A wheel: an arc for each of `degree` symbols from every state, to the states that follow; `turn` takes them in the other order.
-fn wheel(states: usize, degree: usize, turn: bool) -> Automaton {
-    let arc = |number: usize| {
-        let (source, symbol) = (number / degree, number % degree);
-        let ahead = if turn { degree - symbol } else { symbol + 1 };
-        Arc { source, target: (source + ahead) % states, weight: 1, labels: vec![vec![b'A' + (symbol % 26) as u8]] }
-    };
-    let mut records = vec![State { initial: None, final_weight: None }; states];
-    records[0].initial = Some(0);
-    records[states - 1].final_weight = Some(0);
-    Automaton { tapes: 1, states: records, arcs: (0..states * degree).map(arc).collect() }
-}
-
 /// The product of two wheels.
 fn product(states: usize, degree: usize) -> Request {
     let result = space(1_024, 8_192);
@@ -105,19 +67,6 @@ fn join(states: usize) -> Request {
     let work = vec![1; join_work(Room::AMPLE, Room::AMPLE) as usize];
     let request = JoinRequest { pairs: vec![(1, 1)], limit: 0, product: space(1_024, 8_192), result: space(1_024, 8_192), work };
     Request::Join { first: encode(&wheel(states, 2, false)), second: encode(&wheel(states, 2, true)), request }
-}
-
-/// A chain of arcs without a symbol to a loop with one, its states numbered from its start or from its end.
-fn empty_chain(states: usize, backwards: bool) -> Automaton {
-    let number = |place: usize| if backwards { states - 1 - place } else { place };
-    let mut records = vec![State { initial: None, final_weight: None }; states];
-    records[number(0)].initial = Some(0);
-    records[number(states - 1)].final_weight = Some(0);
-    let step = |place: usize| Arc { source: number(place), target: number(place + 1), weight: 1, labels: vec![Vec::new()] };
-    let last = number(states - 1);
-    let mut arcs: Vec<Arc> = (0..states - 1).map(step).collect();
-    arcs.push(Arc { source: last, target: last, weight: 1, labels: vec![b"A".to_vec()] });
-    Automaton { tapes: 1, states: records, arcs }
 }
 
 /// Times a request at growing sizes.
@@ -143,8 +92,10 @@ fn main() {
     growing("lookup, 8,192 arcs, one tape, symbols", &[16, 32, 64], |n| lookup(&one, &[n]));
     let three = chain(3, 1_024, 8_192, |number, tape| if number % 4 == tape { Vec::new() } else { b"A".to_vec() });
     growing("lookup, 8,192 arcs, three tapes, symbols each", &[3, 6, 12], |n| lookup(&three, &[n, n, n]));
-    growing("lookup, arcs without a symbol, 64 symbols, states", &[256, 512, 1_024], |n| lookup(&empty_chain(n, false), &[64]));
-    growing("the same, numbered backwards, states", &[256, 512, 1_024], |n| lookup(&empty_chain(n, true), &[64]));
+    growing("lookup, arcs without a symbol, 64 symbols, states", &[256, 512, 1_024], |n| {
+        lookup(&empty_chain(n, Order::Forwards), &[64])
+    });
+    growing("the same, numbered backwards, states", &[256, 512, 1_024], |n| lookup(&empty_chain(n, Order::Backwards), &[64]));
     let labels = |number: usize, tape: usize| vec![b'A' + (number % 26) as u8; (number + tape) % 9];
     let large = |n: usize| chain(8, n, 8 * n, labels);
     growing("read, 8 tapes, 8 arcs a state, states", &sizes, |n| Request::Read {

@@ -3,8 +3,9 @@
 //!     library --cases N --laws N --seed S --keep DIR [--call NAME]
 //!
 //! It prints the seed, each difference, how often each answer was met, and last `N cases, M differences`. Of a difference DIR keeps the
-//! request and both outcomes. With --laws it also tests demand 3's laws on the calls, by weights looked up. With --call all requests are of
-//! one call: read, write, build, product, join, union, project, drop, lookup or forecast.
+//! request and both outcomes. With --laws it also tests demand 3's laws on the calls, by weights looked up, and paths
+//! beside such weights. With --call all requests are of one call: read, write, build, product, join, union, project,
+//! drop, lookup, forecast or path.
 //! Exit status: 0 without a difference, 1 with one, 2 where the comparison could not be made.
 
 
@@ -12,7 +13,9 @@ use std::collections::{BTreeMap, BTreeSet};
 use std::process::ExitCode;
 use std::{env, fs, io};
 use tomchoen_library_tests::{calls, laws};
+use tomchoen_tests::calls::{PathOutcome, NO_PATH};
 use tomchoen_tests::forecast::FORECAST_BYTES;
+use tomchoen_tests::path::PATH_BYTES;
 use tomchoen_tests::random::Random;
 use tomchoen_tests::requests::{self, Outcome, Request};
 
@@ -63,6 +66,16 @@ fn forecasts(records: &[u8]) -> String {
     if kinds.is_empty() { "no pairs".to_string() } else { kinds.into_iter().collect::<Vec<&str>>().join(", ") }
 }
 
+/// What a call for a path answered.
+fn path(told: &PathOutcome) -> String {
+    match (told.word, told.result.get(20..PATH_BYTES)) {
+        (0, Some([0, 0, 0, 0])) => "told, no arcs".to_string(),
+        (0, _) => "told".to_string(),
+        (NO_PATH, _) => "none".to_string(),
+        (number, _) => format!("refused {number:>2}"),
+    }
+}
+
 /// The name of the call, and what it answered.
 fn kind(request: &Request, outcome: &Outcome) -> String {
     let call = match request {
@@ -76,6 +89,7 @@ fn kind(request: &Request, outcome: &Outcome) -> String {
         Request::DropTapes { .. } => "drop",
         Request::Lookup { .. } => "lookup",
         Request::Forecast { .. } => "forecast",
+        Request::Path { .. } => "path",
     };
     let refusal = match outcome {
         Outcome::Table(made) => made.answer.err(),
@@ -88,6 +102,7 @@ fn kind(request: &Request, outcome: &Outcome) -> String {
             Ok(bytes) => return format!("{call}: {}", forecasts(&told.result[..told.result.len().min(bytes as usize)])),
             answer => answer.err(),
         },
+        Outcome::Path(told) => return format!("{call}: {}", path(told)),
     };
     refusal.map_or(format!("{call}: done"), |refusal| format!("{call}: refused {:>2}", refusal.number()))
 }
@@ -123,13 +138,15 @@ fn run(options: &Options) -> io::Result<u64> {
     let mut found = laws::Found::default();
     for case in 0..options.laws {
         laws::check(options.seed, case, &mut found);
+        laws::check_path(options.seed, case, &mut found);
     }
     for difference in &found.differences {
         println!("difference: {difference}");
     }
     if options.laws > 0 {
-        let laws::Found { compared, tables, passed_over, .. } = found;
-        println!("laws: {compared} weights compared, {tables} tables compared, {passed_over} passed over");
+        let laws::Found { compared, tables, paths, passed_over, .. } = found;
+        print!("laws: {compared} weights compared, {tables} tables compared, {paths} paths compared, ");
+        println!("{passed_over} passed over");
     }
     Ok(differences + found.differences.len() as u64)
 }
