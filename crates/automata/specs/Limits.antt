@@ -27,6 +27,6 @@ maxString = 64
 abbrev pub maxPairs : ℕ
 maxPairs = 4
 
--- the delay limit D
+-- the delay limit of a pair
 abbrev pub maxDelay : ℕ
 maxDelay = 64

@@ -5,13 +5,13 @@ use mathlib.Core.Logic.{_↔_, _⊎_, inl, inr, ⊎-elim}
 use mathlib.Core.Bool.{Bool, true}
 use mathlib.Core.List.{List}
 use Prim.Native.Nat.{ℕ, _≤_, _<_}
-use lib.Dec.{leb}
+use native.Mathlib.Omega.{arith}
 use lib.ListN.{length}
 use Rattle.automata.specs.Lists.{_∈_, any}
 use Rattle.automata.specs.Answer.{ok, refused}
 use Rattle.automata.specs.Space.{Space, stateCap, arcCap}
 use Rattle.automata.specs.Automaton.{Automaton, Arc, Formed}
-use Rattle.automata.specs.TapePair.{Pair, TapePair, limited}
+use Rattle.automata.specs.TapePair.{Pair, TapePair, tapesOf, limitsFit}
 use Rattle.automata.specs.Config.{Config, sameConfig, tooLong}
 use Rattle.automata.specs.ClosingDelay.{ViableByDelays}
 use Rattle.automata.specs.Closing.{closingTables, viable}
@@ -24,9 +24,8 @@ use Rattle.automata.proofs.ListFacts
 use Rattle.automata.proofs.ViableFacts
 use Rattle.automata.proofs.Configurations.{configs-decided}
 use Rattle.automata.proofs.IntersectAnswers.{refused-cases, states-over, arcs-over, step-over}
-use Rattle.laws.proofs.Lemmas.Tests.{asks-tapes, asks-pairs, judge-asks, judge-stops, judge-passes}
+use Rattle.laws.proofs.Lemmas.Tests.{asks-tapes, asks-pairs, asks-limited, asks-limits, limit-above, judge-asks, judge-stops, judge-passes}
 use Rattle.laws.proofs.Lemmas.Counting.{more-found, all-found, found-is, is-found, more-edges, all-edges}
-use borrow.Author.Tests.{leb-true, leb-false, le-leb, lt-leb}
 use Rattle.automata.proofs.AnswerFacts.{refused≢ok, judge-refuses, then-refuses}
 use Rattle.laws.proofs.Lemmas.Judging.{judge-cases, judge-on, bind-cases, over-or-within}
 
@@ -109,42 +108,42 @@ module _ {W : Type 0} (A : Automaton W) (ps : List TapePair) (space : Space) whe
       answer _ (build-delay k l c s r m x) = let h = few-states k in step-over A ps test space h (few-arcs h l) (far-too h c s r m x)
 
 -- the auto-intersection without its configurations refuses as it does
-pub build-only : {W : Type 0} (D : ℕ) (space : Space) (ps : List Pair) (A : Automaton W) (n : ℕ)
-    → (intersectOn D space ps A ≡ refused n) ↔ BuildRefused A (limited D ps) space n
+pub build-only : {W : Type 0} (space : Space) (ps : List TapePair) (A : Automaton W) (n : ℕ)
+    → (intersectOn space ps A ≡ refused n) ↔ BuildRefused A ps space n
 unfolding intersectOn
-build-only D space ps A n = (
-  λ e. build-refused A (limited D ps) space n .0
-      (⊎-elim (λ h. h) (λ (_, _, q). absurd (refused≢ok (sym q))) (bind-cases (intersect A (limited D ps) space) (λ I. ok (I .automaton)) n e)),
-  λ h. then-refuses (intersect A (limited D ps) space) (λ I. ok (I .automaton)) n (build-refused A (limited D ps) space n .1 h),
+build-only space ps A n = (
+  λ e. build-refused A ps space n .0
+      (⊎-elim (λ h. h) (λ (_, _, q). absurd (refused≢ok (sym q))) (bind-cases (intersect A ps space) (λ I. ok (I .automaton)) n e)),
+  λ h. then-refuses (intersect A ps space) (λ I. ok (I .automaton)) n (build-refused A ps space n .1 h),
 )
 
 -- and so does the call, after its tests
-pub build-call-refused : {W : Type 0} (D : ℕ) (enough : Bool) (space : Space) (ps : List Pair) (A : Automaton W) (n : ℕ)
-    → (intersectCall D enough space ps A ≡ refused n) ↔ BuildCallRefused D enough space ps A n
+pub build-call-refused : {W : Type 0} (enough : Bool) (space : Space) (ps : List TapePair) (A : Automaton W) (n : ℕ)
+    → (intersectCall enough space ps A ≡ refused n) ↔ BuildCallRefused enough space ps A n
 unfolding intersectCall
-build-call-refused D enough space ps A n = (why, answer n)
+build-call-refused enough space ps A n = (why, answer n)
   where
-    why : intersectCall D enough space ps A ≡ refused n → BuildCallRefused D enough space ps A n
-    why e = ⊎-elim (λ (x, q). subst (BuildCallRefused D enough space ps A) q (build-tape x))
-        (λ (t, e). ⊎-elim (λ (x, q). subst (BuildCallRefused D enough space ps A) q (build-pairs t x))
-        (λ (u, e). ⊎-elim (λ (x, q). subst (BuildCallRefused D enough space ps A) q (build-limit t u (leb-false D 64 x)))
-        (λ (v, e). ⊎-elim (λ (x, q). subst (BuildCallRefused D enough space ps A) q (build-work t u (leb-true D 64 v) x))
-        (λ (w, e). build-itself t u (leb-true D 64 v) w n (build-only D space ps A n .0 e))
+    why : intersectCall enough space ps A ≡ refused n → BuildCallRefused enough space ps A n
+    why e = ⊎-elim (λ (x, q). subst (BuildCallRefused enough space ps A) q (build-tape x))
+        (λ (t, e). ⊎-elim (λ (x, q). subst (BuildCallRefused enough space ps A) q (build-pairs t x))
+        (λ (u, e). ⊎-elim (λ (x, q). let (p, m, h) = limit-above ps x in subst (BuildCallRefused enough space ps A) q (build-limit t u p m h))
+        (λ (v, e). ⊎-elim (λ (x, q). subst (BuildCallRefused enough space ps A) q (build-work t u (asks-limits ps .0 v) x))
+        (λ (w, e). build-itself t u (asks-limits ps .0 v) w n (build-only space ps A n .0 e))
         (judge-cases enough _ _ n e))
-        (judge-cases (leb D 64) _ _ n e))
-        (judge-asks _ (asks-pairs ps) _ _ n e))
-        (judge-asks _ (asks-tapes (A .tapes) (named ps)) _ _ n e)
+        (judge-cases (limitsFit ps) _ _ n e))
+        (judge-asks _ (asks-limited ps) _ _ n e))
+        (judge-asks _ (asks-tapes (A .tapes) (named (tapesOf ps))) _ _ n e)
 
-    answer : (k : ℕ) → BuildCallRefused D enough space ps A k → intersectCall D enough space ps A ≡ refused k
-    answer _ (build-tape x) = judge-stops _ (asks-tapes (A .tapes) (named ps)) _ _ x
-    answer _ (build-pairs t x) = judge-passes _ (asks-tapes (A .tapes) (named ps)) _ _ _ t (judge-stops _ (asks-pairs ps) _ _ x)
-    answer _ (build-limit t u x) = judge-passes _ (asks-tapes (A .tapes) (named ps)) _ _ _ t
-        (judge-passes _ (asks-pairs ps) _ _ _ u (judge-refuses (leb D 64) _ _ (lt-leb D 64 x)))
-    answer _ (build-work t u v x) = judge-passes _ (asks-tapes (A .tapes) (named ps)) _ _ _ t
-        (judge-passes _ (asks-pairs ps) _ _ _ u (judge-on (leb D 64) _ _ _ (le-leb D 64 v) (judge-refuses enough _ _ x)))
-    answer _ (build-itself t u v w k h) = judge-passes _ (asks-tapes (A .tapes) (named ps)) _ _ _ t
-        (judge-passes _ (asks-pairs ps) _ _ _ u
-        (judge-on (leb D 64) _ _ _ (le-leb D 64 v) (judge-on enough _ _ _ w (build-only D space ps A k .1 h))))
+    answer : (k : ℕ) → BuildCallRefused enough space ps A k → intersectCall enough space ps A ≡ refused k
+    answer _ (build-tape x) = judge-stops _ (asks-tapes (A .tapes) (named (tapesOf ps))) _ _ x
+    answer _ (build-pairs t x) = judge-passes _ (asks-tapes (A .tapes) (named (tapesOf ps))) _ _ _ t (judge-stops _ (asks-limited ps) _ _ x)
+    answer _ (build-limit t u p m h) = judge-passes _ (asks-tapes (A .tapes) (named (tapesOf ps))) _ _ _ t
+        (judge-passes _ (asks-limited ps) _ _ _ u (judge-stops _ (asks-limits ps) _ _ (λ low. let l = low p m in absurd (omega arith))))
+    answer _ (build-work t u v x) = judge-passes _ (asks-tapes (A .tapes) (named (tapesOf ps))) _ _ _ t
+        (judge-passes _ (asks-limited ps) _ _ _ u (judge-passes _ (asks-limits ps) _ _ _ v (judge-refuses enough _ _ x)))
+    answer _ (build-itself t u v w k h) = judge-passes _ (asks-tapes (A .tapes) (named (tapesOf ps))) _ _ _ t
+        (judge-passes _ (asks-limited ps) _ _ _ u
+        (judge-passes _ (asks-limits ps) _ _ _ v (judge-on enough _ _ _ w (build-only space ps A k .1 h))))
 
 -- the forecast refuses by its tests alone
 pub forecast-refused : {W : Type 0} (enough : Bool) (ps : List Pair) (A : Automaton W) (n : ℕ) → (forecastCall enough ps A ≡ refused n) ↔ ForecastRefused enough ps A n

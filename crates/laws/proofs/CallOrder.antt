@@ -10,7 +10,7 @@ use Rattle.automata.specs.Answer.{Answer, ok, judge, _>>=_}
 use Rattle.automata.specs.OrderedSum.{OrderedSum, ℕ-sum}
 use Rattle.automata.specs.Automaton.{Automaton, Formed}
 use Rattle.automata.specs.Table.{weightFits}
-use Rattle.automata.specs.TapePair.{Pair, TapePair, limited}
+use Rattle.automata.specs.TapePair.{TapePair}
 use Rattle.automata.specs.Memory.{Memory, encodeTable, decodeTable, tableOf, Sound}
 use Rattle.automata.specs.IntersectCall.{intersectCall}
 use Rattle.automata.specs.TableText.{readTable, writeTable}
@@ -63,13 +63,13 @@ unfolding Sound
 put-unique InOrder a s r fits unique e = let (d, q, _) = gave-table a s r fits e in unique-records InOrder r d (unique q)
 
 -- each call
-intersect-in-order : (m : Memory) (ps : List Pair) (D : ℕ) (s : Slices) (work : List ℕ) (r : Memory) → given (intersectOutcome m ps D s work .made) ≡ ok r
-    → UniqueRecords (IntersectedInOrder (tableOf m) (limited D ps)) r
+intersect-in-order : (m : Memory) (ps : List TapePair) (s : Slices) (work : List ℕ) (r : Memory) → given (intersectOutcome m ps s work .made) ≡ ok r
+    → UniqueRecords (IntersectedInOrder (tableOf m) ps) r
 unfolding intersectOutcome build
-intersect-in-order m ps D s work r =
-    put-unique (IntersectedInOrder (tableOf m) (limited D ps)) (intersectAnswer m ps D (spaceOf s) work) s r (intersect-fits m ps D (spaceOf s) work)
-    (λ q. let (A, a, g) = intersect-parts m ps D (spaceOf s) work (tableOf r) q in
-    rw (tableOf-is m A a) (orders .intersect D _ (spaceOf s) ps A (tableOf r) (memory-formed m A a) g))
+intersect-in-order m ps s work r =
+    put-unique (IntersectedInOrder (tableOf m) ps) (intersectAnswer m ps (spaceOf s) work) s r (intersect-fits m ps (spaceOf s) work)
+    (λ q. let (A, a, g) = intersect-parts m ps (spaceOf s) work (tableOf r) q in
+    rw (tableOf-is m A a) (orders .intersect _ (spaceOf s) ps A (tableOf r) (memory-formed m A a) g))
 
 product-in-order : (a b : Memory) (s : Slices) (work : List ℕ) (r : Memory) → given (productOutcome a b s work .made) ≡ ok r
     → UniqueRecords (ProductOrder ℕ-sum (tableOf a) (tableOf b)) r
@@ -79,16 +79,16 @@ product-in-order a b s work r =
     (λ q. let (A, B, x, y, g) = product-parts a b (spaceOf s) work (tableOf r) q in
     rw (tableOf-is a A x, tableOf-is b B y) (orders .product _ (spaceOf s) A B (tableOf r) g))
 
-join-in-order : (l : JoinLent) (ps : List Pair) (a b r : Memory) → given (joinMade l ps a b) ≡ ok r
-    → UniqueRecords (JoinOrder ℕ-sum (l .delay) ps (tableOf a) (tableOf b)) r
+join-in-order : (l : JoinLent) (ps : List TapePair) (a b r : Memory) → given (joinMade l ps a b) ≡ ok r
+    → UniqueRecords (JoinOrder ℕ-sum ps (tableOf a) (tableOf b)) r
 unfolding joinOutcome conclude
 join-in-order l ps a b r =
     let p = spaceOf (l .product) in
     let s = spaceOf (l .result) in
-    put-unique (JoinOrder ℕ-sum (l .delay) ps (tableOf a) (tableOf b)) (joinAnswer a b ps (l .delay) p s (l .work)) (l .result) r
-    (join-fits a b ps (l .delay) p s (l .work))
-    (λ q. let (A, B, x, y, g) = join-parts a b ps (l .delay) p s (l .work) (tableOf r) q in
-    rw (tableOf-is a A x, tableOf-is b B y) (orders .join (lentTo (l .delay) p s (l .work)) ps A B (tableOf r) (memory-formed a A x) (memory-formed b B y) g))
+    put-unique (JoinOrder ℕ-sum ps (tableOf a) (tableOf b)) (joinAnswer a b ps p s (l .work)) (l .result) r
+    (join-fits a b ps p s (l .work))
+    (λ q. let (A, B, x, y, g) = join-parts a b ps p s (l .work) (tableOf r) q in
+    rw (tableOf-is a A x, tableOf-is b B y) (orders .join (lentTo p s (l .work)) ps A B (tableOf r) (memory-formed a A x) (memory-formed b B y) g))
 
 union-in-order : (a b : Memory) (s : Slices) (r : Memory) → given (unionOutcome a b s) ≡ ok r → UniqueRecords (OneAfterOther (tableOf a) (tableOf b)) r
 unfolding unionOutcome
@@ -122,12 +122,12 @@ input-formed x i e =
 
 -- the program: the table that it writes
 agree-in-order : (x : List ℕ) (i : Input) (R : Automaton ℕ) → readInput x ≡ ok i
-    → intersectCall (i .limit) true (record { states = stateSpace; arcs = arcSpace }) (i .pairs) (i .table) ≡ ok R
-    → Unique (IntersectedInOrder (i .table) (limited (i .limit) (i .pairs))) R × (agree x ≡ writeTable R)
+    → intersectCall true (record { states = stateSpace; arcs = arcSpace }) (i .pairs) (i .table) ≡ ok R
+    → Unique (IntersectedInOrder (i .table) (i .pairs)) R × (agree x ≡ writeTable R)
 unfolding agree writeOutput
 agree-in-order x i R e g = (
-  orders .intersect (i .limit) true _ (i .pairs) (i .table) R (input-formed x i e) g,
-  ap (λ r. writeOutput (r >>= λ i. intersectCall (i .limit) true (record { states = stateSpace; arcs = arcSpace }) (i .pairs) (i .table))) e ∙ ap writeOutput g,
+  orders .intersect true _ (i .pairs) (i .table) R (input-formed x i e) g,
+  ap (λ r. writeOutput (r >>= λ i. intersectCall true (record { states = stateSpace; arcs = arcSpace }) (i .pairs) (i .table))) e ∙ ap writeOutput g,
 )
 
 -- Every call that builds a table leaves it in the order of request 2.2, and no other bytes of records are in that
@@ -152,8 +152,8 @@ intersection-lines {W} A R ps formed o =
     (lines-in-order (o .intersection .automaton) _ _ (subst (λ (T : Automaton W). Formed T) (sym (o .table)) formed) (o .order .result-ordered))
 
 -- and so does a join, whose last step changes labels alone
-join-lines : (S : OrderedSum) (D : ℕ) (ps : List Pair) (A B J : Automaton (S .W)) → Formed J → JoinOrder S D ps A B J → PrintedOrder J
-join-lines S D ps A B J formed o =
+join-lines : (S : OrderedSum) (ps : List TapePair) (A B J : Automaton (S .W)) → Formed J → JoinOrder S ps A B J → PrintedOrder J
+join-lines S ps A B J formed o =
     let K = o .kept in
     let I = K .intersection in
     lines-in-order J (inputState I) (inputArc I) formed
@@ -164,13 +164,13 @@ join-lines S D ps A B J formed o =
 pub calls-printed : CallsPrinted
 unfolding Sound
 calls-printed = record {
-  intersect = λ m ps D s work r e.
-      let u = intersect-in-order m ps D s work r e in
-      intersection-lines (tableOf m) (tableOf r) (limited D ps) (memory-formed r (tableOf r) (u .sound)) (u .ordered);
+  intersect = λ m ps s work r e.
+      let u = intersect-in-order m ps s work r e in
+      intersection-lines (tableOf m) (tableOf r) ps (memory-formed r (tableOf r) (u .sound)) (u .ordered);
   product = λ a b s work r e.
       let u = product-in-order a b s work r e in
       lines-in-order (tableOf r) _ _ (memory-formed r (tableOf r) (u .sound)) (u .ordered .result-ordered);
   join = λ l ps a b r e.
       let u = join-in-order l ps a b r e in
-      join-lines ℕ-sum (l .delay) ps (tableOf a) (tableOf b) (tableOf r) (memory-formed r (tableOf r) (u .sound)) (u .ordered);
+      join-lines ℕ-sum ps (tableOf a) (tableOf b) (tableOf r) (memory-formed r (tableOf r) (u .sound)) (u .ordered);
 }

@@ -11,7 +11,7 @@ use Rattle.automata.specs.Answer.{_>>=_, Answer, ok, refused, judge}
 use Rattle.automata.specs.OrderedSum.{ℕ-sum}
 use Rattle.automata.specs.Automaton.{Automaton, size}
 use Rattle.automata.specs.Table.{weightFits, WellFormed}
-use Rattle.automata.specs.TapePair.{Pair}
+use Rattle.automata.specs.TapePair.{Pair, TapePair}
 use Rattle.automata.specs.Lists.{and}
 use Rattle.automata.specs.Forecast.{Forecast}
 use Rattle.automata.specs.Memory.{Memory, decodeTable}
@@ -123,14 +123,14 @@ read-call-refused : (x : List ℕ) (s : Slices) (n : ℕ) → (readOutcome x s .
 unfolding readOutcome readAnswer
 read-call-refused x s n = Iff·trans (put-refused (readAnswer x (spaceOf s)) s n) (read-refused (spaceOf s) x n)
 
-intersect-refused : (m : Memory) (ps : List Pair) (D : ℕ) (s : Slices) (work : List ℕ) (n : ℕ)
-    → (intersectOutcome m ps D s work .made .answer ≡ refused n)
-    ↔ OneTableRefused m (λ A. BuildCallRefused D (enough (buildWork (spaceOf s) (size A)) work) (spaceOf s) ps A) n
+intersect-refused : (m : Memory) (ps : List TapePair) (s : Slices) (work : List ℕ) (n : ℕ)
+    → (intersectOutcome m ps s work .made .answer ≡ refused n)
+    ↔ OneTableRefused m (λ A. BuildCallRefused (enough (buildWork (spaceOf s) (size A)) work) (spaceOf s) ps A) n
 unfolding intersectOutcome intersectAnswer build
-intersect-refused m ps D s work n = Iff·trans (put-refused (intersectAnswer m ps D (spaceOf s) work) s n)
-    (one-table m (λ A. intersectCall D (enough (buildWork (spaceOf s) (size A)) work) (spaceOf s) ps A)
-    (λ A. BuildCallRefused D (enough (buildWork (spaceOf s) (size A)) work) (spaceOf s) ps A)
-    (λ A. build-call-refused D (enough (buildWork (spaceOf s) (size A)) work) (spaceOf s) ps A) n)
+intersect-refused m ps s work n = Iff·trans (put-refused (intersectAnswer m ps (spaceOf s) work) s n)
+    (one-table m (λ A. intersectCall (enough (buildWork (spaceOf s) (size A)) work) (spaceOf s) ps A)
+    (λ A. BuildCallRefused (enough (buildWork (spaceOf s) (size A)) work) (spaceOf s) ps A)
+    (λ A. build-call-refused (enough (buildWork (spaceOf s) (size A)) work) (spaceOf s) ps A) n)
 
 -- a table, then the forecasts, whatever is asked of the space
 forecast-answer-refused : (m : Memory) (ps : List Pair) (room : Bool) (work : List ℕ) (n : ℕ)
@@ -168,14 +168,14 @@ product-refused a b s work n = Iff·trans (put-refused (productAnswer a b (space
     (ProductCallRefused ℕ-sum weightFits (enough (productWork (spaceOf s)) work) (spaceOf s))
     (λ A B. product-call-refused ℕ-sum weightFits (spaceOf s) A B (enough (productWork (spaceOf s)) work)) n)
 
-join-call-refused : (a b : Memory) (ps : List Pair) (D : ℕ) (p s : Slices) (work : List ℕ) (n : ℕ)
-    → (joinOutcome a b ps D p s work .made .answer ≡ refused n)
-    ↔ TwoTablesRefused a b (JoinRefused ℕ-sum weightFits (lentTo D (spaceOf p) (spaceOf s) work) ps) n
+join-call-refused : (a b : Memory) (ps : List TapePair) (p s : Slices) (work : List ℕ) (n : ℕ)
+    → (joinOutcome a b ps p s work .made .answer ≡ refused n)
+    ↔ TwoTablesRefused a b (JoinRefused ℕ-sum weightFits (lentTo (spaceOf p) (spaceOf s) work) ps) n
 unfolding joinOutcome joinAnswer conclude
-join-call-refused a b ps D p s work n = Iff·trans (put-refused (joinAnswer a b ps D (spaceOf p) (spaceOf s) work) s n)
-    (two-tables a b (join ℕ-sum weightFits (lentTo D (spaceOf p) (spaceOf s) work) ps)
-    (JoinRefused ℕ-sum weightFits (lentTo D (spaceOf p) (spaceOf s) work) ps)
-    (join-refused ℕ-sum weightFits (lentTo D (spaceOf p) (spaceOf s) work) ps) n)
+join-call-refused a b ps p s work n = Iff·trans (put-refused (joinAnswer a b ps (spaceOf p) (spaceOf s) work) s n)
+    (two-tables a b (join ℕ-sum weightFits (lentTo (spaceOf p) (spaceOf s) work) ps)
+    (JoinRefused ℕ-sum weightFits (lentTo (spaceOf p) (spaceOf s) work) ps)
+    (join-refused ℕ-sum weightFits (lentTo (spaceOf p) (spaceOf s) work) ps) n)
 
 union-call-refused : (a b : Memory) (s : Slices) (n : ℕ) → (unionOutcome a b s .answer ≡ refused n) ↔ TwoTablesRefused a b (UnionRefused (spaceOf s)) n
 unfolding unionOutcome unionAnswer

@@ -7,7 +7,7 @@ use Rattle.automata.specs.Answer.{Answer, ok, _>>=_}
 use Rattle.automata.specs.OrderedSum.{ℕ-sum}
 use Rattle.automata.specs.Automaton.{size}
 use Rattle.automata.specs.Table.{weightFits}
-use Rattle.automata.specs.TapePair.{Pair}
+use Rattle.automata.specs.TapePair.{TapePair}
 use Rattle.automata.specs.IntersectCall.{intersectCall}
 use Rattle.automata.specs.Product.{product}
 use Rattle.automata.specs.Join.{join}
@@ -62,10 +62,10 @@ given-same o o′ r h e =
     (r′, g, ok-injective (trim r′) (trim r) q)
 
 -- outcomes depend on what the memory lent decodes to alone
-keep-alike : (m m′ : Memory) (ps : List Pair) (D : ℕ) (s : Slices) (w : List ℕ) → decodeTable m′ ≡ decodeTable m
-    → intersectOutcome m′ ps D s w ≡ intersectOutcome m ps D s w
+keep-alike : (m m′ : Memory) (ps : List TapePair) (s : Slices) (w : List ℕ) → decodeTable m′ ≡ decodeTable m
+    → intersectOutcome m′ ps s w ≡ intersectOutcome m ps s w
 unfolding intersectOutcome intersectAnswer
-keep-alike m m′ ps D s w e = ap (λ r. build (r >>= λ A. intersectCall D (enough (buildWork (spaceOf s) (size A)) w) (spaceOf s) ps A) s w) e
+keep-alike m m′ ps s w e = ap (λ r. build (r >>= λ A. intersectCall (enough (buildWork (spaceOf s) (size A)) w) (spaceOf s) ps A) s w) e
 
 multiply-alike : (m m′ k k′ : Memory) (s : Slices) (w : List ℕ) → decodeTable m′ ≡ decodeTable m → decodeTable k′ ≡ decodeTable k
     → productOutcome m′ k′ s w ≡ productOutcome m k s w
@@ -74,11 +74,11 @@ multiply-alike m m′ k k′ s w e f =
     ap (λ r. build (r >>= λ A. decodeTable k′ >>= λ B. product ℕ-sum weightFits (enough (productWork (spaceOf s)) w) (spaceOf s) A B) s w) e
     ∙ ap (λ q. build (decodeTable m >>= λ A. q >>= λ B. product ℕ-sum weightFits (enough (productWork (spaceOf s)) w) (spaceOf s) A B) s w) f
 
-join-alike : (m m′ k k′ : Memory) (l : JoinLent) (ps : List Pair) → decodeTable m′ ≡ decodeTable m → decodeTable k′ ≡ decodeTable k
+join-alike : (m m′ k k′ : Memory) (l : JoinLent) (ps : List TapePair) → decodeTable m′ ≡ decodeTable m → decodeTable k′ ≡ decodeTable k
     → joinMade l ps m′ k′ ≡ joinMade l ps m k
 unfolding joinOutcome joinAnswer conclude
 join-alike m m′ k k′ l ps e f =
-    let t = lentTo (l .delay) (spaceOf (l .product)) (spaceOf (l .result)) (l .work) in
+    let t = lentTo (spaceOf (l .product)) (spaceOf (l .result)) (l .work) in
     ap (λ r. put (r >>= λ A. decodeTable k′ >>= λ B. join ℕ-sum weightFits t ps A B) (l .result)) e
     ∙ ap (λ q. put (decodeTable m >>= λ A. q >>= λ B. join ℕ-sum weightFits t ps A B) (l .result)) f
 
@@ -102,13 +102,13 @@ pub calls-again : (c c′ : Calls) → NoLess c c′ → Again c c′
 unfolding made
 calls-again _ _ (no-less-table _ _ m m′ em em′ h) r e = (m′, em′, h ∙ ap trim (ok-injective m r (sym em ∙ e)))
 calls-again _ _ (no-less-reading x s s′ h) r e = given-same (readOutcome x s) (readOutcome x s′) r (calls-given-again .read x s s′ r h e) e
-calls-again _ _ (no-less-keeping c c′ ps D D′ s s′ w w′ h d l hs hw) r e =
+calls-again _ _ (no-less-keeping c c′ ps qs s s′ w w′ h k hs hw) r e =
     let (m, em, g) = bind-ok (made c) _ r e in
     let (m′, em′, t₀) = calls-again c c′ h m em in
     let t = same-decoded m m′ t₀ in
-    let g′ : given (intersectOutcome m′ ps D s w .made) ≡ ok r = ap (λ (o : Built). given (o .made)) (keep-alike m m′ ps D s w t) ∙ g in
-    let (r′, q, u) = given-same (intersectOutcome m′ ps D s w .made) (intersectOutcome m′ ps D′ s′ w′ .made) r
-    (calls-given-again .intersect m′ ps D D′ s s′ w w′ r d l hs (hw m′ em′) g′) g′ in
+    let g′ : given (intersectOutcome m′ ps s w .made) ≡ ok r = ap (λ (o : Built). given (o .made)) (keep-alike m m′ ps s w t) ∙ g in
+    let (r′, q, u) = given-same (intersectOutcome m′ ps s w .made) (intersectOutcome m′ qs s′ w′ .made) r
+    (calls-given-again .intersect m′ ps qs s s′ w w′ r k hs (hw m′ em′) g′) g′ in
     (r′, bind-pass (made c′) _ m′ r′ em′ q, u)
 calls-again _ _ (no-less-multiplying c c′ d d′ s s′ w w′ h i hs hw) r e =
     let (m, em, g₀) = bind-ok (made c) _ r e in
@@ -121,7 +121,7 @@ calls-again _ _ (no-less-multiplying c c′ d d′ s s′ w w′ h i hs hw) r e 
     let (r′, q, u) = given-same (productOutcome m′ k′ s w .made) (productOutcome m′ k′ s′ w′ .made) r
     (calls-given-again .product m′ k′ s s′ w w′ r hs hw g′) g′ in
     (r′, bind-pass (made c′) _ m′ r′ em′ (bind-pass (made d′) _ k′ r′ ek′ q), u)
-calls-again _ _ (no-less-joining l l′ ps c c′ d d′ h i hd hl hp hr hw) r e =
+calls-again _ _ (no-less-joining l l′ ps qs c c′ d d′ h i hl hp hr hw) r e =
     let (m, em, g₀) = bind-ok (made c) _ r e in
     let (k, ek, g) = bind-ok (made d) _ r g₀ in
     let (m′, em′, t₀) = calls-again c c′ h m em in
@@ -129,7 +129,7 @@ calls-again _ _ (no-less-joining l l′ ps c c′ d d′ h i hd hl hp hr hw) r e
     let (k′, ek′, v₀) = calls-again d d′ i k ek in
     let v = same-decoded k k′ v₀ in
     let g′ : given (joinMade l ps m′ k′) ≡ ok r = ap given (join-alike m m′ k k′ l ps t v) ∙ g in
-    let (r′, q, u) = given-same (joinMade l ps m′ k′) (joinMade l′ ps m′ k′) r (calls-given-again .join l l′ ps m′ k′ r hd hl hp hr hw g′) g′ in
+    let (r′, q, u) = given-same (joinMade l ps m′ k′) (joinMade l′ qs m′ k′) r (calls-given-again .join l l′ ps qs m′ k′ r hl hp hr hw g′) g′ in
     (r′, bind-pass (made c′) _ m′ r′ em′ (bind-pass (made d′) _ k′ r′ ek′ q), u)
 calls-again _ _ (no-less-uniting c c′ d d′ s s′ h i hs) r e =
     let (m, em, g₀) = bind-ok (made c) _ r e in
@@ -167,9 +167,9 @@ stand : (c : Calls) → Gave c → Stands c → AllStand c
 unfolding made
 stand (lent m) g h = h m refl
 stand (reading x s) g h = h
-stand (keeping c ps D s w) (r, e) h =
+stand (keeping c ps s w) (r, e) h =
     let (m, em, g) = bind-ok (made c) _ r e in
-    (stand c (m, em) (λ k. one-value Sound m k em (kept-call m ps D s w r g .source .there)), h)
+    (stand c (m, em) (λ k. one-value Sound m k em (kept-call m ps s w r g .source .there)), h)
 stand (multiplying c d s w) (r, e) h =
     let (m, em, g₀) = bind-ok (made c) _ r e in
     let (k, ek, g) = bind-ok (made d) _ r g₀ in
@@ -197,7 +197,7 @@ result-stands : (c : Calls) → IsCall c → Stands c
 unfolding made
 result-stands (lent m) t r e = absurd (t m refl)
 result-stands (reading x s) t r e = read-given x s r e .there
-result-stands (keeping c ps D s w) t r e = let (m, _, g) = bind-ok (made c) _ r e in kept-call m ps D s w r g .result .there
+result-stands (keeping c ps s w) t r e = let (m, _, g) = bind-ok (made c) _ r e in kept-call m ps s w r g .result .there
 result-stands (multiplying c d s w) t r e =
     let (m, _, g₀) = bind-ok (made c) _ r e in
     let (k, _, g) = bind-ok (made d) _ r g₀ in

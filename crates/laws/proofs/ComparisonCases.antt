@@ -6,8 +6,8 @@ use Prim.Native.Nat.{_≤_}
 use native.Mathlib.Omega.{arith}
 use lib.Dec.{leb→le}
 use lib.ListN.{length}
-use Rattle.automata.specs.Lists.{_∈_, All}
-use Rattle.automata.specs.TapePair.{Pair, reading as readingOf}
+use Rattle.automata.specs.Lists.{here, there, _∈_, All}
+use Rattle.automata.specs.TapePair.{Pair, TapePair, tapesOf, reading as readingOf}
 use Rattle.automata.specs.Explore.{reached, edges}
 use Rattle.automata.specs.Trim.{trimmed}
 use Rattle.automata.specs.Closing.{closingTables, viable}
@@ -28,7 +28,8 @@ use Rattle.automata.specs.Calls.Join.{joinAnswer, joinOutcome}
 use Rattle.automata.specs.Calls.Union.{unionAnswer, unionOutcome}
 use Rattle.automata.specs.Calls.Project.{projectAnswer, projectOutcome}
 use Rattle.automata.specs.Calls.Drop.{maskOf, dropAnswer, dropOutcome}
-use Rattle.automata.specs.Cases.{bytes, pair, onward, two}
+use Rattle.automata.specs.Cases.{bytes, pair, tapePair, onward, two}
+use Rattle.laws.specs.GivenAgain.{NoLower}
 use Rattle.laws.specs.CallLaws.{JoinLent, WiderSlices}
 use Rattle.laws.specs.CallCases.{slices}
 use Rattle.laws.specs.CallTrees.{Calls, lent, reading, joining, made, Gave, given-table, no-less-table, no-less-joining}
@@ -50,7 +51,7 @@ use Rattle.laws.proofs.DemandThree.{same-table, alike-refl}
 
 -- what is lent to a join
 abbrev pub ample : JoinLent
-ample = record { delay = 0; product = slices 8 8; result = slices 8 8; work = zeros 4000 }
+ample = record { product = slices 8 8; result = slices 8 8; work = zeros 4000 }
 
 -- the table `onward`, and its text read by the call; the table `two`
 abbrev pub one-tape : Calls
@@ -62,8 +63,12 @@ from-text = reading (bytes "  1     2     1\n         0         -\n         -   
 abbrev pub two-tapes : Calls
 two-tapes = lent (encodeTable two)
 
-abbrev pub on : List Pair
-on = pair 1 1 ∷ []
+-- tape 1 of each, with the limit 0 and with a higher one
+abbrev pub on : List TapePair
+on = tapePair 1 1 0 ∷ []
+
+abbrev pub on-higher : List TapePair
+on-higher = tapePair 1 1 64 ∷ []
 
 -- the same table, lent and read
 pub same-tables : Alike one-tape from-text
@@ -74,12 +79,20 @@ same-tables = same-table one-tape from-text _ _ onward refl refl refl refl
 pub wider : WiderSlices (slices 8 8) (slices 8 8)
 wider = record { states = omega arith; arcs = omega arith }
 
+-- no limit lower
+pub no-lower : NoLower on on-higher
+no-lower = record { wider = (refl, refl, omega arith, tt); fit = λ q m. low m }
+  where
+    low : {q : TapePair} → q ∈ on-higher → q .limit ≤ 64
+    low (here e) = rw e (omega arith)
+    low (there m) = elim m [ ]
+
 pub enough-work : joinWork (spaceOf (slices 8 8)) (spaceOf (slices 8 8)) ≤ length (zeros 4000)
 unfolding joinWork productWork buildWork
 enough-work = leb→le 3456 4000 tt
 
 -- all pairs later
-pub later-all : SharedOut on [] on
+pub later-all : SharedOut (tapesOf on) [] (tapesOf on-higher)
 later-all = record { all = λ p. (inr, ⊎-elim (λ m. absurd (no-member m)) (λ m. m)); apart = λ p m. absurd (no-member m) }
   where
     no-member : {p : Pair} → p ∈ [] → ⊥
@@ -103,56 +116,56 @@ examples =
     ∷ record {
       calls = _;
       says = _;
-      compared = exchanged ample ample on from-text from-text two-tapes two-tapes (alike-refl from-text) (alike-refl two-tapes);
+      compared = exchanged ample ample on on-higher from-text from-text two-tapes two-tapes refl (alike-refl from-text) (alike-refl two-tapes);
       gave = ((_, refl), ((_, refl), tt));
     }
     ∷ record {
       calls = _;
       says = _;
-      compared = exchanged-chosen ample ample (slices 8 8) on from-text from-text two-tapes two-tapes (alike-refl from-text) (alike-refl two-tapes);
+      compared = exchanged-chosen ample ample (slices 8 8) on on-higher from-text from-text two-tapes two-tapes refl (alike-refl from-text) (alike-refl two-tapes);
       gave = ((_, refl), ((_, refl), tt));
     }
     ∷ record {
       calls = _;
       says = _;
-      compared = first-in-parts (slices 4 4) ample ample ample on one-tape one-tape from-text from-text two-tapes two-tapes two-tapes
-          (alike-refl one-tape) (alike-refl from-text) (alike-refl two-tapes) (alike-refl two-tapes);
+      compared = first-in-parts (slices 4 4) ample ample ample on on-higher on one-tape one-tape from-text from-text two-tapes two-tapes two-tapes
+          refl refl (alike-refl one-tape) (alike-refl from-text) (alike-refl two-tapes) (alike-refl two-tapes);
       gave = ((_, refl), ((_, refl), ((_, refl), tt)));
     }
     ∷ record {
       calls = _;
       says = _;
-      compared = first-united (slices 4 4) (slices 8 8) ample ample ample on one-tape one-tape from-text from-text two-tapes two-tapes two-tapes
-          (alike-refl one-tape) (alike-refl from-text) (alike-refl two-tapes) (alike-refl two-tapes);
+      compared = first-united (slices 4 4) (slices 8 8) ample ample ample on on-higher on one-tape one-tape from-text from-text two-tapes two-tapes two-tapes
+          refl refl (alike-refl one-tape) (alike-refl from-text) (alike-refl two-tapes) (alike-refl two-tapes);
       gave = ((_, refl), ((_, refl), tt));
     }
     ∷ record {
       calls = _;
       says = _;
-      compared = second-in-parts (slices 4 4) ample ample ample on two-tapes two-tapes two-tapes two-tapes one-tape one-tape one-tape
-          (alike-refl two-tapes) (alike-refl two-tapes) (alike-refl one-tape) (alike-refl one-tape);
+      compared = second-in-parts (slices 4 4) ample ample ample on on on-higher two-tapes two-tapes two-tapes two-tapes one-tape one-tape one-tape
+          refl refl (alike-refl two-tapes) (alike-refl two-tapes) (alike-refl one-tape) (alike-refl one-tape);
       gave = ((_, refl), ((_, refl), ((_, refl), tt)));
     }
     ∷ record {
       calls = _;
       says = _;
-      compared = second-united (slices 4 4) (slices 8 8) ample ample ample on two-tapes two-tapes two-tapes two-tapes one-tape one-tape one-tape
-          (alike-refl two-tapes) (alike-refl two-tapes) (alike-refl one-tape) (alike-refl one-tape);
+      compared = second-united (slices 4 4) (slices 8 8) ample ample ample on on on-higher two-tapes two-tapes two-tapes two-tapes one-tape one-tape one-tape
+          refl refl (alike-refl two-tapes) (alike-refl two-tapes) (alike-refl one-tape) (alike-refl one-tape);
       gave = ((_, refl), ((_, refl), tt));
     }
     ∷ record {
       calls = _;
       says = _;
-      compared = some-pairs-first ample ample 0 (slices 8 8) (slices 8 8) (zeros 4000) on [] on one-tape from-text two-tapes two-tapes later-all
+      compared = some-pairs-first ample ample (slices 8 8) (slices 8 8) (zeros 4000) on [] on-higher one-tape from-text two-tapes two-tapes later-all
           same-tables (alike-refl two-tapes);
       gave = ((_, refl), ((_, refl), tt));
     }
     ∷ record {
       calls = _;
       says = _;
-      compared = given-again (joining ample on one-tape two-tapes) (joining ample on from-text two-tapes)
-          (no-less-joining ample ample on one-tape from-text two-tapes two-tapes (no-less-table one-tape from-text _ _ refl refl refl)
-          (no-less-table two-tapes two-tapes _ _ refl refl refl) (omega arith) (omega arith) wider wider enough-work);
+      compared = given-again (joining ample on one-tape two-tapes) (joining ample on-higher from-text two-tapes)
+          (no-less-joining ample ample on on-higher one-tape from-text two-tapes two-tapes (no-less-table one-tape from-text _ _ refl refl refl)
+          (no-less-table two-tapes two-tapes _ _ refl refl refl) no-lower wider wider enough-work);
       gave = ((_, refl), tt);
     }
     ∷ []

@@ -10,7 +10,7 @@ use lib.ListN.{length}
 use Rattle.automata.specs.Lists.{_∈_}
 use Rattle.automata.specs.Answer.{_>>=_, Answer, ok, refused}
 use Rattle.automata.specs.Automaton.{Automaton, Arc, Formed}
-use Rattle.automata.specs.TapePair.{Pair, TapePair, limited, firstLabel, secondLabel}
+use Rattle.automata.specs.TapePair.{Pair, TapePair, firstLabel, secondLabel}
 use Rattle.automata.specs.Memory.{Memory, tableOf}
 use Rattle.automata.specs.Config.{Config}
 use Rattle.automata.specs.Viable.{EachPair}
@@ -81,7 +81,7 @@ told : (m : Memory) (ps : List Pair) (room : Bool) (fs : List Forecast) → Told
 told m ps room fs t = record {
   judged = t .judged;
   are = t .are;
-  hold = λ D. forecast-holds (tableOf m) (well-formed (tableOf m) (sound-well-formed m (t .judged))) (limited D ps);
+  hold = λ qs _. forecast-holds (tableOf m) (well-formed (tableOf m) (sound-well-formed m (t .judged))) qs;
   limit-not-read = forecast-limit (tableOf m);
 }
 

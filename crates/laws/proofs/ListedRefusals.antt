@@ -132,10 +132,10 @@ build-listed _ (build-states _) = (omega arith, omega arith)
 build-listed _ (build-arcs _ _) = (omega arith, omega arith)
 build-listed _ (build-delay _ _ _ _ _ _ _) = (omega arith, omega arith)
 
-build-call-listed : {W : Type 0} {D : ℕ} {enough : Bool} {space : Space} {ps : List Pair} {A : Automaton W} (n : ℕ) → BuildCallRefused D enough space ps A n → Listed n
+build-call-listed : {W : Type 0} {enough : Bool} {space : Space} {ps : List TapePair} {A : Automaton W} (n : ℕ) → BuildCallRefused enough space ps A n → Listed n
 build-call-listed _ (build-tape _) = (omega arith, omega arith)
 build-call-listed _ (build-pairs _ _) = (omega arith, omega arith)
-build-call-listed _ (build-limit _ _ _) = (omega arith, omega arith)
+build-call-listed _ (build-limit _ _ _ _ _) = (omega arith, omega arith)
 build-call-listed _ (build-work _ _ _ _) = (omega arith, omega arith)
 build-call-listed _ (build-itself _ _ _ _ n h) = build-listed n h
 
@@ -155,11 +155,11 @@ product-call-listed _ (product-width _) = (omega arith, omega arith)
 product-call-listed _ (product-work _ _) = (omega arith, omega arith)
 product-call-listed _ (product-itself _ _ n h) = product-listed n h
 
-join-listed : {S : OrderedSum} {fits : S .W → Bool} {lent : Lent} {ps : List Pair} {A B : Automaton (S .W)} (n : ℕ) → JoinRefused S fits lent ps A B n → Listed n
+join-listed : {S : OrderedSum} {fits : S .W → Bool} {lent : Lent} {ps : List TapePair} {A B : Automaton (S .W)} (n : ℕ) → JoinRefused S fits lent ps A B n → Listed n
 join-listed _ (join-width _) = (omega arith, omega arith)
 join-listed _ (join-tape _ _) = (omega arith, omega arith)
 join-listed _ (join-pairs _ _ _) = (omega arith, omega arith)
-join-listed _ (join-limit _ _ _ _) = (omega arith, omega arith)
+join-listed _ (join-limit _ _ _ _ _ _) = (omega arith, omega arith)
 join-listed _ (join-work _ _ _ _ _) = (omega arith, omega arith)
 join-listed _ (join-product _ n h) = product-listed n h
 join-listed _ (join-build _ _ _ n h) = build-listed n h
@@ -233,11 +233,11 @@ listed-refusals = record {
   table = table-listed;
   read = λ x s n e. text-listed (spaceOf s) x n (calls-refused .read x s n .0 e);
   write = λ m output n e. one-listed m _ (λ A. write-listed) n (calls-refused .write m output n .0 e);
-  intersect = λ m ps D s work n e. one-listed m _ (λ A. build-call-listed) n (calls-refused .intersect m ps D s work n .0 e);
+  intersect = λ m ps s work n e. one-listed m _ (λ A. build-call-listed) n (calls-refused .intersect m ps s work n .0 e);
   forecast = λ m ps work n e. one-listed m _ (λ A. forecast-listed) n (calls-refused .forecast m ps work n .0 e);
   forecastRecorded = λ m ps result work n e. one-listed m _ (λ A. forecast-listed) n (calls-refused .forecastRecorded m ps result work n .0 e);
   product = λ a b s work n e. two-listed a b _ (λ A B. product-call-listed) n (calls-refused .product a b s work n .0 e);
-  join = λ a b ps D p s work n e. two-listed a b _ (λ A B. join-listed) n (calls-refused .join a b ps D p s work n .0 e);
+  join = λ a b ps p s work n e. two-listed a b _ (λ A B. join-listed) n (calls-refused .join a b ps p s work n .0 e);
   union = λ a b s n e. two-listed a b _ (λ A B. union-listed) n (calls-refused .union a b s n .0 e);
   project = λ m js s n e. one-listed m _ (λ A. project-listed) n (calls-refused .project m js s n .0 e);
   dropTapes = λ m mask s n e. one-listed m _ (λ A. drop-listed) n (calls-refused .dropTapes m mask s n .0 e);

@@ -11,8 +11,8 @@ use Rattle.automata.specs.Answer.{ok}
 use Rattle.automata.specs.Space.{Space}
 use Rattle.automata.specs.OrderedSum.{OrderedSum}
 use Rattle.automata.specs.Automaton.{Automaton, Tuple, Formed}
-use Rattle.automata.specs.TapePair.{Pair, TapePair, limited}
-use Rattle.automata.specs.Tapes.{seconds, moved, chosen, dropAt, placeAfter}
+use Rattle.automata.specs.TapePair.{TapePair, tapesOf, behind, limitsFit}
+use Rattle.automata.specs.Tapes.{seconds, chosen, dropAt, placeAfter}
 use Rattle.automata.specs.Intersect.{intersect}
 use Rattle.automata.specs.IntersectCall.{named, distinct, intersectOn, intersectCall}
 use Rattle.automata.specs.Product.{product}
@@ -50,14 +50,15 @@ one-union A B R R′ o p =
     one-table R′ R (p .tapes ∙ sym (o .tapes)) (p .states ∙ sym (o .states)) (p .arcs ∙ sym (o .arcs))
 
 -- two joins by the same pairs are one table
-one-join : (S : OrderedSum) (D : ℕ) (ps : List Pair) (A B J J′ : Automaton (S .W)) → JoinOrder S D ps A B J → JoinOrder S D ps A B J′ → J′ ≡ J
-one-join S D ps A B J J′ o p =
-    let pairs = moved (λ j. A .tapes + j) ps in
+one-join : (S : OrderedSum) (ps : List TapePair) (A B J J′ : Automaton (S .W)) → JoinOrder S ps A B J → JoinOrder S ps A B J′ → J′ ≡ J
+one-join S ps A B J J′ o p =
+    let pairs = behind (A .tapes) ps in
+    let set = seconds (tapesOf pairs) in
     let P : p .P ≡ o .P = products-same S A B (p .P) (o .P) (p .product) (o .product) in
-    let K : p .K ≡ o .K = one-result (o .P) (limited D pairs) (o .K) (p .K) (o .kept)
-    (subst (λ (Q : Automaton (S .W)). IntersectedInOrder Q (limited D pairs) (p .K)) P (p .kept)) in
-    one-relabelled (dropAt (seconds pairs)) (placeAfter (seconds pairs) (o .K .tapes)) (o .K) J J′ (o .dropped)
-    (subst (λ (Q : Automaton (S .W)). DroppedInOrder (seconds pairs) Q J′) K (p .dropped))
+    let K : p .K ≡ o .K = one-result (o .P) pairs (o .K) (p .K) (o .kept)
+    (subst (λ (Q : Automaton (S .W)). IntersectedInOrder Q pairs (p .K)) P (p .kept)) in
+    one-relabelled (dropAt set) (placeAfter set (o .K .tapes)) (o .K) J J′ (o .dropped)
+    (subst (λ (Q : Automaton (S .W)). DroppedInOrder set Q J′) K (p .dropped))
 
 -- ---- every operation
 
@@ -71,21 +72,21 @@ module _ {W : Type 0} where
   }
 
   -- the auto-intersection in the space lent ...
-  intersected-in-order : (D : ℕ) (space : Space) (ps : List Pair) (A R : Automaton W) → Formed A → intersectOn D space ps A ≡ ok R → IntersectedInOrder A (limited D ps) R
+  intersected-in-order : (space : Space) (ps : List TapePair) (A R : Automaton W) → Formed A → intersectOn space ps A ≡ ok R → IntersectedInOrder A ps R
   unfolding intersectOn
-  intersected-in-order D space ps A R formed e =
-      let (I, g, q) = bind-ok (intersect A (limited D ps) space) _ R e in
-      record { intersection = I; table = ok-injective (I .automaton) R q; order = intersection-order A (limited D ps) space I formed g }
+  intersected-in-order space ps A R formed e =
+      let (I, g, q) = bind-ok (intersect A ps space) _ R e in
+      record { intersection = I; table = ok-injective (I .automaton) R q; order = intersection-order A ps space I formed g }
 
   -- ... and as it is called
-  called-in-order : (D : ℕ) (enough : Bool) (space : Space) (ps : List Pair) (A R : Automaton W) → Formed A → intersectCall D enough space ps A ≡ ok R
-      → IntersectedInOrder A (limited D ps) R
+  called-in-order : (enough : Bool) (space : Space) (ps : List TapePair) (A R : Automaton W) → Formed A → intersectCall enough space ps A ≡ ok R
+      → IntersectedInOrder A ps R
   unfolding intersectCall
-  called-in-order D enough space ps A R formed e =
-      let (_, e₁) = judge-ok (all (isTape (A .tapes)) (named ps)) _ _ R e in
-      let (_, e₂) = judge-ok (and (leb (length ps) 4) (distinct (named ps))) _ _ R e₁ in
-      let (_, e₃) = judge-ok (leb D 64) _ _ R e₂ in
-      intersected-in-order D space ps A R formed (judge-ok enough _ _ R e₃ .1)
+  called-in-order enough space ps A R formed e =
+      let (_, e₁) = judge-ok (all (isTape (A .tapes)) (named (tapesOf ps))) _ _ R e in
+      let (_, e₂) = judge-ok (and (leb (length ps) 4) (distinct (named (tapesOf ps)))) _ _ R e₁ in
+      let (_, e₃) = judge-ok (limitsFit ps) _ _ R e₂ in
+      intersected-in-order space ps A R formed (judge-ok enough _ _ R e₃ .1)
 
   -- the union
   united-in-order : (space : Space) (A B U : Automaton W) → union space A B ≡ ok U → OneAfterOther A B U
@@ -122,31 +123,32 @@ module _ (S : OrderedSum) (fits : S .W → Bool) where
       product-order S fits space A B P (judge-ok enough _ _ P (judge-ok (leb (A .tapes + B .tapes) 8) _ _ P e .1) .1)
 
   -- the join, by its steps
-  joined-in-order : (lent : Lent) (ps : List Pair) (A B J : Automaton (S .W)) → Formed A → Formed B → join S fits lent ps A B ≡ ok J → JoinOrder S (lent .delay) ps A B J
+  joined-in-order : (lent : Lent) (ps : List TapePair) (A B J : Automaton (S .W)) → Formed A → Formed B → join S fits lent ps A B ≡ ok J → JoinOrder S ps A B J
   joined-in-order lent ps A B J fA fB e =
       let s = join-steps S fits lent ps A B J e in
-      let kept = moved (λ j. A .tapes + j) ps in
+      let kept = behind (A .tapes) ps in
+      let set = seconds (tapesOf kept) in
       record {
         P = s .P;
         K = s .K;
         product = product-order S fits (lent .product) A B (s .P) (s .product-gave);
-        kept = intersected-in-order (lent .delay) (lent .result) kept (s .P) (s .K)
+        kept = intersected-in-order (lent .result) kept (s .P) (s .K)
             (product-formed S fits (lent .product) A B (s .P) (s .product-gave) fA fB) (s .keep-gave);
-        dropped = relabelled-only (dropAt (seconds kept)) (placeAfter (seconds kept) (s .K .tapes)) (s .K) J (s .dropped);
+        dropped = relabelled-only (dropAt set) (placeAfter set (s .K .tapes)) (s .K) J (s .dropped);
       }
 
   -- Every operation that gives a table gives it in the order of request 2.2, and no other table is in that order.
   pub tables-in-order : TablesInOrder S fits
   tables-in-order = record {
-    intersect = λ D enough space ps A R formed e.
-        let o = called-in-order D enough space ps A R formed e in
-        record { ordered = o; alone = λ R′. one-result A (limited D ps) R R′ o };
+    intersect = λ enough space ps A R formed e.
+        let o = called-in-order enough space ps A R formed e in
+        record { ordered = o; alone = λ R′. one-result A ps R R′ o };
     product = λ enough space A B P e.
         let o = product-in-order enough space A B P e in
         record { ordered = o; alone = λ P′ p. products-same S A B P′ P p o };
     join = λ lent ps A B J fA fB e.
         let o = joined-in-order lent ps A B J fA fB e in
-        record { ordered = o; alone = λ J′. one-join S (lent .delay) ps A B J J′ o };
+        record { ordered = o; alone = λ J′. one-join S ps A B J J′ o };
     union = λ space A B U e. let o = united-in-order space A B U e in record { ordered = o; alone = λ U′. one-union A B U U′ o };
     project = λ space js A R e.
         let o = projected-in-order space js A R e in

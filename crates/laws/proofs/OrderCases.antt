@@ -28,7 +28,7 @@ use Rattle.automata.proofs.ViableFacts.{viable-decides}
 use Rattle.automata.proofs.AnswerFacts.{bind-ok, ok-injective}
 use Rattle.automata.proofs.ProductStates.{vertices-decided}
 use Rattle.laws.specs.Order.{Ordered, configGraph, IntersectedInOrder, productGraph, ProductOrder, TablesInOrder}
-use Rattle.laws.specs.OrderCases.{room, branching, bothTapes, oneApart, reachedStates, branchedText, wrongSearches, wrongStates, left, right, productVertices, productText, wrongProducts, wrongVertices}
+use Rattle.laws.specs.OrderCases.{room, branching, oneApart, reachedStates, branchedText, wrongSearches, wrongStates, left, right, productVertices, productText, wrongProducts, wrongVertices}
 use Rattle.laws.proofs.Results.{memory-formed}
 use Rattle.laws.proofs.Order.{tables-in-order}
 use Rattle.laws.proofs.Lemmas.OrderFacts.{ordered-unique}
@@ -54,7 +54,7 @@ unfolding reading reached edges starts candidate candidates out reachedConfigs c
 branching-reached = refl
 
 -- the table as it is printed
-pub branching-printed : (intersectCall 1 true room bothTapes branching >>= λ R. ok (writeTable R)) ≡ ok (bytes branchedText)
+pub branching-printed : (intersectCall true room oneApart branching >>= λ R. ok (writeTable R)) ≡ ok (bytes branchedText)
 unfolding reading reached edges trimmed starts candidate candidates out reachedConfigs delayed assemble intersectBy intersect intersectOn intersectCall closingTables viable writeTable
 branching-printed = refl
 
@@ -96,8 +96,8 @@ branching-refuses = (refuse _ refl, (refuse _ refl, (refuse _ refl, tt)))
 -- every result that is in order is printed so
 pub branching-text : (R : Automaton ℕ) → IntersectedInOrder branching oneApart R → writeTable R ≡ bytes branchedText
 branching-text R o =
-    let (I, e, q) = bind-ok (intersectCall 1 true room bothTapes branching) (λ R. ok (writeTable R)) (bytes branchedText) branching-printed in
-    ap writeTable (orders .intersect 1 true room bothTapes branching I branching-formed e .alone R o) ∙ ok-injective (writeTable I) (bytes branchedText) q
+    let (I, e, q) = bind-ok (intersectCall true room oneApart branching) (λ R. ok (writeTable R)) (bytes branchedText) branching-printed in
+    ap writeTable (orders .intersect true room oneApart branching I branching-formed e .alone R o) ∙ ok-injective (writeTable I) (bytes branchedText) q
 
 -- ---- the product
 

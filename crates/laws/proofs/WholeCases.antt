@@ -77,7 +77,13 @@ whole-cases = (
                       (refl, one-account _ _ tt refl),
                       (
                         (refl, one-account _ _ tt refl),
-                        tt,
+                        (
+                          (refl, one-account _ _ tt refl),
+                          (
+                            (refl, one-account _ _ tt refl),
+                            tt,
+                          ),
+                        ),
                       ),
                     ),
                   ),

@@ -10,12 +10,13 @@ use Rattle.automata.specs.Space.{Space}
 use Rattle.automata.specs.OrderedSum.{ℕ-sum}
 use Rattle.automata.specs.Automaton.{Automaton, Tuple}
 use Rattle.automata.specs.Table.{weightFits}
-use Rattle.automata.specs.TapePair.{Pair}
+use Rattle.automata.specs.TapePair.{TapePair}
 use Rattle.automata.specs.Paths.{Trace, SuccessfulPath, tuple, trace, weight}
 use Rattle.automata.specs.IntersectCall.{intersectCall}
 use Rattle.automata.specs.Product.{product}
 use Rattle.automata.specs.Join.{join}
-use Rattle.automata.specs.Cases.{P, Q, S, untrimmed, twice, trailing, stuck, noStates, wide, five, onward, two, first, between, last, arc, empty, A, B, X, Y, Z, pair, four}
+use Rattle.automata.specs.Cases.{P, Q, S, lagging, untrimmed, twice, trailing, stuck, noStates, wide, five, onward, two, first, between, last, arc, empty, A, B, X, Y, Z, tapePair, four}
+use Rattle.laws.specs.CallCases.{parted}
 
 -- a successful path by its start and its run of arcs, what it spells on each tape, and what it weighs
 pub record Account : Type 0 where
@@ -35,19 +36,19 @@ pub record HasAccounts (A : Automaton ℕ) (xs : List Account) : Type 0 where
 
 -- ---- the worked cases
 
--- calls that give a table: pairs, a limit and the space of the result; a product; a join
+-- calls that give a table: pairs with their limits and the space of the result; a product; a join
 pub data TableCall : Type 0 where
-  keeping : Automaton ℕ → List Pair → ℕ → ℕ → ℕ → TableCall
+  keeping : Automaton ℕ → List TapePair → ℕ → ℕ → TableCall
   multiplying : Automaton ℕ → Automaton ℕ → TableCall
-  joining : Automaton ℕ → Automaton ℕ → List Pair → TableCall
+  joining : Automaton ℕ → Automaton ℕ → List TapePair → TableCall
 
 -- what the definitions answer
 abbrev pub answered : TableCall → Answer (Automaton ℕ)
-answered (keeping A ps D states arcs) = intersectCall D true (record { states = states; arcs = arcs }) ps A
+answered (keeping A ps states arcs) = intersectCall true (record { states = states; arcs = arcs }) ps A
 answered (multiplying A B) = product ℕ-sum weightFits true (record { states = 64; arcs = 512 }) A B
 answered (joining A B ps) =
     let space : Space = record { states = 64; arcs = 512 } in
-    join ℕ-sum weightFits (record { delay = 0; enough = true; product = space; result = space }) ps A B
+    join ℕ-sum weightFits (record { enough = true; product = space; result = space }) ps A B
 
 -- a call, the whole table that it gives, and the accounts of that table
 pub record WholeCase : Type 0 where
@@ -93,22 +94,40 @@ fiveOnward = record { tapes = 2; states = first ∷ last ∷ []; arcs = arc 0 1 
 abbrev joinedTwo : Automaton ℕ
 joinedTwo = record { tapes = 2; states = first ∷ last ∷ []; arcs = arc 0 1 3 (A ∷ X ∷ []) ∷ [] }
 
+-- pairs with limits of their own: `lagging` on tapes 1 and 3, and 2 and 4, ...
+abbrev keptLagging : Automaton ℕ
+keptLagging = record {
+  tapes = 4;
+  states = first ∷ between ∷ between ∷ last ∷ [];
+  arcs = arc 0 1 1 (A ∷ X ∷ empty ∷ X ∷ []) ∷ arc 1 2 2 (B ∷ Y ∷ A ∷ Y ∷ []) ∷ arc 2 3 3 (empty ∷ Z ∷ B ∷ Z ∷ []) ∷ [];
+}
+
+-- ... and a join by two pairs
+abbrev joinedParted : Automaton ℕ
+joinedParted = record { tapes = 2; states = first ∷ between ∷ last ∷ []; arcs = arc 0 1 4 (A ∷ X ∷ []) ∷ arc 1 2 3 (empty ∷ empty ∷ []) ∷ [] }
+
 -- the cases
 abbrev pub wholeCases : List WholeCase
 wholeCases =
-    record { call = keeping P (pair 1 3 ∷ []) 1 64 512; gives = keptP; accounts = account 0 (0 ∷ 1 ∷ 2 ∷ []) ((A ++ B) ∷ (X ++ Y ++ Z) ∷ (A ++ B) ∷ []) 6 ∷ [] }
-    ∷ record { call = keeping P (pair 3 1 ∷ []) 1 64 512; gives = keptP; accounts = account 0 (0 ∷ 1 ∷ 2 ∷ []) ((A ++ B) ∷ (X ++ Y ++ Z) ∷ (A ++ B) ∷ []) 6 ∷ [] }
-    ∷ record { call = keeping Q (pair 1 2 ∷ []) 1 3 2; gives = keptQ; accounts = account 0 (0 ∷ 1 ∷ []) (A ∷ A ∷ []) 0 ∷ [] }
-    ∷ record { call = keeping S (pair 1 2 ∷ []) 64 64 512; gives = none-left 2; accounts = [] }
-    ∷ record { call = keeping noStates (pair 1 2 ∷ []) 64 64 512; gives = none-left 2; accounts = [] }
-    ∷ record { call = keeping untrimmed [] 64 64 512; gives = trimmedSource; accounts = account 0 (0 ∷ []) (A ∷ B ∷ []) 0 ∷ account 0 (1 ∷ []) (B ∷ A ∷ []) 0 ∷ [] }
-    ∷ record { call = keeping wide four 64 64 512; gives = none-left 8; accounts = [] }
+    record { call = keeping P (tapePair 1 3 1 ∷ []) 64 512; gives = keptP; accounts = account 0 (0 ∷ 1 ∷ 2 ∷ []) ((A ++ B) ∷ (X ++ Y ++ Z) ∷ (A ++ B) ∷ []) 6 ∷ [] }
+    ∷ record { call = keeping P (tapePair 3 1 1 ∷ []) 64 512; gives = keptP; accounts = account 0 (0 ∷ 1 ∷ 2 ∷ []) ((A ++ B) ∷ (X ++ Y ++ Z) ∷ (A ++ B) ∷ []) 6 ∷ [] }
+    ∷ record { call = keeping Q (tapePair 1 2 1 ∷ []) 3 2; gives = keptQ; accounts = account 0 (0 ∷ 1 ∷ []) (A ∷ A ∷ []) 0 ∷ [] }
+    ∷ record { call = keeping S (tapePair 1 2 64 ∷ []) 64 512; gives = none-left 2; accounts = [] }
+    ∷ record { call = keeping noStates (tapePair 1 2 64 ∷ []) 64 512; gives = none-left 2; accounts = [] }
+    ∷ record { call = keeping untrimmed [] 64 512; gives = trimmedSource; accounts = account 0 (0 ∷ []) (A ∷ B ∷ []) 0 ∷ account 0 (1 ∷ []) (B ∷ A ∷ []) 0 ∷ [] }
+    ∷ record { call = keeping wide four 64 512; gives = none-left 8; accounts = [] }
     -- two equal arcs are two
-    ∷ record { call = keeping twice (pair 1 2 ∷ []) 0 2 2; gives = twice; accounts = account 0 (0 ∷ []) (A ∷ A ∷ []) 0 ∷ account 0 (1 ∷ []) (A ∷ A ∷ []) 0 ∷ [] }
-    ∷ record { call = keeping trailing (pair 1 2 ∷ []) 1 3 2; gives = keptTrailing; accounts = account 0 (0 ∷ 1 ∷ []) ((A ++ A) ∷ (A ++ A) ∷ []) 0 ∷ [] }
-    ∷ record { call = keeping stuck (pair 1 2 ∷ []) 2 2 1; gives = none-left 2; accounts = [] }
+    ∷ record { call = keeping twice (tapePair 1 2 0 ∷ []) 2 2; gives = twice; accounts = account 0 (0 ∷ []) (A ∷ A ∷ []) 0 ∷ account 0 (1 ∷ []) (A ∷ A ∷ []) 0 ∷ [] }
+    ∷ record { call = keeping trailing (tapePair 1 2 1 ∷ []) 3 2; gives = keptTrailing; accounts = account 0 (0 ∷ 1 ∷ []) ((A ++ A) ∷ (A ++ A) ∷ []) 0 ∷ [] }
+    ∷ record { call = keeping stuck (tapePair 1 2 2 ∷ []) 2 1; gives = none-left 2; accounts = [] }
     ∷ record { call = multiplying five onward; gives = fiveOnward; accounts = account 0 (0 ∷ []) (empty ∷ A ∷ []) 6 ∷ [] }
-    ∷ record { call = joining onward two (pair 1 1 ∷ []); gives = joinedTwo; accounts = account 0 (0 ∷ []) (A ∷ X ∷ []) 3 ∷ [] }
+    ∷ record { call = joining onward two (tapePair 1 1 0 ∷ []); gives = joinedTwo; accounts = account 0 (0 ∷ []) (A ∷ X ∷ []) 3 ∷ [] }
+    ∷ record {
+      call = keeping lagging (tapePair 1 3 1 ∷ tapePair 2 4 0 ∷ []) 64 512;
+      gives = keptLagging;
+      accounts = account 0 (0 ∷ 1 ∷ 2 ∷ []) ((A ++ B) ∷ (X ++ Y ++ Z) ∷ (A ++ B) ∷ (X ++ Y ++ Z) ∷ []) 6 ∷ [];
+    }
+    ∷ record { call = joining two parted (tapePair 1 1 1 ∷ tapePair 2 2 0 ∷ []); gives = joinedParted; accounts = account 0 (0 ∷ 1 ∷ []) (A ∷ X ∷ []) 7 ∷ [] }
     ∷ []
 
 -- every one of them

@@ -7,7 +7,7 @@ use Prim.Native.Nat.{ℕ}
 use Rattle.automata.specs.Answer.{ok}
 use Rattle.automata.specs.Automaton.{Automaton}
 use Rattle.automata.specs.OrderedSum.{ℕ-sum}
-use Rattle.automata.specs.TapePair.{Pair, limited}
+use Rattle.automata.specs.TapePair.{TapePair}
 use Rattle.automata.specs.Memory.{Memory, tableOf, Sound, trim}
 use Rattle.automata.specs.IntersectCall.{intersectCall}
 use Rattle.automata.specs.TableText.{writeTable}
@@ -34,23 +34,23 @@ pub record UniqueRecords (InOrder : Automaton ℕ → Type 0) (r : Memory) : Typ
 
 -- the claim, for every call that builds a table, and for the program `agree`
 pub record CallsInOrder : Type 0 where
-  pub intersect : (m : Memory) (ps : List Pair) (D : ℕ) (s : Slices) (work : List ℕ) (r : Memory) → given (intersectOutcome m ps D s work .made) ≡ ok r
-      → UniqueRecords (IntersectedInOrder (tableOf m) (limited D ps)) r
+  pub intersect : (m : Memory) (ps : List TapePair) (s : Slices) (work : List ℕ) (r : Memory) → given (intersectOutcome m ps s work .made) ≡ ok r
+      → UniqueRecords (IntersectedInOrder (tableOf m) ps) r
   pub product : (a b : Memory) (s : Slices) (work : List ℕ) (r : Memory) → given (productOutcome a b s work .made) ≡ ok r
       → UniqueRecords (ProductOrder ℕ-sum (tableOf a) (tableOf b)) r
-  pub join : (l : JoinLent) (ps : List Pair) (a b r : Memory) → given (joinMade l ps a b) ≡ ok r
-      → UniqueRecords (JoinOrder ℕ-sum (l .delay) ps (tableOf a) (tableOf b)) r
+  pub join : (l : JoinLent) (ps : List TapePair) (a b r : Memory) → given (joinMade l ps a b) ≡ ok r
+      → UniqueRecords (JoinOrder ℕ-sum ps (tableOf a) (tableOf b)) r
   pub union : (a b : Memory) (s : Slices) (r : Memory) → given (unionOutcome a b s) ≡ ok r → UniqueRecords (OneAfterOther (tableOf a) (tableOf b)) r
   pub project : (m : Memory) (js : List ℕ) (s : Slices) (r : Memory) → given (projectOutcome m js s) ≡ ok r → UniqueRecords (ChosenInOrder js (tableOf m)) r
   pub dropTapes : (m : Memory) (mask : ℕ) (s : Slices) (r : Memory) → given (dropOutcome m mask s) ≡ ok r
       → UniqueRecords (DroppedInOrder (inMask mask) (tableOf m)) r
   pub agree : (x : List ℕ) (i : Input) (R : Automaton ℕ) → readInput x ≡ ok i
-      → intersectCall (i .limit) true (record { states = stateSpace; arcs = arcSpace }) (i .pairs) (i .table) ≡ ok R
-      → Unique (IntersectedInOrder (i .table) (limited (i .limit) (i .pairs))) R × (agree x ≡ writeTable R)
+      → intersectCall true (record { states = stateSpace; arcs = arcSpace }) (i .pairs) (i .table) ≡ ok R
+      → Unique (IntersectedInOrder (i .table) (i .pairs)) R × (agree x ≡ writeTable R)
 
 -- what the table of a build, of a product and of a join shows by its lines when it is printed
 pub record CallsPrinted : Type 0 where
-  pub intersect : (m : Memory) (ps : List Pair) (D : ℕ) (s : Slices) (work : List ℕ) (r : Memory) → given (intersectOutcome m ps D s work .made) ≡ ok r
+  pub intersect : (m : Memory) (ps : List TapePair) (s : Slices) (work : List ℕ) (r : Memory) → given (intersectOutcome m ps s work .made) ≡ ok r
       → PrintedOrder (tableOf r)
   pub product : (a b : Memory) (s : Slices) (work : List ℕ) (r : Memory) → given (productOutcome a b s work .made) ≡ ok r → PrintedOrder (tableOf r)
-  pub join : (l : JoinLent) (ps : List Pair) (a b r : Memory) → given (joinMade l ps a b) ≡ ok r → PrintedOrder (tableOf r)
+  pub join : (l : JoinLent) (ps : List TapePair) (a b r : Memory) → given (joinMade l ps a b) ≡ ok r → PrintedOrder (tableOf r)

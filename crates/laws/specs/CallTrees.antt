@@ -6,7 +6,7 @@ use Prim.Native.Nat.{ℕ, _≤_}
 use lib.ListN.{length}
 use Rattle.automata.specs.Answer.{Answer, ok, refused, _>>=_}
 use Rattle.automata.specs.Automaton.{Automaton}
-use Rattle.automata.specs.TapePair.{Pair}
+use Rattle.automata.specs.TapePair.{TapePair}
 use Rattle.automata.specs.Memory.{Memory, tableOf, Sound, trim}
 use Rattle.automata.specs.Calls.Outcome.{Slices, spaceOf, given}
 use Rattle.automata.specs.Calls.Work.{buildWork, productWork, joinWork}
@@ -16,6 +16,7 @@ use Rattle.automata.specs.Calls.Product.{productOutcome}
 use Rattle.automata.specs.Calls.Union.{unionOutcome}
 use Rattle.automata.specs.Calls.Project.{projectOutcome}
 use Rattle.automata.specs.Calls.Drop.{dropOutcome}
+use Rattle.laws.specs.GivenAgain.{NoLower}
 use Rattle.laws.specs.CallLaws.{JoinLent, joinMade, WiderSlices}
 
 -- A list of calls, by its last one. A call stands above those that gave its tables; each has limits and space of its
@@ -25,10 +26,10 @@ pub data Calls : Type 0 where
   lent : Memory → Calls
   -- a text
   reading : List ℕ → Slices → Calls
-  -- the auto-intersection: pairs, delay limit, result space, work space
-  keeping : Calls → List Pair → ℕ → Slices → List ℕ → Calls
+  -- the auto-intersection: pairs with their limits, result space, work space
+  keeping : Calls → List TapePair → Slices → List ℕ → Calls
   multiplying : Calls → Calls → Slices → List ℕ → Calls
-  joining : JoinLent → List Pair → Calls → Calls → Calls
+  joining : JoinLent → List TapePair → Calls → Calls → Calls
   uniting : Calls → Calls → Slices → Calls
   -- tapes by their numbers, tapes by a mask
   choosing : Calls → List ℕ → Slices → Calls
@@ -38,7 +39,7 @@ pub data Calls : Type 0 where
 unfoldable pub made : Calls → Answer Memory
 made (lent m) = ok m
 made (reading x s) = given (readOutcome x s)
-made (keeping c ps D s w) = made c >>= λ m. given (intersectOutcome m ps D s w .made)
+made (keeping c ps s w) = made c >>= λ m. given (intersectOutcome m ps s w .made)
 made (multiplying c d s w) = made c >>= λ m. made d >>= λ k. given (productOutcome m k s w .made)
 made (joining l ps c d) = made c >>= λ m. made d >>= λ k. given (joinMade l ps m k)
 made (uniting c d s) = made c >>= λ m. made d >>= λ k. given (unionOutcome m k s)
@@ -68,7 +69,7 @@ Stands c = (m : Memory) → made c ≡ ok m → Sound m
 abbrev pub AllStand : Calls → Type 0
 AllStand (lent m) = Sound m
 AllStand (reading x s) = Stands (reading x s)
-AllStand (keeping c ps D s w) = AllStand c × Stands (keeping c ps D s w)
+AllStand (keeping c ps s w) = AllStand c × Stands (keeping c ps s w)
 AllStand (multiplying c d s w) = AllStand c × AllStand d × Stands (multiplying c d s w)
 AllStand (joining l ps c d) = AllStand c × AllStand d × Stands (joining l ps c d)
 AllStand (uniting c d s) = AllStand c × AllStand d × Stands (uniting c d s)
@@ -81,19 +82,19 @@ IsCall c = (m : Memory) → ¬ (c ≡ lent m)
 
 -- ---- made again
 
--- The calls c made again as c′: the same texts, pairs and tapes, no limit lower and none above 64, no space smaller, as
--- much work space as the calls ask for.
+-- The calls c made again as c′: the same texts, pairs and tapes, no limit of a pair lower and none above 64, no space
+-- smaller, as much work space as the calls ask for.
 pub data NoLess : Calls → Calls → Type 0 where
   -- the same records, whatever bytes follow them and whatever calls gave them
   no-less-table : (c c′ : Calls) (m m′ : Memory) → made c ≡ ok m → made c′ ≡ ok m′ → trim m′ ≡ trim m → NoLess c c′
   no-less-reading : (x : List ℕ) (s s′ : Slices) → WiderSlices s s′ → NoLess (reading x s) (reading x s′)
-  no-less-keeping : (c c′ : Calls) (ps : List Pair) (D D′ : ℕ) (s s′ : Slices) (w w′ : List ℕ) → NoLess c c′ → D ≤ D′ → D′ ≤ 64 → WiderSlices s s′
-      → ((m : Memory) → made c′ ≡ ok m → buildWork (spaceOf s′) (m .states) ≤ length w′) → NoLess (keeping c ps D s w) (keeping c′ ps D′ s′ w′)
+  no-less-keeping : (c c′ : Calls) (ps qs : List TapePair) (s s′ : Slices) (w w′ : List ℕ) → NoLess c c′ → NoLower ps qs → WiderSlices s s′
+      → ((m : Memory) → made c′ ≡ ok m → buildWork (spaceOf s′) (m .states) ≤ length w′) → NoLess (keeping c ps s w) (keeping c′ qs s′ w′)
   no-less-multiplying : (c c′ d d′ : Calls) (s s′ : Slices) (w w′ : List ℕ) → NoLess c c′ → NoLess d d′ → WiderSlices s s′
       → productWork (spaceOf s′) ≤ length w′ → NoLess (multiplying c d s w) (multiplying c′ d′ s′ w′)
-  no-less-joining : (l l′ : JoinLent) (ps : List Pair) (c c′ d d′ : Calls) → NoLess c c′ → NoLess d d′ → l .delay ≤ l′ .delay → l′ .delay ≤ 64
+  no-less-joining : (l l′ : JoinLent) (ps qs : List TapePair) (c c′ d d′ : Calls) → NoLess c c′ → NoLess d d′ → NoLower ps qs
       → WiderSlices (l .product) (l′ .product) → WiderSlices (l .result) (l′ .result)
-      → joinWork (spaceOf (l′ .product)) (spaceOf (l′ .result)) ≤ length (l′ .work) → NoLess (joining l ps c d) (joining l′ ps c′ d′)
+      → joinWork (spaceOf (l′ .product)) (spaceOf (l′ .result)) ≤ length (l′ .work) → NoLess (joining l ps c d) (joining l′ qs c′ d′)
   no-less-uniting : (c c′ d d′ : Calls) (s s′ : Slices) → NoLess c c′ → NoLess d d′ → WiderSlices s s′ → NoLess (uniting c d s) (uniting c′ d′ s′)
   no-less-choosing : (c c′ : Calls) (js : List ℕ) (s s′ : Slices) → NoLess c c′ → WiderSlices s s′ → NoLess (choosing c js s) (choosing c′ js s′)
   no-less-dropping : (c c′ : Calls) (mask : ℕ) (s s′ : Slices) → NoLess c c′ → WiderSlices s s′ → NoLess (dropping c mask s) (dropping c′ mask s′)

@@ -10,7 +10,7 @@ use Rattle.automata.specs.Answer.{ok, refused}
 use Rattle.automata.specs.OrderedSum.{ℕ-sum}
 use Rattle.automata.specs.Automaton.{Automaton, size}
 use Rattle.automata.specs.Table.{weightFits}
-use Rattle.automata.specs.TapePair.{Pair}
+use Rattle.automata.specs.TapePair.{Pair, TapePair}
 use Rattle.automata.specs.Memory.{Memory, decodeTable}
 use Rattle.automata.specs.Calls.Outcome.{Slices, spaceOf}
 use Rattle.automata.specs.Calls.Work.{buildWork, productWork, forecastWork, enough}
@@ -44,9 +44,9 @@ pub data TwoTablesRefused (a b : Memory) (why : Automaton ℕ → Automaton ℕ 
 pub record CallsRefused : Type 0 where
   pub table : (m : Memory) (n : ℕ) → (decodeTable m ≡ refused n) ↔ TableRefused m n
   pub read : (x : List ℕ) (s : Slices) (n : ℕ) → (readOutcome x s .answer ≡ refused n) ↔ ReadRefused (spaceOf s) x n
-  pub intersect : (m : Memory) (ps : List Pair) (D : ℕ) (s : Slices) (work : List ℕ) (n : ℕ)
-      → (intersectOutcome m ps D s work .made .answer ≡ refused n)
-      ↔ OneTableRefused m (λ A. BuildCallRefused D (enough (buildWork (spaceOf s) (size A)) work) (spaceOf s) ps A) n
+  pub intersect : (m : Memory) (ps : List TapePair) (s : Slices) (work : List ℕ) (n : ℕ)
+      → (intersectOutcome m ps s work .made .answer ≡ refused n)
+      ↔ OneTableRefused m (λ A. BuildCallRefused (enough (buildWork (spaceOf s) (size A)) work) (spaceOf s) ps A) n
   pub forecast : (m : Memory) (ps : List Pair) (work : List ℕ) (n : ℕ)
       → (forecastOutcome m ps work .answer ≡ refused n) ↔ OneTableRefused m (λ A. ForecastRefused (enough (forecastWork (size A)) work) ps A) n
   pub forecastRecorded : (m : Memory) (ps : List Pair) (result work : List ℕ) (n : ℕ)
@@ -55,9 +55,9 @@ pub record CallsRefused : Type 0 where
   pub product : (a b : Memory) (s : Slices) (work : List ℕ) (n : ℕ)
       → (productOutcome a b s work .made .answer ≡ refused n)
       ↔ TwoTablesRefused a b (ProductCallRefused ℕ-sum weightFits (enough (productWork (spaceOf s)) work) (spaceOf s)) n
-  pub join : (a b : Memory) (ps : List Pair) (D : ℕ) (p s : Slices) (work : List ℕ) (n : ℕ)
-      → (joinOutcome a b ps D p s work .made .answer ≡ refused n)
-      ↔ TwoTablesRefused a b (JoinRefused ℕ-sum weightFits (lentTo D (spaceOf p) (spaceOf s) work) ps) n
+  pub join : (a b : Memory) (ps : List TapePair) (p s : Slices) (work : List ℕ) (n : ℕ)
+      → (joinOutcome a b ps p s work .made .answer ≡ refused n)
+      ↔ TwoTablesRefused a b (JoinRefused ℕ-sum weightFits (lentTo (spaceOf p) (spaceOf s) work) ps) n
   pub union : (a b : Memory) (s : Slices) (n : ℕ) → (unionOutcome a b s .answer ≡ refused n) ↔ TwoTablesRefused a b (UnionRefused (spaceOf s)) n
   pub project : (m : Memory) (js : List ℕ) (s : Slices) (n : ℕ)
       → (projectOutcome m js s .answer ≡ refused n) ↔ OneTableRefused m (ProjectRefused (spaceOf s) js) n

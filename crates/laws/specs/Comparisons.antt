@@ -7,7 +7,7 @@ use lib.ListN.{length}
 use Rattle.automata.specs.Lists.{All}
 use Rattle.automata.specs.OrderedSum.{ℕ-sum}
 use Rattle.automata.specs.Automaton.{Tuple}
-use Rattle.automata.specs.TapePair.{Pair}
+use Rattle.automata.specs.TapePair.{Pair, TapePair, tapesOf}
 use Rattle.automata.specs.Tapes.{chosen, seconds, turned}
 use Rattle.automata.specs.Paths.{LeastOf, LeastWeight, NoWeight, SameWeight}
 use Rattle.automata.specs.Calls.Outcome.{Slices}
@@ -44,43 +44,48 @@ abbrev pub otherOrder : List Pair → Calls → Calls → List ℕ
 otherOrder ps a b = exchangedTapes (table a .tapes) (table b .tapes) ps
 
 -- a join by the first pairs, then the auto-intersection on the later ones, then their second tapes dropped
-abbrev pub stepwise : JoinLent → ℕ → Slices → Slices → List ℕ → List Pair → List Pair → Calls → Calls → Calls
-stepwise l D s s₁ work first later a b =
-    let qs = laterOn (table a .tapes) first later in dropping (keeping (joining l first a b) qs D s work) (maskOf (seconds qs)) s₁
+abbrev pub stepwise : JoinLent → Slices → Slices → List ℕ → List TapePair → List TapePair → Calls → Calls → Calls
+stepwise l s s₁ work first later a b =
+    let qs = laterOn (table a .tapes) (tapesOf first) later in dropping (keeping (joining l first a b) qs s work) (maskOf (seconds (tapesOf qs))) s₁
 
--- The lists of calls that demand 3 compares, and what it says of them. Each call has limits and space of its own (l, s,
--- D, work). Where a comparison uses a table in two calls, each of them has calls of its own that give it (a and a₁, b
--- and b₁ ..), and the two need only be alike; a table that is lent is a list without a call.
+-- The lists of calls that demand 3 compares, and what it says of them. Each call has space of its own (l, s, work) and
+-- names its pairs by records of its own (ps, ps₁ ..), each pair with a limit of its own; only the tapes named are the
+-- same. Where a comparison uses a table in two calls, each of them has calls of its own that give it (a and a₁, b and
+-- b₁ ..), and the two need only be alike; a table that is lent is a list without a call.
 pub data Compared : List Calls → Type 0 → Type 1 where
   -- the join law: the least sum over all tuples that meet
-  met : (l : JoinLent) (ps : List Pair) (a b : Calls) → Compared (joining l ps a b ∷ []) (LeastSums ps a b (joining l ps a b))
+  met : (l : JoinLent) (ps : List TapePair) (a b : Calls) → Compared (joining l ps a b ∷ []) (LeastSums (tapesOf ps) a b (joining l ps a b))
   -- exchanged: the second table first, the tapes of each pair exchanged
-  exchanged : (l l₁ : JoinLent) (ps : List Pair) (a a₁ b b₁ : Calls) → Alike a a₁ → Alike b b₁
-      → Compared (joining l ps a b ∷ joining l₁ (turned ps) b₁ a₁ ∷ []) (Reordered (otherOrder ps a b) (joining l ps a b) (joining l₁ (turned ps) b₁ a₁))
+  exchanged : (l l₁ : JoinLent) (ps ps₁ : List TapePair) (a a₁ b b₁ : Calls) → tapesOf ps₁ ≡ turned (tapesOf ps) → Alike a a₁ → Alike b b₁
+      → Compared (joining l ps a b ∷ joining l₁ ps₁ b₁ a₁ ∷ []) (Reordered (otherOrder (tapesOf ps) a b) (joining l ps a b) (joining l₁ ps₁ b₁ a₁))
   -- the same, the join's tapes chosen in that order by a call
-  exchanged-chosen : (l l₁ : JoinLent) (s : Slices) (ps : List Pair) (a a₁ b b₁ : Calls) → Alike a a₁ → Alike b b₁
-      → Compared (choosing (joining l ps a b) (otherOrder ps a b) s ∷ joining l₁ (turned ps) b₁ a₁ ∷ [])
-      (Alike (choosing (joining l ps a b) (otherOrder ps a b) s) (joining l₁ (turned ps) b₁ a₁))
+  exchanged-chosen : (l l₁ : JoinLent) (s : Slices) (ps ps₁ : List TapePair) (a a₁ b b₁ : Calls) → tapesOf ps₁ ≡ turned (tapesOf ps) → Alike a a₁ → Alike b b₁
+      → Compared (choosing (joining l ps a b) (otherOrder (tapesOf ps) a b) s ∷ joining l₁ ps₁ b₁ a₁ ∷ [])
+      (Alike (choosing (joining l ps a b) (otherOrder (tapesOf ps) a b) s) (joining l₁ ps₁ b₁ a₁))
   -- part by part, the first table a union: the lesser of the weights in the joins of its parts
-  first-in-parts : (s : Slices) (l l₁ l₂ : JoinLent) (ps : List Pair) (a a₁ c c₂ b b₁ b₂ : Calls) → Alike a a₁ → Alike c c₂ → Alike b b₁ → Alike b b₂
-      → Compared (joining l ps (uniting a c s) b ∷ joining l₁ ps a₁ b₁ ∷ joining l₂ ps c₂ b₂ ∷ [])
-      (Lesser (joining l ps (uniting a c s) b) (joining l₁ ps a₁ b₁) (joining l₂ ps c₂ b₂))
+  first-in-parts : (s : Slices) (l l₁ l₂ : JoinLent) (ps ps₁ ps₂ : List TapePair) (a a₁ c c₂ b b₁ b₂ : Calls)
+      → tapesOf ps₁ ≡ tapesOf ps → tapesOf ps₂ ≡ tapesOf ps → Alike a a₁ → Alike c c₂ → Alike b b₁ → Alike b b₂
+      → Compared (joining l ps (uniting a c s) b ∷ joining l₁ ps₁ a₁ b₁ ∷ joining l₂ ps₂ c₂ b₂ ∷ [])
+      (Lesser (joining l ps (uniting a c s) b) (joining l₁ ps₁ a₁ b₁) (joining l₂ ps₂ c₂ b₂))
   -- and the same weights as in a union of these two joins
-  first-united : (s s₃ : Slices) (l l₁ l₂ : JoinLent) (ps : List Pair) (a a₁ c c₂ b b₁ b₂ : Calls) → Alike a a₁ → Alike c c₂ → Alike b b₁ → Alike b b₂
-      → Compared (joining l ps (uniting a c s) b ∷ uniting (joining l₁ ps a₁ b₁) (joining l₂ ps c₂ b₂) s₃ ∷ [])
-      (Alike (joining l ps (uniting a c s) b) (uniting (joining l₁ ps a₁ b₁) (joining l₂ ps c₂ b₂) s₃))
+  first-united : (s s₃ : Slices) (l l₁ l₂ : JoinLent) (ps ps₁ ps₂ : List TapePair) (a a₁ c c₂ b b₁ b₂ : Calls)
+      → tapesOf ps₁ ≡ tapesOf ps → tapesOf ps₂ ≡ tapesOf ps → Alike a a₁ → Alike c c₂ → Alike b b₁ → Alike b b₂
+      → Compared (joining l ps (uniting a c s) b ∷ uniting (joining l₁ ps₁ a₁ b₁) (joining l₂ ps₂ c₂ b₂) s₃ ∷ [])
+      (Alike (joining l ps (uniting a c s) b) (uniting (joining l₁ ps₁ a₁ b₁) (joining l₂ ps₂ c₂ b₂) s₃))
   -- part by part, the second table a union
-  second-in-parts : (s : Slices) (l l₁ l₂ : JoinLent) (ps : List Pair) (a a₁ c c₂ b b₁ b₂ : Calls) → Alike a a₁ → Alike c c₂ → Alike b b₁ → Alike b b₂
-      → Compared (joining l ps b (uniting a c s) ∷ joining l₁ ps b₁ a₁ ∷ joining l₂ ps b₂ c₂ ∷ [])
-      (Lesser (joining l ps b (uniting a c s)) (joining l₁ ps b₁ a₁) (joining l₂ ps b₂ c₂))
+  second-in-parts : (s : Slices) (l l₁ l₂ : JoinLent) (ps ps₁ ps₂ : List TapePair) (a a₁ c c₂ b b₁ b₂ : Calls)
+      → tapesOf ps₁ ≡ tapesOf ps → tapesOf ps₂ ≡ tapesOf ps → Alike a a₁ → Alike c c₂ → Alike b b₁ → Alike b b₂
+      → Compared (joining l ps b (uniting a c s) ∷ joining l₁ ps₁ b₁ a₁ ∷ joining l₂ ps₂ b₂ c₂ ∷ [])
+      (Lesser (joining l ps b (uniting a c s)) (joining l₁ ps₁ b₁ a₁) (joining l₂ ps₂ b₂ c₂))
   -- and the same weights as in a union of these two joins
-  second-united : (s s₃ : Slices) (l l₁ l₂ : JoinLent) (ps : List Pair) (a a₁ c c₂ b b₁ b₂ : Calls) → Alike a a₁ → Alike c c₂ → Alike b b₁ → Alike b b₂
-      → Compared (joining l ps b (uniting a c s) ∷ uniting (joining l₁ ps b₁ a₁) (joining l₂ ps b₂ c₂) s₃ ∷ [])
-      (Alike (joining l ps b (uniting a c s)) (uniting (joining l₁ ps b₁ a₁) (joining l₂ ps b₂ c₂) s₃))
+  second-united : (s s₃ : Slices) (l l₁ l₂ : JoinLent) (ps ps₁ ps₂ : List TapePair) (a a₁ c c₂ b b₁ b₂ : Calls)
+      → tapesOf ps₁ ≡ tapesOf ps → tapesOf ps₂ ≡ tapesOf ps → Alike a a₁ → Alike c c₂ → Alike b b₁ → Alike b b₂
+      → Compared (joining l ps b (uniting a c s) ∷ uniting (joining l₁ ps₁ b₁ a₁) (joining l₂ ps₂ b₂ c₂) s₃ ∷ [])
+      (Alike (joining l ps b (uniting a c s)) (uniting (joining l₁ ps₁ b₁ a₁) (joining l₂ ps₂ b₂ c₂) s₃))
   -- some pairs first: any of the join's pairs, in any order, also none of them or all
-  some-pairs-first : (l l₁ : JoinLent) (D : ℕ) (s s₁ : Slices) (work : List ℕ) (ps first later : List Pair) (a a₁ b b₁ : Calls)
-      → SharedOut ps first later → Alike a a₁ → Alike b b₁
-      → Compared (joining l ps a b ∷ stepwise l₁ D s s₁ work first later a₁ b₁ ∷ []) (Alike (joining l ps a b) (stepwise l₁ D s s₁ work first later a₁ b₁))
+  some-pairs-first : (l l₁ : JoinLent) (s s₁ : Slices) (work : List ℕ) (ps first later : List TapePair) (a a₁ b b₁ : Calls)
+      → SharedOut (tapesOf ps) (tapesOf first) (tapesOf later) → Alike a a₁ → Alike b b₁
+      → Compared (joining l ps a b ∷ stepwise l₁ s s₁ work first later a₁ b₁ ∷ []) (Alike (joining l ps a b) (stepwise l₁ s s₁ work first later a₁ b₁))
   -- given again: any list of calls that gave a table, made again with no less, gives the same bytes of records
   given-again : (c c′ : Calls) → NoLess c c′ → Compared (c ∷ []) (Again c c′)
 

@@ -10,7 +10,7 @@ use Rattle.automata.specs.Lists.{_∈_, Distinct}
 use Rattle.automata.specs.Explore.{Reachable}
 use Rattle.automata.specs.Trim.{atMarks}
 use Rattle.automata.specs.Automaton.{Automaton, Arc}
-use Rattle.automata.specs.TapePair.{Pair, TapePair, limited, firstLabel, secondLabel}
+use Rattle.automata.specs.TapePair.{Pair, TapePair, tapesOf, firstLabel, secondLabel}
 use Rattle.automata.specs.Memory.{Memory, Sound, tableOf}
 use Rattle.automata.specs.Config.{Config}
 use Rattle.automata.specs.Closing.{closingTables, viable}
@@ -57,9 +57,9 @@ module _ {W : Type 0} (A : Automaton W) where
           → EachPair ps (c .leftovers) (λ p l. (d : ℕ) → Tells p d → (length (l .first) ≤ d) × (length (l .second) ≤ d))
 
 -- What the call `forecast` told of a table in memory and pairs of its tapes: a forecast for each pair, in list order, of
--- which 2.1 holds whatever limit a build then has.
+-- which 2.1 holds whatever limits a build then has.
 pub record ForecastsTold (m : Memory) (ps : List Pair) (fs : List Forecast) : Type 0 where
   pub judged : Sound m
   pub are : fs ≡ map (forecastOf (tableOf m)) ps
-  pub hold : (D : ℕ) → ForecastHolds (tableOf m) (limited D ps)
+  pub hold : (qs : List TapePair) → tapesOf qs ≡ ps → ForecastHolds (tableOf m) qs
   pub limit-not-read : (p : Pair) (D : ℕ) → forecast (tableOf m) (record { first = p .first; second = p .second; limit = D }) ≡ forecastOf (tableOf m) p

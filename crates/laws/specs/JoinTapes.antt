@@ -4,8 +4,8 @@ use mathlib.Core.List.{List, [], _∷_, _++_, map}
 use Prim.Native.Nat.{ℕ, _+_}
 use lib.Dec.{eqb}
 use Rattle.automata.specs.Lists.{_∈_, if}
-use Rattle.automata.specs.TapePair.{Pair}
-use Rattle.automata.specs.Tapes.{dropAt, seconds, turned, moved, tapeAfter}
+use Rattle.automata.specs.TapePair.{Pair, TapePair, placed}
+use Rattle.automata.specs.Tapes.{dropAt, seconds, turned, tapeAfter}
 use Rattle.automata.specs.Projection.{range}
 
 -- The tape of a join on which tape j of the second table stands, behind n tapes of the first: where a pair of qs names
@@ -24,6 +24,7 @@ pub record SharedOut (ps first later : List Pair) : Type 0 where
   pub all : (p : Pair) → (p ∈ ps) ↔ ((p ∈ first) ⊎ (p ∈ later))
   pub apart : (p : Pair) → p ∈ first → ¬ (p ∈ later)
 
--- the later pairs on the table that a join by the first pairs gave: each second tape at its place there
-abbrev pub laterOn : ℕ → List Pair → List Pair → List Pair
-laterOn n first later = moved (λ j. n + tapeAfter (seconds first) j) later
+-- the later pairs, each with its limit, on the table that a join by the first pairs gave: each second tape at its
+-- place there
+abbrev pub laterOn : ℕ → List Pair → List TapePair → List TapePair
+laterOn n first later = placed (λ j. n + tapeAfter (seconds first) j) later

@@ -4,7 +4,7 @@ use mathlib.Core.Path.{_≡_}
 use mathlib.Core.List.{List}
 use Prim.Native.Nat.{ℕ, _≤_}
 use Rattle.automata.specs.Answer.{refused}
-use Rattle.automata.specs.TapePair.{Pair}
+use Rattle.automata.specs.TapePair.{Pair, TapePair}
 use Rattle.automata.specs.Memory.{Memory, decodeTable}
 use Rattle.automata.specs.Calls.Outcome.{Slices}
 use Rattle.automata.specs.Calls.Read.{readOutcome}
@@ -33,11 +33,11 @@ pub record ListedRefusals : Type 0 where
   pub table : (m : Memory) (n : ℕ) → decodeTable m ≡ refused n → OfTable n
   pub read : (x : List ℕ) (s : Slices) (n : ℕ) → readOutcome x s .answer ≡ refused n → OfTable n ⊎ ((n ≡ 8) ⊎ (n ≡ 9))
   pub write : (m : Memory) (output : List ℕ) (n : ℕ) → writeOutcome m output .answer ≡ refused n → Listed n
-  pub intersect : (m : Memory) (ps : List Pair) (D : ℕ) (s : Slices) (work : List ℕ) (n : ℕ) → intersectOutcome m ps D s work .made .answer ≡ refused n → Listed n
+  pub intersect : (m : Memory) (ps : List TapePair) (s : Slices) (work : List ℕ) (n : ℕ) → intersectOutcome m ps s work .made .answer ≡ refused n → Listed n
   pub forecast : (m : Memory) (ps : List Pair) (work : List ℕ) (n : ℕ) → forecastOutcome m ps work .answer ≡ refused n → Listed n
   pub forecastRecorded : (m : Memory) (ps : List Pair) (result work : List ℕ) (n : ℕ) → forecastRecorded m ps result work .written .answer ≡ refused n → Listed n
   pub product : (a b : Memory) (s : Slices) (work : List ℕ) (n : ℕ) → productOutcome a b s work .made .answer ≡ refused n → Listed n
-  pub join : (a b : Memory) (ps : List Pair) (D : ℕ) (p s : Slices) (work : List ℕ) (n : ℕ) → joinOutcome a b ps D p s work .made .answer ≡ refused n → Listed n
+  pub join : (a b : Memory) (ps : List TapePair) (p s : Slices) (work : List ℕ) (n : ℕ) → joinOutcome a b ps p s work .made .answer ≡ refused n → Listed n
   pub union : (a b : Memory) (s : Slices) (n : ℕ) → unionOutcome a b s .answer ≡ refused n → Listed n
   pub project : (m : Memory) (js : List ℕ) (s : Slices) (n : ℕ) → projectOutcome m js s .answer ≡ refused n → Listed n
   pub dropTapes : (m : Memory) (mask : ℕ) (s : Slices) (n : ℕ) → dropOutcome m mask s .answer ≡ refused n → Listed n

@@ -13,8 +13,8 @@ use Rattle.automata.specs.OrderedSum.{OrderedSum}
 use Rattle.automata.specs.Automaton.{Arc, Automaton, Tuple, Content, content, size, initialOf, Formed}
 use Rattle.automata.specs.Answer.{ok}
 use Rattle.automata.specs.Space.{Space}
-use Rattle.automata.specs.TapePair.{Pair, TapePair, limited}
-use Rattle.automata.specs.Tapes.{seconds, moved, chosen, dropAt, placeAfter}
+use Rattle.automata.specs.TapePair.{TapePair, tapesOf, behind}
+use Rattle.automata.specs.Tapes.{seconds, chosen, dropAt, placeAfter}
 use Rattle.automata.specs.Config.{Config, startAt, follow}
 use Rattle.automata.specs.Viable.{Viable}
 use Rattle.automata.specs.Intersect.{Intersection, accepting, stateOf, origin}
@@ -247,12 +247,12 @@ module _ {W : Type 0} where
     pub order : IntersectionOrder A ps intersection
 
 -- a join by its steps: product, auto-intersection by the pairs at their places in the product, second tapes dropped
-pub record JoinOrder (S : OrderedSum) (D : ℕ) (ps : List Pair) (A B J : Automaton (S .W)) : Type 0 where
+pub record JoinOrder (S : OrderedSum) (ps : List TapePair) (A B J : Automaton (S .W)) : Type 0 where
   pub P : Automaton (S .W)
   pub K : Automaton (S .W)
   pub product : ProductOrder S A B P
-  pub kept : IntersectedInOrder P (limited D (moved (λ j. A .tapes + j) ps)) K
-  pub dropped : DroppedInOrder (seconds (moved (λ j. A .tapes + j) ps)) K J
+  pub kept : IntersectedInOrder P (behind (A .tapes) ps) K
+  pub dropped : DroppedInOrder (seconds (tapesOf (behind (A .tapes) ps))) K J
 
 -- ---- the claim
 
@@ -263,11 +263,11 @@ pub record Unique {W : Type 0} (InOrder : Automaton W → Type 0) (R : Automaton
 
 -- the claim, for every operation that gives a table
 pub record TablesInOrder (S : OrderedSum) (fits : S .W → Bool) : Type 0 where
-  pub intersect : (D : ℕ) (enough : Bool) (space : Space) (ps : List Pair) (A R : Automaton (S .W)) → Formed A
-      → intersectCall D enough space ps A ≡ ok R → Unique (IntersectedInOrder A (limited D ps)) R
+  pub intersect : (enough : Bool) (space : Space) (ps : List TapePair) (A R : Automaton (S .W)) → Formed A
+      → intersectCall enough space ps A ≡ ok R → Unique (IntersectedInOrder A ps) R
   pub product : (enough : Bool) (space : Space) (A B P : Automaton (S .W)) → product S fits enough space A B ≡ ok P → Unique (ProductOrder S A B) P
-  pub join : (lent : Lent) (ps : List Pair) (A B J : Automaton (S .W)) → Formed A → Formed B → join S fits lent ps A B ≡ ok J
-      → Unique (JoinOrder S (lent .delay) ps A B) J
+  pub join : (lent : Lent) (ps : List TapePair) (A B J : Automaton (S .W)) → Formed A → Formed B → join S fits lent ps A B ≡ ok J
+      → Unique (JoinOrder S ps A B) J
   pub union : (space : Space) (A B U : Automaton (S .W)) → union space A B ≡ ok U → Unique (OneAfterOther A B) U
   pub project : (space : Space) (js : List ℕ) (A R : Automaton (S .W)) → project space js A ≡ ok R → Unique (ChosenInOrder js A) R
   pub dropTapes : (space : Space) (d : ℕ → Bool) (A R : Automaton (S .W)) → dropTapes space d A ≡ ok R → Unique (DroppedInOrder d A) R

@@ -8,14 +8,14 @@ use Rattle.automata.specs.Lists.{concat}
 use Rattle.automata.specs.OrderedSum.{ℕ-sum}
 use Rattle.automata.specs.Automaton.{State, Arc, Content, Automaton}
 use Rattle.automata.specs.Space.{Space}
-use Rattle.automata.specs.TapePair.{Pair, TapePair, limited}
+use Rattle.automata.specs.TapePair.{TapePair}
 use Rattle.automata.specs.Config.{Config, sameConfig}
 use Rattle.automata.specs.Closing.{closingTables, viable}
 use Rattle.automata.specs.Explore.{insertAll, successors, reached}
 use Rattle.automata.specs.Intersect.{starts, out}
 use Rattle.automata.specs.System.{system, outAt, finalAt}
 use Rattle.automata.specs.Product.{Vertex, sameVertex, allBoth, allAfterFirst, allAfterSecond, allPairs, productSystem}
-use Rattle.automata.specs.Cases.{first, between, last, arc, empty, A, B, X, Y, Z, pair}
+use Rattle.automata.specs.Cases.{first, between, last, arc, empty, A, B, X, Y, Z, tapePair}
 
 -- room for every case
 abbrev pub room : Space
@@ -33,13 +33,9 @@ branching = record {
       ∷ arc 0 5 5 (A ∷ A ∷ []) ∷ arc 1 0 6 (B ∷ B ∷ []) ∷ arc 4 2 7 (empty ∷ B ∷ []) ∷ [];
 }
 
--- its two tapes ...
-abbrev pub bothTapes : List Pair
-bothTapes = pair 1 2 ∷ []
-
--- ... by at most one symbol apart
+-- its two tapes, by at most one symbol apart
 abbrev pub oneApart : List TapePair
-oneApart = limited 1 bothTapes
+oneApart = tapePair 1 2 1 ∷ []
 
 -- the input states of the configurations, in the order first reached
 abbrev pub reachedStates : List ℕ

@@ -15,8 +15,8 @@ use Rattle.automata.specs.Answer.{ok, refused}
 use Rattle.automata.specs.Space.{Space, stateCap, arcCap}
 use Rattle.automata.specs.OrderedSum.{OrderedSum, ℕ-sum}
 use Rattle.automata.specs.Automaton.{Automaton, Arc, Content, Tuple, size}
-use Rattle.automata.specs.TapePair.{Pair, TapePair, limited}
-use Rattle.automata.specs.Tapes.{moved, placeAfter}
+use Rattle.automata.specs.TapePair.{Pair, TapePair, tapesOf, behind}
+use Rattle.automata.specs.Tapes.{placeAfter}
 use Rattle.automata.specs.Paths.{SuccessfulPath}
 use Rattle.automata.specs.LeastPath.{FirstLeast}
 use Rattle.automata.specs.Config.{Config, tooLong}
@@ -58,6 +58,10 @@ JoinTapesThere n m ps = (p : Pair) → p ∈ ps → ((1 ≤ p .first) × (p .fir
 abbrev pub SidesApart : List Pair → Type 0
 SidesApart ps = (length ps ≤ maxPairs) × (Distinct (map (λ p. p .first) ps) × Distinct (map (λ p. p .second) ps))
 
+-- no pair's limit is above 64
+abbrev pub LimitsLow : List TapePair → Type 0
+LimitsLow ps = (p : TapePair) → p ∈ ps → p .limit ≤ maxDelay
+
 -- a choice that is not empty, of tapes that are there
 abbrev pub MayChoose : ℕ → List ℕ → Type 0
 MayChoose n js = (zero < length js) × TapesThere n js
@@ -93,22 +97,23 @@ pub data BuildRefused {W : Type 0} (A : Automaton W) (ps : List TapePair) (space
   build-states : MoreThan (stateCap space) (Reached A ps) → BuildRefused A ps space Refusal.statesFull
   -- else more arcs stand between them
   build-arcs : ¬ MoreThan (stateCap space) (Reached A ps) → MoreThan (arcCap space) (ReachedStep A ps) → BuildRefused A ps space Refusal.arcsFull
-  -- else a viable compatible step from a reached configuration leaves more than the limit
+  -- else a viable compatible step from a reached configuration leaves more of some pair than its limit
   build-delay : ¬ MoreThan (stateCap space) (Reached A ps) → ¬ MoreThan (arcCap space) (ReachedStep A ps)
       → (c : Config) (s : (ℕ × Arc W) × Config) → Reached A ps c → s ∈ viableSteps A ps c → tooLong ps (s .1 .leftovers) ≡ true
       → BuildRefused A ps space Refusal.delay
 
 -- why the call refuses, of a table that was judged good
-pub data BuildCallRefused {W : Type 0} (D : ℕ) (enough : Bool) (space : Space) (ps : List Pair) (A : Automaton W) : ℕ → Type 0 where
-  build-tape : ¬ TapesThere (A .tapes) (named ps) → BuildCallRefused D enough space ps A Refusal.tape
-  build-pairs : TapesThere (A .tapes) (named ps) → ¬ PairsApart ps
-      → BuildCallRefused D enough space ps A Refusal.pairs
-  build-limit : TapesThere (A .tapes) (named ps) → PairsApart ps → maxDelay < D
-      → BuildCallRefused D enough space ps A Refusal.limit
-  build-work : TapesThere (A .tapes) (named ps) → PairsApart ps → D ≤ maxDelay → enough ≡ false
-      → BuildCallRefused D enough space ps A Refusal.space
-  build-itself : TapesThere (A .tapes) (named ps) → PairsApart ps → D ≤ maxDelay → enough ≡ true
-      → (n : ℕ) → BuildRefused A (limited D ps) space n → BuildCallRefused D enough space ps A n
+pub data BuildCallRefused {W : Type 0} (enough : Bool) (space : Space) (ps : List TapePair) (A : Automaton W) : ℕ → Type 0 where
+  build-tape : ¬ TapesThere (A .tapes) (named (tapesOf ps)) → BuildCallRefused enough space ps A Refusal.tape
+  build-pairs : TapesThere (A .tapes) (named (tapesOf ps)) → ¬ PairsApart (tapesOf ps)
+      → BuildCallRefused enough space ps A Refusal.pairs
+  -- some pair's limit is above 64
+  build-limit : TapesThere (A .tapes) (named (tapesOf ps)) → PairsApart (tapesOf ps) → (p : TapePair) → p ∈ ps → maxDelay < p .limit
+      → BuildCallRefused enough space ps A Refusal.limit
+  build-work : TapesThere (A .tapes) (named (tapesOf ps)) → PairsApart (tapesOf ps) → LimitsLow ps → enough ≡ false
+      → BuildCallRefused enough space ps A Refusal.space
+  build-itself : TapesThere (A .tapes) (named (tapesOf ps)) → PairsApart (tapesOf ps) → LimitsLow ps → enough ≡ true
+      → (n : ℕ) → BuildRefused A ps space n → BuildCallRefused enough space ps A n
 
 -- ---- the forecast
 
@@ -156,29 +161,29 @@ pub data ProductCallRefused (S : OrderedSum) (fits : S .W → Bool) (enough : Bo
 -- ---- the join
 
 -- what is judged before any step
-pub record JoinTested (lent : Lent) (ps : List Pair) (n m : ℕ) : Type 0 where
+pub record JoinTested (lent : Lent) (ps : List TapePair) (n m : ℕ) : Type 0 where
   pub narrow : n + m ≤ maxTapes
-  pub in-range : JoinTapesThere n m ps
-  pub separated : SidesApart ps
-  pub low : lent .delay ≤ maxDelay
+  pub in-range : JoinTapesThere n m (tapesOf ps)
+  pub separated : SidesApart (tapesOf ps)
+  pub low : LimitsLow ps
   pub enough : lent .enough ≡ true
 
 -- Why the join refuses, of tables that were judged good: a test before any step, else the first step that refuses, with
 -- its refusal. The last step, dropping, does not refuse.
-pub data JoinRefused (S : OrderedSum) (fits : S .W → Bool) (lent : Lent) (ps : List Pair) (A B : Automaton (S .W)) : ℕ → Type 0 where
+pub data JoinRefused (S : OrderedSum) (fits : S .W → Bool) (lent : Lent) (ps : List TapePair) (A B : Automaton (S .W)) : ℕ → Type 0 where
   join-width : maxTapes < A .tapes + B .tapes → JoinRefused S fits lent ps A B Refusal.width
-  join-tape : A .tapes + B .tapes ≤ maxTapes → ¬ JoinTapesThere (A .tapes) (B .tapes) ps → JoinRefused S fits lent ps A B Refusal.tape
-  join-pairs : A .tapes + B .tapes ≤ maxTapes → JoinTapesThere (A .tapes) (B .tapes) ps → ¬ SidesApart ps
+  join-tape : A .tapes + B .tapes ≤ maxTapes → ¬ JoinTapesThere (A .tapes) (B .tapes) (tapesOf ps) → JoinRefused S fits lent ps A B Refusal.tape
+  join-pairs : A .tapes + B .tapes ≤ maxTapes → JoinTapesThere (A .tapes) (B .tapes) (tapesOf ps) → ¬ SidesApart (tapesOf ps)
       → JoinRefused S fits lent ps A B Refusal.pairs
-  join-limit : A .tapes + B .tapes ≤ maxTapes → JoinTapesThere (A .tapes) (B .tapes) ps → SidesApart ps → maxDelay < lent .delay
-      → JoinRefused S fits lent ps A B Refusal.limit
-  join-work : A .tapes + B .tapes ≤ maxTapes → JoinTapesThere (A .tapes) (B .tapes) ps → SidesApart ps → lent .delay ≤ maxDelay
+  join-limit : A .tapes + B .tapes ≤ maxTapes → JoinTapesThere (A .tapes) (B .tapes) (tapesOf ps) → SidesApart (tapesOf ps)
+      → (p : TapePair) → p ∈ ps → maxDelay < p .limit → JoinRefused S fits lent ps A B Refusal.limit
+  join-work : A .tapes + B .tapes ≤ maxTapes → JoinTapesThere (A .tapes) (B .tapes) (tapesOf ps) → SidesApart (tapesOf ps) → LimitsLow ps
       → lent .enough ≡ false → JoinRefused S fits lent ps A B Refusal.space
   -- the product refuses, in the space lent for it
   join-product : JoinTested lent ps (A .tapes) (B .tapes) → (n : ℕ) → ProductRefused S fits (lent .product) A B n → JoinRefused S fits lent ps A B n
   -- the product is given and the build on it refuses
   join-build : JoinTested lent ps (A .tapes) (B .tapes) → (P : Automaton (S .W)) → crossProduct S fits (lent .product) A B ≡ ok P
-      → (n : ℕ) → BuildRefused P (limited (lent .delay) (moved (λ j. A .tapes + j) ps)) (lent .result) n → JoinRefused S fits lent ps A B n
+      → (n : ℕ) → BuildRefused P (behind (A .tapes) ps) (lent .result) n → JoinRefused S fits lent ps A B n
 
 -- ---- union, choosing, dropping, writing, lookup and path
 

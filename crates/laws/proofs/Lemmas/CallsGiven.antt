@@ -12,7 +12,7 @@ use Rattle.automata.specs.Space.{Space}
 use Rattle.automata.specs.OrderedSum.{ℕ-sum}
 use Rattle.automata.specs.Automaton.{Automaton, Formed}
 use Rattle.automata.specs.Table.{weightFits}
-use Rattle.automata.specs.TapePair.{Pair}
+use Rattle.automata.specs.TapePair.{Pair, TapePair, tapesOf}
 use Rattle.automata.specs.Tapes.{seconds}
 use Rattle.automata.specs.Memory.{Memory, Sound, decodeTable, tableOf}
 use Rattle.automata.specs.IntersectCall.{named, intersectOn}
@@ -68,19 +68,19 @@ unfolding readOutcome
 read-given x s r e = let (d, _, _) = gave-table (readAnswer x (spaceOf s)) s r (read-fits x (spaceOf s)) e in judged r (tableOf r) d
 
 -- the auto-intersection
-pub record KeptCall (m r : Memory) (ps : List Pair) (D : ℕ) (space : Space) : Type 0 where
+pub record KeptCall (m r : Memory) (ps : List TapePair) (space : Space) : Type 0 where
   pub source : Judged m
   pub result : Judged r
-  pub tapes : T (all (isTape (tableOf m .tapes)) (named ps))
-  pub gave : intersectOn D space ps (tableOf m) ≡ ok (tableOf r)
+  pub tapes : T (all (isTape (tableOf m .tapes)) (named (tapesOf ps)))
+  pub gave : intersectOn space ps (tableOf m) ≡ ok (tableOf r)
 
-pub kept-call : (m : Memory) (ps : List Pair) (D : ℕ) (s : Slices) (work : List ℕ) (r : Memory)
-    → given (intersectOutcome m ps D s work .made) ≡ ok r → KeptCall m r ps D (spaceOf s)
+pub kept-call : (m : Memory) (ps : List TapePair) (s : Slices) (work : List ℕ) (r : Memory)
+    → given (intersectOutcome m ps s work .made) ≡ ok r → KeptCall m r ps (spaceOf s)
 unfolding intersectOutcome build
-kept-call m ps D s work r e =
-    let (d, q, _) = gave-table (intersectAnswer m ps D (spaceOf s) work) s r (intersect-fits m ps D (spaceOf s) work) e in
-    let (A, a, g) = intersect-parts m ps D (spaceOf s) work (tableOf r) q in
-    let (t, k) = kept-on D _ (spaceOf s) ps A (tableOf r) g in
+kept-call m ps s work r e =
+    let (d, q, _) = gave-table (intersectAnswer m ps (spaceOf s) work) s r (intersect-fits m ps (spaceOf s) work) e in
+    let (A, a, g) = intersect-parts m ps (spaceOf s) work (tableOf r) q in
+    let (t, k) = kept-on _ (spaceOf s) ps A (tableOf r) g in
     record { source = judged m A a; result = judged r (tableOf r) d; tapes = rw (tableOf-is m A a) t; gave = rw (tableOf-is m A a) k }
 
 -- the product
@@ -92,19 +92,19 @@ product-given a b s work r e =
     (judged a A x, judged b B y, judged r (tableOf r) d)
 
 -- the join
-pub record JoinedCall (l : JoinLent) (ps : List Pair) (a b j : Memory) : Type 0 where
+pub record JoinedCall (l : JoinLent) (ps : List TapePair) (a b j : Memory) : Type 0 where
   pub first : Judged a
   pub second : Judged b
   pub result : Judged j
-  pub gave : join ℕ-sum weightFits (lentTo (l .delay) (spaceOf (l .product)) (spaceOf (l .result)) (l .work)) ps (tableOf a) (tableOf b) ≡ ok (tableOf j)
+  pub gave : join ℕ-sum weightFits (lentTo (spaceOf (l .product)) (spaceOf (l .result)) (l .work)) ps (tableOf a) (tableOf b) ≡ ok (tableOf j)
 
-pub joined-call : (l : JoinLent) (ps : List Pair) (a b j : Memory) → given (joinMade l ps a b) ≡ ok j → JoinedCall l ps a b j
+pub joined-call : (l : JoinLent) (ps : List TapePair) (a b j : Memory) → given (joinMade l ps a b) ≡ ok j → JoinedCall l ps a b j
 unfolding joinOutcome conclude
 joined-call l ps a b j e =
     let p = spaceOf (l .product) in
     let s = spaceOf (l .result) in
-    let (d, q, _) = gave-table (joinAnswer a b ps (l .delay) p s (l .work)) (l .result) j (join-fits a b ps (l .delay) p s (l .work)) e in
-    let (A, B, x, y, g) = join-parts a b ps (l .delay) p s (l .work) (tableOf j) q in
+    let (d, q, _) = gave-table (joinAnswer a b ps p s (l .work)) (l .result) j (join-fits a b ps p s (l .work)) e in
+    let (A, B, x, y, g) = join-parts a b ps p s (l .work) (tableOf j) q in
     record { first = judged a A x; second = judged b B y; result = judged j (tableOf j) d; gave = rw (tableOf-is a A x, tableOf-is b B y) g }
 
 -- the union

@@ -12,7 +12,7 @@ use lib.Dec.{T, T-not}
 use Rattle.automata.specs.Lists.{_∈_, or}
 use Rattle.automata.specs.OrderedSum.{OrderedSum, tested}
 use Rattle.automata.specs.Automaton.{Tuple}
-use Rattle.automata.specs.TapePair.{Pair}
+use Rattle.automata.specs.TapePair.{Pair, TapePair, tapesOf}
 use Rattle.automata.specs.Tapes.{emptyTuple, Agree, seconds, moved, joined, dropAt, placeAfter, tapeAfter}
 use Rattle.automata.specs.IntersectCall.{distinct}
 use Rattle.automata.specs.Join.{within}
@@ -20,11 +20,19 @@ use Rattle.laws.specs.JoinTapes.{SharedOut, laterOn}
 use Rattle.automata.proofs.ListFacts
 use Rattle.automata.proofs.TestFacts.{T-false, T-same, T-or-left, T-or-right, or-T}
 use Rattle.automata.proofs.TapeFacts.{length-blank, length-dropAt, getD-dropAt, dropAt-twice, placeAfter-injective}
-use Rattle.automata.proofs.PairFacts.{agree-∈, ∈-agree, within-∈, agree-behind, drop-behind, distinct-eq, seconds-∈, ∈-seconds}
+use Rattle.automata.proofs.PairFacts.{agree-∈, ∈-agree, within-∈, agree-behind, drop-behind, distinct-eq, seconds-∈, ∈-seconds, tapes-placed}
 use Rattle.laws.proofs.Lemmas.Weights.{Meet}
 use Rattle.laws.proofs.Lemmas.ExchangedTapes.{joined-width}
 
-module _ (ps first later : List Pair) (h : SharedOut ps first later) where
+module _ (ps first : List Pair) (laterPairs : List TapePair) (h : SharedOut ps first (tapesOf laterPairs)) where
+  -- the later pairs, whatever their limits
+  abbrev later : List Pair
+  later = tapesOf laterPairs
+
+  -- and at their places behind n tapes
+  abbrev onward : ℕ → List Pair
+  onward n = tapesOf (laterOn n first laterPairs)
+
   -- all pairs agree where the first and the later ones do
   pub agree-shared : (u v : Tuple) → Agree ps u v ↔ (Agree first u v × Agree later u v)
   agree-shared u v = (
@@ -78,27 +86,29 @@ module _ (ps first later : List Pair) (h : SharedOut ps first later) where
 
     -- the tuple in which u and v meet by the first pairs agrees on the later ones where u and v do
     agree-later : (u v : Tuple) → length u ≡ n
-        → Agree (laterOn n first later) (joined first u v) (joined first u v) ↔ Agree later u v
-    agree-later u v l = agree-behind (tapeAfter (seconds first)) n later u v (dropAt (seconds first) v) l
+        → Agree (onward n) (joined first u v) (joined first u v) ↔ Agree later u v
+    agree-later u v l = subst (λ (z : List Pair). Agree z (joined first u v) (joined first u v) ↔ Agree later u v)
+        (sym (tapes-placed (λ j. n + tapeAfter (seconds first) j) laterPairs)) (agree-behind (tapeAfter (seconds first)) n later u v (dropAt (seconds first) v) l
         (λ p m. let (x, y, z, _) = within-∈ n k ps r p (h .all p .1 (inr m)) in (
           x,
           y,
           omega arith,
           (let place : tapeAfter (seconds first) (p .second) - 1 ≡ placeAfter (seconds first) (p .second - 1) = omega arith in
               ap (λ k. getD (dropAt (seconds first) v) k []) place ∙ getD-dropAt (seconds first) v (p .second - 1) [] (left p m)),
-        ))
+        )))
 
-    drop-later : (u v : Tuple) → length u ≡ n → dropAt (seconds (laterOn n first later)) (joined first u v) ≡ joined ps u v
-    drop-later u v l = drop-behind (tapeAfter (seconds first)) n later u (dropAt (seconds first) v) l (λ p m. omega arith)
+    drop-later : (u v : Tuple) → length u ≡ n → dropAt (seconds (onward n)) (joined first u v) ≡ joined ps u v
+    drop-later u v l = ap (λ (z : List Pair). dropAt (seconds z) (joined first u v)) (tapes-placed (λ j. n + tapeAfter (seconds first) j) laterPairs)
+        ∙ drop-behind (tapeAfter (seconds first)) n later u (dropAt (seconds first) v) l (λ p m. omega arith)
         ∙ ap (λ x. u ++ x) (drop-shared v)
 
     -- and as many tapes are left
-    pub width-shared : placeAfter (seconds (laterOn n first later)) (n + placeAfter (seconds first) k) ≡ n + placeAfter (seconds ps) k
+    pub width-shared : placeAfter (seconds (onward n)) (n + placeAfter (seconds first) k) ≡ n + placeAfter (seconds ps) k
     width-shared =
         let u = emptyTuple n in
         let v = emptyTuple k in
         let width : (qs : List Pair) → length (joined qs u v) ≡ n + placeAfter (seconds qs) k = λ qs. joined-width qs u v n k (length-blank n) (length-blank k) in
-        sym (length-dropAt (seconds (laterOn n first later)) (joined first u v) ∙ ap (placeAfter (seconds (laterOn n first later))) (width first))
+        sym (length-dropAt (seconds (onward n)) (joined first u v) ∙ ap (placeAfter (seconds (onward n))) (width first))
         ∙ ap length (drop-later u v (length-blank n)) ∙ width ps
 
     -- what meets by all pairs meets by the first ones, agrees on the later ones, and is left when their second tapes
@@ -108,7 +118,7 @@ module _ (ps first later : List Pair) (h : SharedOut ps first later) where
 
       pub meet-shared : (X Y : Tuple → W → Type 0) → ((u : Tuple) (a : W) → X u a → length u ≡ n) → (t : Tuple) (w : W)
           → Meet S ps X Y t w
-          ↔ ((s : Tuple) × (dropAt (seconds (laterOn n first later)) s ≡ t) × Meet S first X Y s w × Agree (laterOn n first later) s s)
+          ↔ ((s : Tuple) × (dropAt (seconds (onward n)) s ≡ t) × Meet S first X Y s w × Agree (onward n) s s)
       meet-shared X Y width t w = (
         λ (u, v, a, b, x, y, g, et, ew).
             let l = width u a x in
@@ -122,8 +132,8 @@ module _ (ps first later : List Pair) (h : SharedOut ps first later) where
               b,
               x,
               y,
-              agree-shared u v .1 (g₁, agree-later u v l .0 (subst (λ s. Agree (laterOn n first later) s s) (sym et) g)),
-              sym (drop-later u v l) ∙ ap (dropAt (seconds (laterOn n first later))) et ∙ e,
+              agree-shared u v .1 (g₁, agree-later u v l .0 (subst (λ s. Agree (onward n) s s) (sym et) g)),
+              sym (drop-later u v l) ∙ ap (dropAt (seconds (onward n))) et ∙ e,
               ew,
             ),
       )

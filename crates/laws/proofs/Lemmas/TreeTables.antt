@@ -11,7 +11,7 @@ use Rattle.automata.specs.Answer.{ok}
 use Rattle.automata.specs.OrderedSum.{ℕ-sum}
 use Rattle.automata.specs.Automaton.{Automaton, Tuple, Formed}
 use Rattle.automata.specs.Table.{weightFits}
-use Rattle.automata.specs.TapePair.{Pair}
+use Rattle.automata.specs.TapePair.{Pair, TapePair, tapesOf}
 use Rattle.automata.specs.Tapes.{seconds}
 use Rattle.automata.specs.Paths.{Weighs}
 use Rattle.automata.specs.Memory.{Memory, tableOf}
@@ -52,26 +52,29 @@ pub record JoinedTrees (ps : List Pair) (A B J : Automaton ℕ) : Type 0 where
   pub second : Formed B
   pub join : Joined ℕ-sum ps A B J
 
-join-call : (l : JoinLent) (ps : List Pair) (a b j : Memory) → given (joinMade l ps a b) ≡ ok j → JoinedTrees ps (tableOf a) (tableOf b) (tableOf j)
+join-call : (l : JoinLent) (ps : List TapePair) (a b j : Memory) → given (joinMade l ps a b) ≡ ok j → JoinedTrees (tapesOf ps) (tableOf a) (tableOf b) (tableOf j)
 join-call l ps a b j e =
     let c = joined-call l ps a b j e in
-    let lent = lentTo (l .delay) (spaceOf (l .product)) (spaceOf (l .result)) (l .work) in
+    let lent = lentTo (spaceOf (l .product)) (spaceOf (l .result)) (l .work) in
     record {
       first = c .first .formed;
       second = c .second .formed;
       join = join-weighs ℕ-sum weightFits lent ps (tableOf a) (tableOf b) (tableOf j) (c .first .formed) (c .second .formed) (c .gave);
     }
 
-pub joined-trees : (l : JoinLent) (ps : List Pair) (c d : Calls) → Gave (joining l ps c d) → JoinedTrees ps (table c) (table d) (table (joining l ps c d))
+-- by the tapes that its pairs name
+pub joined-trees : (l : JoinLent) (ps : List TapePair) (qs : List Pair) → tapesOf ps ≡ qs → (c d : Calls) → Gave (joining l ps c d)
+    → JoinedTrees qs (table c) (table d) (table (joining l ps c d))
 unfolding made
-joined-trees l ps c d (r, e) =
+joined-trees l ps qs x c d (r, e) =
     let (m, em, g₀) = bind-ok (made c) _ r e in
     let (k, ek, g) = bind-ok (made d) _ r g₀ in
-    over₃ (JoinedTrees ps) (tableOf m) (table c) (tableOf k) (table d) (tableOf r) (table (joining l ps c d))
-    (table-is c m em) (table-is d k ek) (table-is (joining l ps c d) r e) (join-call l ps m k r g)
+    subst (λ (z : List Pair). JoinedTrees z (table c) (table d) (table (joining l ps c d))) x
+    (over₃ (JoinedTrees (tapesOf ps)) (tableOf m) (table c) (tableOf k) (table d) (tableOf r) (table (joining l ps c d))
+    (table-is c m em) (table-is d k ek) (table-is (joining l ps c d) r e) (join-call l ps m k r g))
 
 -- its tables were given
-pub joined-gave : (l : JoinLent) (ps : List Pair) (c d : Calls) → Gave (joining l ps c d) → Gave c × Gave d
+pub joined-gave : (l : JoinLent) (ps : List TapePair) (c d : Calls) → Gave (joining l ps c d) → Gave c × Gave d
 unfolding made
 joined-gave l ps c d (r, e) =
     let (m, em, g₀) = bind-ok (made c) _ r e in
@@ -148,11 +151,12 @@ pub record KeptTrees (qs : List Pair) (A R : Automaton ℕ) : Type 0 where
   pub keeps : Kept ℕ-sum qs A kept
   pub drops : without (seconds qs) kept ≡ R
 
-keep-drop : (m : Memory) (qs : List Pair) (D : ℕ) (s s₁ : Slices) (work : List ℕ) (k r : Memory) → given (intersectOutcome m qs D s work .made) ≡ ok k
-    → given (dropOutcome k (maskOf (seconds qs)) s₁) ≡ ok r → KeptTrees qs (tableOf m) (tableOf r)
+keep-drop : (m : Memory) (ps : List TapePair) (s s₁ : Slices) (work : List ℕ) (k r : Memory) → given (intersectOutcome m ps s work .made) ≡ ok k
+    → given (dropOutcome k (maskOf (seconds (tapesOf ps))) s₁) ≡ ok r → KeptTrees (tapesOf ps) (tableOf m) (tableOf r)
 unfolding dropTapes
-keep-drop m qs D s s₁ work k r e e₁ =
-    let c = kept-call m qs D s work k e in
+keep-drop m ps s s₁ work k r e e₁ =
+    let qs = tapesOf ps in
+    let c = kept-call m ps s work k e in
     let d = dropped-call k (maskOf (seconds qs)) s₁ r e₁ in
     let K = tableOf k in
     let (_, e₂) = judge-ok (droppable (inMask (maskOf (seconds qs))) (K .tapes)) _ _ (tableOf r) (d .gave) in
@@ -160,23 +164,24 @@ keep-drop m qs D s s₁ work k r e e₁ =
     let same = mask-marked (seconds qs) (no-second (tableOf m .tapes) qs (c .source .few) (c .tapes)) in
     record {
       kept = K;
-      keeps = intersected-kept ℕ-sum D (spaceOf s) qs (tableOf m) K (c .source .formed) (c .gave);
+      keeps = intersected-kept ℕ-sum (spaceOf s) ps (tableOf m) K (c .source .formed) (c .gave);
       drops = ap (λ (d : ℕ → Bool). without d K) (sym same) ∙ p;
     }
 
-pub kept-trees : (c : Calls) (qs : List Pair) (D : ℕ) (s s₁ : Slices) (work : List ℕ) → Gave (dropping (keeping c qs D s work) (maskOf (seconds qs)) s₁)
-    → KeptTrees qs (table c) (table (dropping (keeping c qs D s work) (maskOf (seconds qs)) s₁))
+pub kept-trees : (c : Calls) (ps : List TapePair) (s s₁ : Slices) (work : List ℕ) → Gave (dropping (keeping c ps s work) (maskOf (seconds (tapesOf ps))) s₁)
+    → KeptTrees (tapesOf ps) (table c) (table (dropping (keeping c ps s work) (maskOf (seconds (tapesOf ps))) s₁))
 unfolding made
-kept-trees c qs D s s₁ work (r, e) =
-    let (k, ek, g) = bind-ok (made (keeping c qs D s work)) _ r e in
+kept-trees c ps s s₁ work (r, e) =
+    let mask = maskOf (seconds (tapesOf ps)) in
+    let (k, ek, g) = bind-ok (made (keeping c ps s work)) _ r e in
     let (m, em, g₁) = bind-ok (made c) _ k ek in
-    over₂ (KeptTrees qs) (tableOf m) (table c) (tableOf r) (table (dropping (keeping c qs D s work) (maskOf (seconds qs)) s₁))
-    (table-is c m em) (table-is (dropping (keeping c qs D s work) (maskOf (seconds qs)) s₁) r e) (keep-drop m qs D s s₁ work k r g₁ g)
+    over₂ (KeptTrees (tapesOf ps)) (tableOf m) (table c) (tableOf r) (table (dropping (keeping c ps s work) mask s₁))
+    (table-is c m em) (table-is (dropping (keeping c ps s work) mask s₁) r e) (keep-drop m ps s s₁ work k r g₁ g)
 
 -- its first table was given
-pub kept-gave : (c : Calls) (qs : List Pair) (D : ℕ) (s s₁ : Slices) (work : List ℕ) (mask : ℕ) → Gave (dropping (keeping c qs D s work) mask s₁) → Gave c
+pub kept-gave : (c : Calls) (ps : List TapePair) (s s₁ : Slices) (work : List ℕ) (mask : ℕ) → Gave (dropping (keeping c ps s work) mask s₁) → Gave c
 unfolding made
-kept-gave c qs D s s₁ work mask (r, e) =
-    let (k, ek, _) = bind-ok (made (keeping c qs D s work)) _ r e in
+kept-gave c ps s s₁ work mask (r, e) =
+    let (k, ek, _) = bind-ok (made (keeping c ps s work)) _ r e in
     let (m, em, _) = bind-ok (made c) _ k ek in
     (m, em)
