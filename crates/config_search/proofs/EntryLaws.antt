@@ -6,6 +6,7 @@ use native.Mathlib.Omega.{arith}
 use native.Mathlib.Nat.{sub-zero}
 use mathlib.Core.Bool.{Bool}
 use lib.ListN.{length, getD}
+use Rattle.automata.specs.Limits.{maxDelay}
 use Rattle.chains.specs.Hash.{hashFrom}
 use Rattle.configuration.specs.Leftovers.{outside}
 use Rattle.configuration.specs.Configs.{Config, configAs, GoodConfig, configBytes, configAt, Row}
@@ -52,8 +53,8 @@ may-enter-row p states arcs row size x g s b =
       row-is = record { good = g; bytes = b };
       four = x .named .used-fit;
       short = λ i h.
-          let l = subst (λ (c : Config). getD (c .leftovers) i outside .len ≤ p .limit) e (s .short i h) in
-          omega (arith, l, x .limit-fits);
+          let l = subst (λ (c : Config). getD (c .leftovers) i outside .len ≤ maxDelay) e (s .short i h) in
+          omega (arith, l);
     }
 
 -- what entering it asks

@@ -47,7 +47,7 @@ use Rattle.config_search.proofs.AgreeLaws.{row-shaped, config-row-of, s
 -- at most four closings
 pub few-closings : (p : Plan) (states arcs : List ℕ) (size : ℕ) → Explorable p states arcs size → length (tablesIn p states arcs .closings) ≤ 4
 few-closings p states arcs size x =
-    let l = length-closings (lent (p .counts) states arcs) (p .limit) (p .pairs) (omega (arith, x .named .used-fit, x .four-pairs)) in
+    let l = length-closings (lent (p .counts) states arcs) (p .pairs) (omega (arith, x .named .used-fit, x .four-pairs)) in
     omega (arith, l, x .named .used-fit)
 
 -- ---- a configuration is entered
@@ -100,7 +100,7 @@ module _ (p : Plan) (h : Head) (d : Config) (v : List ℕ) (good : GoodConfig (p
   may-enter = record {
     sized = size-is;
     held = o .configs;
-    tells = rows-tell used (p .limit) (p .counts .states) c (s .vertices) may (o .stored);
+    tells = rows-tell used (p .counts .states) c (s .vertices) may (o .stored);
     reflexive = configs-decided .complete c;
     few = o .fits;
     count-is = o .reached;

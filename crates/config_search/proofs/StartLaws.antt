@@ -152,11 +152,8 @@ module _ (p : Plan) (h : Head) (states : List ℕ) (q : ℕ) (v : List ℕ) (k :
     count-pairs = length-map (take used (p .pairs .pairs)) pairAs
         ∙ length-take-le used (p .pairs .pairs) (omega (arith, k .explorable .named .used-fit, k .explorable .four-pairs))
 
-    count-limited : length (pairsIn p) ≡ used
-    count-limited = length-map (pairsAs (p .pairs)) (λ z. record { first = z .first; second = z .second; limit = p .limit }) ∙ count-pairs
-
     start-is : configAs used d ≡ automata.startAt (pairsIn p) q
-    start-is = ap (λ (n : ℕ). configAs n d) (sym count-limited) ∙ st .meaning (pairsIn p) (omega (arith, count-limited, k .explorable .named .used-fit))
+    start-is = ap (λ (n : ℕ). configAs n d) (sym count-pairs) ∙ st .meaning (pairsIn p) (omega (arith, count-pairs, k .explorable .named .used-fit))
 
     start-state : d .state .0 ≡ q
     start-state = ap (λ (z : automata.Config). z .state) start-is
@@ -176,8 +173,8 @@ module _ (p : Plan) (h : Head) (states : List ℕ) (q : ℕ) (v : List ℕ) (k :
       explorable = k .explorable;
       holds = k .holds;
       good = start-good;
-      stored = stored-form used (p .limit) (p .counts .states) d (k .explorable .named .used-fit) start-good (omega (arith, start-state, k .state-fits))
-          (not-long used (p .limit) (pairsAs (p .pairs)) d (k .explorable .named .used-fit) start-good count-pairs
+      stored = stored-form used (p .counts .states) d (k .explorable .named .used-fit) start-good (omega (arith, start-state, k .state-fits))
+          (not-long used (pairsIn p) d (k .explorable .named .used-fit) start-good count-pairs (k .explorable .limits-fit)
           (ap (λ (z : automata.Config). automata.tooLong (pairsIn p) (z .leftovers)) start-is ∙ start-short (pairsIn p)));
     }
 
@@ -186,7 +183,7 @@ module _ (p : Plan) (h : Head) (states : List ℕ) (q : ℕ) (v : List ℕ) (k :
           → b ≡ viableIn p states arcs (automata.startAt (pairsIn p) q)
       tested arcs x hc =
           t (tablesIn p states arcs) (p .counts .states) hc (x .delays-fit) (omega (arith, start-state, k .state-fits))
-          (length-closings (lent (p .counts) states arcs) (p .limit) (p .pairs) (omega (arith, x .named .used-fit, x .four-pairs)))
+          (length-closings (lent (p .counts) states arcs) (p .pairs) (omega (arith, x .named .used-fit, x .four-pairs)))
           ∙ ap (viableIn p states arcs) start-is
 
       start-by : (arcs : List ℕ) (a : State ℕ) → Explorable p states arcs (length v) → HoldsClosing (tablesIn p states arcs) (p .room .delays) (p .counts .states) v

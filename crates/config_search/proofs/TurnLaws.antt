@@ -6,6 +6,7 @@ use mathlib.Core.Option.{none, some}
 use mathlib.Core.List.{List, []}
 use native.Mathlib.Omega.{arith}
 use lib.ListN.{length, getD, getElem?}
+use Rattle.automata.specs.Limits.{maxDelay}
 use Rattle.automata.specs.Lists.{or}
 use Rattle.automata.specs.Automaton.{Arc, Automaton}
 use Rattle.automata.specs.Config as automata
@@ -163,7 +164,7 @@ module _ (p : Plan) (h : Head) (arcs : List ℕ) (v : List ℕ) (q : Takable p h
             explorable = more-room (q .states) (q .explorable);
             holds = t .meaning (q .states) (q .search) (q .late) c (q .explorable) (q .holds) e;
             good = subst (GoodConfig (p .pairs .used)) (sym f) (m .form);
-            short = subst (λ (z : Config). (i : ℕ) → i < p .pairs .used → getD (z .leftovers) i outside .len ≤ p .limit) (sym f) (m .short);
+            short = subst (λ (z : Config). (i : ℕ) → i < p .pairs .used → getD (z .leftovers) i outside .len ≤ maxDelay) (sym f) (m .short);
             arc-fits = b;
             taken-fits = omega (arith, t .taken, t .grown, q .taken-fits);
             few = omega (arith, t .taken, t .few);

@@ -5,6 +5,7 @@ use mathlib.Core.Option.{some}
 use mathlib.Core.List.{List}
 use Prim.Native.Nat.{ℕ, zero, suc, _+_, _*_, _/_, _≤_, _<_}
 use lib.ListN.{length, getD, getElem?}
+use Rattle.automata.specs.Limits.{maxDelay}
 use Rattle.automata.specs.Lists.{All, or}
 use Rattle.automata.specs.Automaton.{Arc}
 use Rattle.automata.specs.Config as automata
@@ -118,7 +119,7 @@ pub record Visitable (p : Plan) (h : Head) (c : Config) (arcs : List ℕ) (j : �
   pub explorable : Explorable p states arcs (length w)
   pub holds : Holds p states arcs h search late w
   pub good : GoodConfig (p .pairs .used) c
-  pub short : (i : ℕ) → i < p .pairs .used → getD (c .leftovers) i outside .len ≤ p .limit
+  pub short : (i : ℕ) → i < p .pairs .used → getD (c .leftovers) i outside .len ≤ maxDelay
   pub arc-fits : j < p .counts .arcs
   pub taken-fits : h .taken < h .reached
   pub few : h .arcs ≤ 8192 * h .taken + j

@@ -10,7 +10,7 @@ use lib.ListN.{length, getD, set, take, drop, replicate, drop-of-length-le, leng
 use lib.Seq.{drop-cons, getD-take, length-take-le, take-suc-set, drop-set-lt, drop-drop}
 use Rattle.automata.specs.Lists.{All, consBoth}
 use Rattle.automata.specs.Automaton.{Symbol, Arc, labelOn}
-use Rattle.automata.specs.TapePair.{reading, limited, map-reading}
+use Rattle.automata.specs.TapePair.{reading, map-reading}
 use Rattle.automata.specs.Leftover as automata
 use Rattle.automata.specs.Config.{advanceAll}
 use Rattle.automata.proofs.ListFacts.{map-append}
@@ -58,17 +58,17 @@ module _ (at : ℕ) (arcs : List ℕ) where
   allAfter (p ∷ ps) (l ∷ ls) = consBoth (pairAfter at arcs p l) (allAfter ps ls)
 
   -- it is what the definitions leave
-  all-after : (tapes D : ℕ) (a : Arc ℕ) → Reads arcs at tapes a → (ps : List Pair) (ls : List Leftover) → All (Within tapes) ps
-      → advanceAll (limited D (map pairAs ps)) (map leftoverAs ls) a ≡ allAfter ps ls
+  all-after : (tapes : ℕ) (a : Arc ℕ) → Reads arcs at tapes a → (ps : List Pair) (ls : List Leftover) → All (Within tapes) ps
+      → advanceAll (map pairAs ps) (map leftoverAs ls) a ≡ allAfter ps ls
   unfolding allAfter
-  all-after tapes D a r [] [] n = refl
-  all-after tapes D a r [] (l ∷ ls) n = refl
-  all-after tapes D a r (p ∷ ps) [] n = refl
-  all-after tapes D a r (p ∷ ps) (l ∷ ls) n =
+  all-after tapes a r [] [] n = refl
+  all-after tapes a r [] (l ∷ ls) n = refl
+  all-after tapes a r (p ∷ ps) [] n = refl
+  all-after tapes a r (p ∷ ps) (l ∷ ls) n =
       let w = n .0 in
       ap₂ consBoth
       (ap₂ (automata.advance (leftoverAs l)) (label-read arcs at tapes a r (p .first) (w .first-from) (w .first-to)) (label-read arcs at tapes a r (p .second) (w .second-from) (w .second-to)))
-      (all-after tapes D a r ps ls (n .1))
+      (all-after tapes a r ps ls (n .1))
 
 -- leftovers in front of those that are still to come
 abbrev pub before : List automata.Leftover → Option (List automata.Leftover) → Option (List automata.Leftover)
@@ -166,9 +166,9 @@ module _ (arcs : List ℕ) (at : ℕ) (c : Config) (ps : PairList) (f : Followab
 
     pub follows-none : not (b .compatible) ≡ true → (d : Config) → GoodConfig (ps .used) d → Follows c arcs at ps (record { compatible = false; config = d })
     follows-none e d s = record {
-      meaning = λ tapes D a n w.
+      meaning = λ tapes a n w.
           sym (ap (Option·map (λ ls. record { state = a .target; leftovers = ls }))
-          (all-after at arcs tapes D a w (take (ps .used) (ps .pairs)) (take (ps .used) (c .leftovers)) (named-all tapes ps n) ∙ stopped (not-true (b .compatible) e)));
+          (all-after at arcs tapes a w (take (ps .used) (ps .pairs)) (take (ps .used) (c .leftovers)) (named-all tapes ps n) ∙ stopped (not-true (b .compatible) e)));
       good = s;
     }
 
@@ -176,14 +176,14 @@ module _ (arcs : List ℕ) (at : ℕ) (c : Config) (ps : PairList) (f : Followab
   follows-some next i r h =
       let e : ps .used ≡ i = omega (arith, r .within) in
       record {
-        meaning = λ tapes D a n w.
+        meaning = λ tapes a n w.
             let m : length (take (ps .used) (ps .pairs)) ≤ i = omega (arith, length-front 8 ps (f .named)) in
             let k : length (take (ps .used) (c .leftovers)) ≤ i = omega (arith, length-take-le (ps .used) (c .leftovers) (omega (arith, f .named .used-fit, f .good .four))) in
             let p : a .target ≡ next .state .0 = w .target ∙ sym (r .target) in
             let all : allAfter at arcs (take (ps .used) (ps .pairs)) (take (ps .used) (c .leftovers)) ≡ some (map leftoverAs (take (ps .used) (next .leftovers))) =
             sym (r .rest) ∙ ended at arcs (map leftoverAs (take i (next .leftovers))) _ _ (drop-of-length-le (take (ps .used) (ps .pairs)) m) (drop-of-length-le (take (ps .used) (c .leftovers)) k) ∙ rw e in
             sym (ap (Option·map (λ ls. record { state = a .target; leftovers = ls }))
-            (all-after at arcs tapes D a w (take (ps .used) (ps .pairs)) (take (ps .used) (c .leftovers)) (named-all tapes ps n) ∙ all)
+            (all-after at arcs tapes a w (take (ps .used) (ps .pairs)) (take (ps .used) (c .leftovers)) (named-all tapes ps n) ∙ all)
             ∙ (λ j. some (record { state = p j; leftovers = map leftoverAs (take (ps .used) (next .leftovers)) })));
         good = rw e (r .good);
       }

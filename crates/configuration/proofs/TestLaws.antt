@@ -7,20 +7,23 @@ use mathlib.Core.List.{List, [], _∷_, map}
 use native.Mathlib.Omega.{arith}
 use native.Mathlib.Numerals.{add-one}
 use lib.Dec.{ltb}
-use lib.ListN.{length, getD, getElem?, take, drop, replicate, drop-of-length-le, length-map}
+use lib.ListN.{length, getD, getElem?, take, drop, replicate, drop-of-length-le, length-take, length-map}
 use lib.Seq.{drop-cons, getD-take, length-take-le}
 use borrow.Author.Tests.{lt-ltb, le-ltb}
 use Rattle.automata.specs.Lists.{or, and, All}
-use Rattle.automata.specs.TapePair.{Pair, TapePair, limited}
+use Rattle.automata.specs.TapePair.{TapePair}
 use Rattle.automata.specs.Leftover as automata
 use Rattle.automata.specs.Config.{tooLong}
 use Rattle.automata.proofs.RecordFacts.{All-at}
 use Rattle.memory.specs.declared.record.InputState.{InputState}
+use Rattle.memory.specs.declared.pair.Pair.{Pair}
+use Rattle.memory.specs.declared.pair.PairList.{PairList}
+use Rattle.memory.specs.Pairs.{pairAs, pairsAs, noPair}
 use Rattle.configuration.specs.declared.leftover.Leftover.{Leftover}
 use Rattle.configuration.specs.Leftovers.{sided, leftoverAs, blank, outside, Good, onTape}
-use Rattle.configuration.specs.Configs.{Config, configAs, GoodConfig, Starts, TellsLong, lengthsOn}
+use Rattle.configuration.specs.Configs.{Config, configAs, GoodConfig, Starts, lengthsOn}
 use Rattle.configuration.proofs.StripLaws.{blank-good}
-use Rattle.configuration.proofs.ListLaws.{drop-replicate, four-elements, All-take}
+use Rattle.configuration.proofs.ListLaws.{drop-replicate, four-elements}
 
 -- ---- the start
 blank-as : leftoverAs blank ≡ automata.nothing
@@ -38,12 +41,7 @@ starts-blank q l h e = rw e (record {
   good = λ used. record { state-fits = h; four = refl; each = (blank-good, (blank-good, (blank-good, (blank-good, tt)))); blanks = drop-replicate 4 used blank };
 })
 
--- ---- leftovers longer than a limit
-
--- some leftover has more symbols
-unfoldable pub anyLonger : ℕ → List Leftover → Bool
-anyLonger limit [] = false
-anyLonger limit (l ∷ ls) = let r = anyLonger limit ls in or (ltb limit (l .len)) r
+-- ---- leftovers longer than the limits of their pairs
 
 -- how many symbols a good leftover stands for
 pub kept-length : (l : Leftover) → Good l → length (take (l .len) (l .symbols)) ≡ l .len
@@ -60,42 +58,50 @@ longer-is D l g = go (l .second)
     go false = rw (kept-length l g, le-ltb D 0 (omega arith)) (or-none (ltb D (l .len)))
     go true = rw (kept-length l g, le-ltb D 0 (omega arith))
 
-tooLong-is : (D : ℕ) (ps : List Pair) (ls : List Leftover) → All Good ls → length ps ≡ length ls → tooLong (limited D ps) (map leftoverAs ls) ≡ anyLonger D ls
-unfolding anyLonger
-tooLong-is D [] [] g e = refl
-tooLong-is D [] (l ∷ ls) g e = absurd (omega arith)
-tooLong-is D (p ∷ ps) [] g e = absurd (omega arith)
-tooLong-is D (p ∷ ps) (l ∷ ls) g e = ap₂ or (longer-is D l (g .0)) (tooLong-is D ps ls (g .1) (omega arith))
+-- some leftover from place i on is longer
+unfoldable pub longFrom : ℕ → List Pair → List Leftover → Bool
+longFrom i ps ls = tooLong (map pairAs (drop i ps)) (map leftoverAs (drop i ls))
 
-module _ (used limit : ℕ) (c : Config) (g : GoodConfig used c) (h : used ≤ 4) where
-  count : length (take used (c .leftovers)) ≡ used
-  count = length-take-le used (c .leftovers) (omega (arith, g .four))
+module _ (ps : PairList) (c : Config) (g : GoodConfig (ps .used) c) (h : ps .used ≤ 4) where
+  -- all of them
+  pub long-all : longFrom 0 (take (ps .used) (ps .pairs)) (take (ps .used) (c .leftovers)) ≡ tooLong (pairsAs ps) (configAs (ps .used) c .leftovers)
+  unfolding longFrom
+  long-all = refl
 
-  taken-is : (ps : List Pair) → length ps ≡ used → tooLong (limited limit ps) (configAs used c .leftovers) ≡ anyLonger limit (take used (c .leftovers))
-  taken-is ps e = tooLong-is limit ps (take used (c .leftovers)) (All-take Good used (c .leftovers) (g .each)) (e ∙ sym count)
+  pub long-none : (i : ℕ) → ps .used ≤ i → longFrom i (take (ps .used) (ps .pairs)) (take (ps .used) (c .leftovers)) ≡ false
+  unfolding longFrom
+  long-none i k =
+      let m : length (take (ps .used) (ps .pairs)) ≤ i = let e = length-take (ps .used) (ps .pairs) in omega (arith, e) in
+      ap (λ (z : List Pair). tooLong (map pairAs z) (map leftoverAs (drop i (take (ps .used) (c .leftovers))))) (drop-of-length-le (take (ps .used) (ps .pairs)) m)
 
-  pub tells-long : (r : Bool) → r ≡ anyLonger limit (take used (c .leftovers)) → TellsLong used limit c r
-  tells-long r e = λ ps k. e ∙ sym (taken-is ps k)
+  module _ (four : length (ps .pairs) ≡ 4) (i : ℕ) (k : i < ps .used) where
+    abbrev p : Pair
+    p = getD (ps .pairs) i noPair
 
-  module _ (i : ℕ) (k : i < used) where
-    next-is : drop i (take used (c .leftovers)) ≡ getD (c .leftovers) i outside ∷ drop (i + 1) (take used (c .leftovers))
+    abbrev l : Leftover
+    l = getD (c .leftovers) i outside
+
+    next-is : longFrom i (take (ps .used) (ps .pairs)) (take (ps .used) (c .leftovers))
+        ≡ or (ltb (p .limit) (l .len)) (longFrom (i + 1) (take (ps .used) (ps .pairs)) (take (ps .used) (c .leftovers)))
+    unfolding longFrom
     next-is =
-        let m : i < length (take used (c .leftovers)) = omega (arith, count) in
-        drop-cons (take used (c .leftovers)) i outside m ∙ rw (getD-take, add-one i)
+        let m : i < length (take (ps .used) (ps .pairs)) = omega (arith, length-take-le (ps .used) (ps .pairs) (omega (arith, four))) in
+        let n : i < length (take (ps .used) (c .leftovers)) = omega (arith, length-take-le (ps .used) (c .leftovers) (omega (arith, g .four))) in
+        let x : drop i (take (ps .used) (ps .pairs)) ≡ p ∷ drop (i + 1) (take (ps .used) (ps .pairs))
+        = drop-cons (take (ps .used) (ps .pairs)) i noPair m ∙ rw (getD-take, add-one i) in
+        let y : drop i (take (ps .used) (c .leftovers)) ≡ l ∷ drop (i + 1) (take (ps .used) (c .leftovers))
+        = drop-cons (take (ps .used) (c .leftovers)) i outside n ∙ rw (getD-take, add-one i) in
+        ap₂ (λ (z : List Pair) (w : List Leftover). tooLong (map pairAs z) (map leftoverAs w)) x y
+        ∙ ap (λ b. or b (longFrom (i + 1) (take (ps .used) (ps .pairs)) (take (ps .used) (c .leftovers))))
+        (longer-is (p .limit) l (All-at Good (c .leftovers) outside i (g .each) (omega (arith, g .four))))
 
     -- the next leftover is longer, or is not
-    pub longer-found : limit < getD (c .leftovers) i outside .len → anyLonger limit (drop i (take used (c .leftovers))) ≡ true
-    unfolding anyLonger
-    longer-found m = ap (anyLonger limit) next-is ∙ rw (lt-ltb limit (getD (c .leftovers) i outside .len) m)
+    pub long-found : p .limit < l .len → longFrom i (take (ps .used) (ps .pairs)) (take (ps .used) (c .leftovers)) ≡ true
+    long-found m = next-is ∙ rw (lt-ltb (p .limit) (l .len) m)
 
-    pub longer-next : getD (c .leftovers) i outside .len ≤ limit
-        → anyLonger limit (drop i (take used (c .leftovers))) ≡ anyLonger limit (drop (i + 1) (take used (c .leftovers)))
-    unfolding anyLonger
-    longer-next m = ap (anyLonger limit) next-is ∙ rw (le-ltb limit (getD (c .leftovers) i outside .len) m)
-
-  pub longer-none : (i : ℕ) → used ≤ i → anyLonger limit (drop i (take used (c .leftovers))) ≡ false
-  unfolding anyLonger
-  longer-none i k = let m : length (take used (c .leftovers)) ≤ i = omega (arith, count) in ap (anyLonger limit) (drop-of-length-le (take used (c .leftovers)) m)
+    pub long-next : l .len ≤ p .limit
+        → longFrom i (take (ps .used) (ps .pairs)) (take (ps .used) (c .leftovers)) ≡ longFrom (i + 1) (take (ps .used) (ps .pairs)) (take (ps .used) (c .leftovers))
+    long-next m = next-is ∙ rw (le-ltb (p .limit) (l .len) m)
 
 -- ---- the lengths of the leftovers
 

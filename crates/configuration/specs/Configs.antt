@@ -5,7 +5,7 @@ use mathlib.Core.List.{List, [], _∷_, _++_, map}
 use Prim.Native.Nat.{ℕ, _+_, _-_, _*_, _≤_, _<_}
 use lib.ListN.{length, getD, take, drop, replicate}
 use Rattle.automata.specs.Lists.{All}
-use Rattle.automata.specs.TapePair.{Pair, TapePair, limited}
+use Rattle.automata.specs.TapePair.{TapePair}
 use Rattle.automata.specs.Config as automata
 use Rattle.memory.specs.Region.{part}
 use Rattle.memory.specs.Endian.{le, toLe}
@@ -60,10 +60,6 @@ pub record Row (used : ℕ) (row : List ℕ) : Type 0 where
 pub record Starts (q : ℕ) (r : Config) : Type 0 where
   pub meaning : (ps : List TapePair) → length ps ≤ 4 → configAs (length ps) r ≡ automata.startAt ps q
   pub good : (used : ℕ) → GoodConfig used r
-
--- r tells whether a leftover of the first so many pairs is longer than the limit, whichever pairs they are
-abbrev pub TellsLong : ℕ → ℕ → Config → Bool → Type 0
-TellsLong used limit c r = (ps : List Pair) → length ps ≡ used → r ≡ automata.tooLong (limited limit ps) (configAs used c .leftovers)
 
 -- the lengths of all four leftovers on the second tapes, or on the first
 abbrev pub lengthsOn : Bool → Config → List ℕ

@@ -7,7 +7,6 @@ use Prim.Native.Nat.{ℕ, _+_, _-_, _*_, _≤_, _<_}
 use lib.ListN.{length, getD, take}
 use Rattle.automata.specs.Lists.{guard}
 use Rattle.automata.specs.Automaton.{Arc, labelOn}
-use Rattle.automata.specs.TapePair.{limited}
 use Rattle.automata.specs.Leftover as leftover
 use Rattle.automata.specs.Config as automata
 use Rattle.memory.specs.Region.{part, splice}
@@ -58,10 +57,10 @@ pub record Followed : Type 0 where
 abbrev pub followedAs : ℕ → Followed → Option automata.Config
 followedAs used r = guard (r .compatible) (some (configAs used (r .config)))
 
--- the answer stands for the configuration after the arc, whichever table it is of and whatever the limit, and is in its one form
+-- the answer stands for the configuration after the arc, whichever table it is of, and is in its one form
 pub record Follows (c : Config) (arcs : List ℕ) (at : ℕ) (ps : PairList) (r : Followed) : Type 0 where
-  pub meaning : (tapes D : ℕ) (a : Arc ℕ) → Named tapes ps → Reads arcs at tapes a
-      → followedAs (ps .used) r ≡ automata.follow (limited D (pairsAs ps)) (configAs (ps .used) c) a
+  pub meaning : (tapes : ℕ) (a : Arc ℕ) → Named tapes ps → Reads arcs at tapes a
+      → followedAs (ps .used) r ≡ automata.follow (pairsAs ps) (configAs (ps .used) c) a
   pub good : GoodConfig (ps .used) (r .config)
 
 -- ---- in records

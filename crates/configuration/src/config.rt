@@ -5,11 +5,14 @@ ghost use mathlib.Core.Bool.{true, false};
 ghost use Prim.Native.Nat.{_+_, _≤_};
 ghost use lib.ListN.{length};
 ghost use Rattle.automata.specs.Lists.{All};
+ghost use Rattle.automata.specs.Config.{tooLong};
 ghost use Rattle.memory.specs.Region.{part};
+ghost use Rattle.memory.specs.Pairs.{pairsAs};
 ghost use Rattle.configuration.specs.Leftovers.{Good, onTape, leftoverAs, leftoverAt};
-ghost use Rattle.configuration.specs.Configs.{GoodConfig, Starts, TellsLong, lengthsOn, configBytes, configAt};
+ghost use Rattle.configuration.specs.Configs.{GoodConfig, Starts, configAs, lengthsOn, configBytes, configAt};
 use memory::bytes::copy_into;
 use memory::bytes::put16;
+use memory::pair::PairList;
 use memory::record::InputState;
 
 // The record of the configuration in which a path starts.
@@ -31,14 +34,15 @@ pub fn load_row(work: &[u8], at: usize) -> [u8; 298]
     row
 }
 
-// Whether some leftover of the first `used` pairs is longer than the limit.
-pub fn too_long(row: &[u8], used: usize, limit: u8) -> bool
-    requires { ⌜ (GoodConfig used (configAt 0 (now row))) × (used ≤ 4) × (length (now row) ≡ 298) ⌝ }
-    ensures { λ r. ⌜ TellsLong used limit (configAt 0 (now (row .entry))) r ⌝ }
+// Whether some leftover is longer than the limit of its pair.
+pub fn too_long(row: &[u8], pairs: PairList) -> bool
+    requires { ⌜ (GoodConfig (pairs .used) (configAt 0 (now row))) × (pairs .used ≤ 4) × (length (pairs .pairs) ≡ 4) × (length (now row) ≡ 298) ⌝ }
+    ensures { λ r. ⌜ r ≡ tooLong (pairsAs pairs) (configAs (pairs .used) (configAt 0 (now (row .entry))) .leftovers) ⌝ }
 {
     let mut i = 0;
-    while i < used {
-        if limit < row[3 + 74 * i] {
+    while i < pairs.used {
+        let p = pairs.pairs[i];
+        if p.limit < row[3 + 74 * i] {
             return true;
         }
         i += 1;

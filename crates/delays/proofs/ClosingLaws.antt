@@ -10,8 +10,6 @@ use lib.ListN.{length, getD, getElem?, take}
 use Rattle.automata.specs.Marks.{coaccessible}
 use Rattle.automata.specs.Automaton.{Automaton, graph}
 use Rattle.automata.specs.Reversal.{directed}
-use Rattle.automata.specs.TapePair as automata
-use Rattle.automata.specs.TapePair.{limited}
 use Rattle.automata.specs.Memory.{Memory, Sound, tableOf}
 use Rattle.automata.specs.Closing.{finals, Closing, closing, closingTables, leastDelays}
 use Rattle.automata.proofs.Membership.{place-map⁻¹, place-take⁻¹}
@@ -32,17 +30,15 @@ use Rattle.delays.specs.ClosingRegion.{PairClosed, ClosesPairs, WritesCl
 -- ---- the pairs
 
 -- the closing delays of the h-th pair
-closing-of : (A : Automaton ℕ) (D : ℕ) (ps : PairList) (h : ℕ) (c : Closing) → getElem? (closingTables A (limited D (pairsAs ps)) .closings) h ≡ some c
-    → (h < ps .used) × (closing A (record { first = getD (ps .pairs) h noPair .first; second = getD (ps .pairs) h noPair .second; limit = D }) ≡ c)
+closing-of : (A : Automaton ℕ) (ps : PairList) (h : ℕ) (c : Closing) → getElem? (closingTables A (pairsAs ps) .closings) h ≡ some c
+    → (h < ps .used) × (closing A (pairAs (getD (ps .pairs) h noPair)) ≡ c)
 unfolding closingTables
-closing-of A D ps h c e =
-    let (q, at₁, e₁) = place-map⁻¹ (closing A) (limited D (pairsAs ps)) h e in
-    let (m, at₂, e₂) = place-map⁻¹ {A = automata.Pair} (λ p. record { first = p .first; second = p .second; limit = D }) (pairsAs ps) h at₁ in
-    let (p, at₃, e₃) = place-map⁻¹ pairAs (take (ps .used) (ps .pairs)) h at₂ in
-    let r = place-take⁻¹ (ps .used) (ps .pairs) h noPair at₃ in (
+closing-of A ps h c e =
+    let (q, at₁, e₁) = place-map⁻¹ (closing A) (pairsAs ps) h e in
+    let (p, at₂, e₂) = place-map⁻¹ pairAs (take (ps .used) (ps .pairs)) h at₁ in
+    let r = place-take⁻¹ (ps .used) (ps .pairs) h noPair at₂ in (
       r .0,
-      ap (λ (z : Pair). closing A (record { first = z .first; second = z .second; limit = D })) (r .1)
-          ∙ ap (λ (z : automata.Pair). closing A (record { first = z .first; second = z .second; limit = D })) e₃ ∙ ap (closing A) e₂ ∙ e₁,
+      ap (λ (z : Pair). closing A (pairAs z)) (r .1) ∙ ap (closing A) e₂ ∙ e₁,
     )
 
 -- the bytes of four pairs are all that pairs change
@@ -126,10 +122,10 @@ module _ (m : Memory) (s : Sound m) where
       = frame-column (base + 32) base 32 (m .states) w u (pairs-frame (m .stateBytes) (m .states) (m .arcBytes) (m .arcs) (ps .pairs) (ps .used) base w u k b)
       (omega arith) (inl (omega arith, omega arith)) in
       record {
-        tables = λ D. record {
+        tables = record {
           reaching = r ∙ reaching-are false (column (base + 32) (m .states) u) (a .least);
-          least = λ h c q. let f = closing-of t D ps h c q in pair-closed false _ (n .each h (f .0)) _ _ (b .closed h (f .0)) .0 ∙ ap (λ (z : Closing). z .least) (f .1);
-          opposite = λ h c q. let f = closing-of t D ps h c q in pair-closed false _ (n .each h (f .0)) _ _ (b .closed h (f .0)) .1 ∙ ap (λ (z : Closing). z .opposite) (f .1);
+          least = λ h c q. let f = closing-of t ps h c q in pair-closed false _ (n .each h (f .0)) _ _ (b .closed h (f .0)) .0 ∙ ap (λ (z : Closing). z .least) (f .1);
+          opposite = λ h c q. let f = closing-of t ps h c q in pair-closed false _ (n .each h (f .0)) _ _ (b .closed h (f .0)) .1 ∙ ap (λ (z : Closing). z .opposite) (f .1);
         };
         same-length = b .same-length ∙ e;
         same = λ i y z. b .same i y ∙ a .frame .same i z;

@@ -12,7 +12,6 @@ use Rattle.memory.specs.Endian.{le}
 use Rattle.automata.specs.Lists.{if, and}
 use Rattle.automata.specs.Leftover.{Leftover}
 use Rattle.automata.specs.Config.{Config}
-use Rattle.automata.specs.TapePair.{limited}
 use Rattle.automata.specs.Memory.{Memory, tableOf}
 use Rattle.automata.specs.Closing.{missing, Closing, ClosingTables, closing, closingTables, canClose, canCloseAll, viable}
 use Rattle.automata.proofs.ReachingDelays.{held, held-at}
@@ -69,15 +68,14 @@ module _ (q : ℕ) (firsts seconds w : List ℕ) where
 -- ---- the two calls together
 
 -- there are as many closing delays as pairs used
-pub length-closings : (m : Memory) (D : ℕ) (ps : PairList) → ps .used ≤ length (ps .pairs) → length (closingTables (tableOf m) (limited D (pairsAs ps)) .closings) ≡ ps .used
+pub length-closings : (m : Memory) (ps : PairList) → ps .used ≤ length (ps .pairs) → length (closingTables (tableOf m) (pairsAs ps) .closings) ≡ ps .used
 unfolding closingTables
-length-closings m D ps h =
-    length-map (limited D (pairsAs ps)) (closing (tableOf m)) ∙ length-map (pairsAs ps) (λ p. record { first = p .first; second = p .second; limit = D })
-    ∙ length-map (take (ps .used) (ps .pairs)) pairAs ∙ length-take (ps .used) (ps .pairs) ∙ omega arith
+length-closings m ps h =
+    length-map (pairsAs ps) (closing (tableOf m)) ∙ length-map (take (ps .used) (ps .pairs)) pairAs ∙ length-take (ps .used) (ps .pairs) ∙ omega arith
 
 -- where the region holds the closing tables of a table in memory, the test on it is the test with these tables
-pub tests-table : (m : Memory) (D : ℕ) (ps : PairList) (base q : ℕ) (firsts seconds w : List ℕ) (ls : List Leftover) (r : Bool)
-    → ps .used ≤ length (ps .pairs) → HoldsClosing (closingTables (tableOf m) (limited D (pairsAs ps))) base (m .states) w → base + 64 * m .states ≤ length w → q < m .states
-    → Lengths (ps .used) firsts seconds ls → Tests base q (ps .used) firsts seconds w r → r ≡ viable (closingTables (tableOf m) (limited D (pairsAs ps))) (record { state = q; leftovers = ls })
-tests-table m D ps base q firsts seconds w ls r l o b h x test =
-    test (closingTables (tableOf m) (limited D (pairsAs ps))) (m .states) (record { state = q; leftovers = ls }) o b h (length-closings m D ps l) refl x
+pub tests-table : (m : Memory) (ps : PairList) (base q : ℕ) (firsts seconds w : List ℕ) (ls : List Leftover) (r : Bool)
+    → ps .used ≤ length (ps .pairs) → HoldsClosing (closingTables (tableOf m) (pairsAs ps)) base (m .states) w → base + 64 * m .states ≤ length w → q < m .states
+    → Lengths (ps .used) firsts seconds ls → Tests base q (ps .used) firsts seconds w r → r ≡ viable (closingTables (tableOf m) (pairsAs ps)) (record { state = q; leftovers = ls })
+tests-table m ps base q firsts seconds w ls r l o b h x test =
+    test (closingTables (tableOf m) (pairsAs ps)) (m .states) (record { state = q; leftovers = ls }) o b h (length-closings m ps l) refl x

@@ -14,7 +14,6 @@ use Rattle.automata.specs.Lists.{if, and}
 use Rattle.automata.specs.Closing.{origin, missing, Closing, ClosingTables, closingTables, withDelay≤, viable}
 use Rattle.automata.specs.Leftover.{Leftover}
 use Rattle.automata.specs.Config.{Config}
-use Rattle.automata.specs.TapePair.{limited}
 use Rattle.automata.specs.Memory.{Memory, tableOf}
 use Rattle.relaxation.specs.Column.{column, Outside}
 use Rattle.relaxation.specs.Edges.{edges}
@@ -71,7 +70,7 @@ viableAt at used firsts seconds w = if (eqb (le (part (at + 32) 2 w)) missing) f
 -- The closing tables of the table in memory m were written to the region from place base, and no other place was
 -- changed from v to w.
 pub record WritesClosing (m : Memory) (ps : PairList) (base : ℕ) (w v : List ℕ) : Type 0 where
-  pub tables : (D : ℕ) → HoldsClosing (closingTables (tableOf m) (limited D (pairsAs ps))) base (m .states) w
+  pub tables : HoldsClosing (closingTables (tableOf m) (pairsAs ps)) base (m .states) w
   pub same-length : length w ≡ length v
   pub same : (i : ℕ) → OutsidePairs base (ps .used) (m .states) i → Outside (base + 32) 2 (m .states) i → getD w i 0 ≡ getD v i 0
 

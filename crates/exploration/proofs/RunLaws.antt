@@ -189,7 +189,7 @@ module _ (p : Plan) (states arcs : List ℕ) (v : List ℕ) (x : Explorable p st
     -- empty chains leave the closing tables
     closing : HoldsClosing (tablesIn p states arcs) (p .room .delays) (p .counts .states) t
     closing = holds-part (tablesIn p states arcs) (p .room .delays) (p .counts .states) t w (few-closings p states arcs (length w) closed)
-        (e .kept (p .room .delays) (64 * p .counts .states) (omega (arith, x .configs-fit, x .edges-fit))) (c .tables (p .limit))
+        (e .kept (p .room .delays) (64 * p .counts .states) (omega (arith, x .configs-fit, x .edges-fit))) (c .tables)
 
     pub may-begin : Beginnable p states t
     may-begin = record { arcs = arcs; explorable = cleared; closing = closing; chained = e .chained (bucketBy (p .pairs .used) (p .room .states)) }

@@ -11,7 +11,7 @@ use Rattle.automata.specs.Refusal as refusal
 use Rattle.automata.specs.Lists.{and}
 use Rattle.automata.specs.Answer.{_>>=_, Answer, ok, refused, require, judge, forget}
 use Rattle.automata.specs.Automaton.{Automaton, size}
-use Rattle.automata.specs.TapePair.{Pair}
+use Rattle.automata.specs.TapePair.{Pair, tapesOf}
 use Rattle.automata.specs.Memory.{Memory, Sound, tableOf, decodeTable}
 use Rattle.automata.specs.Forecast.{Forecast}
 use Rattle.automata.specs.ForecastCall.{forecastOf, forecastCall}
@@ -19,6 +19,7 @@ use Rattle.automata.specs.Calls.Outcome.{cleared, overwrite, print}
 use Rattle.automata.specs.Calls.Work.{forecastWork, enough}
 use Rattle.automata.specs.Calls.Forecast.{forecastSize, forecastRecords, forecastAnswer, foretoldOf, Foretold, recordBytes, recordedOf, forecastRecorded}
 use Rattle.automata.proofs.TestFacts.{and-true}
+use Rattle.automata.proofs.PairFacts.{length-tapes}
 use Rattle.automata.proofs.AnswerFacts.{bind-ok}
 use Rattle.automata.proofs.ForecastCalls.{told-of, told-count}
 use Rattle.automata.proofs.SoundFacts.{sound, tableOf-is, sound-holds}
@@ -30,8 +31,8 @@ use Rattle.memory.specs.Pairs.{pairsAs, Named}
 use Rattle.memory.proofs.TableLaws.{judged-sound}
 use Rattle.pairs.specs.declared.PairsJudged.{PairsJudged}
 use Rattle.pairs.specs.PairBytes.{pairsOf}
-use Rattle.pairs.specs.PairTests.{pairsAnswer, inTurn}
-use Rattle.pairs.specs.Judgement.{KeepJudged}
+use Rattle.pairs.specs.PairTests.{tapesAnswer, inTurn}
+use Rattle.pairs.specs.Judgement.{TapesJudged}
 use Rattle.pairs.proofs.PairLaws.{pairs-count}
 use Rattle.pairs.proofs.CallLaws.{forecast-then}
 use Rattle.pairs.proofs.TurnLaws.{by-turns, judged-fine, require-true}
@@ -67,7 +68,7 @@ first-judged j t p t′ b b′ e f g = rw (← f, ← g) e
 pub used-none : (l : ForecastList) → l ≡ noForecasts → l .used ≤ 4
 used-none l e = rw e (omega arith)
 
-module _ (m : Memory) (ps : List Pair) (room : Bool) (w : List ℕ) (listed : PairsJudged) (k : KeepJudged ps (m .tapes) 0 listed) (j : Judged)
+module _ (m : Memory) (ps : List Pair) (room : Bool) (w : List ℕ) (listed : PairsJudged) (k : TapesJudged ps (m .tapes) listed) (j : Judged)
     (e : judgedAs j ≡ inTurn (forget (decodeTable m)) (judgedAs (listed .judged)) (and room (leb (forecastWork (m .states)) (length w)))) where
   -- what is asked of the space
   abbrev space : Bool
@@ -82,7 +83,7 @@ module _ (m : Memory) (ps : List Pair) (room : Bool) (w : List ℕ) (listed : Pa
       = ap (λ (n : ℕ). and room (leb (forecastWork n) (length w))) (sym (sound-holds m s .states)) in
       ap next (sym (tableOf-is m A d))
       ∙ forecast-then (and room (enough (forecastWork (size (tableOf m))) w)) ps (tableOf m) (m .tapes) (sym (sound-holds m s .tapes))
-      ∙ ap (λ (c : Bool). pairsAnswer (m .tapes) 0 ps >>= λ (u : Unit {0}). judge c refusal.space rest) y
+      ∙ ap (λ (c : Bool). tapesAnswer (m .tapes) ps >>= λ (u : Unit {0}). judge c refusal.space rest) y
       ∙ ap (λ (a : Answer (Unit {0})). a >>= λ (u : Unit {0}). judge space refusal.space rest) (sym (k .answer)))
     where
       rest : Answer (List Forecast)
@@ -112,7 +113,7 @@ module _ (m : Memory) (ps : List Pair) (room : Bool) (w : List ℕ) (listed : Pa
     may-tell = (judged-sound m (first .1), k .tapes-named listed-fine, leb-true (forecastWork (m .states)) (length w) (and-true room _ (require-true space refusal.space tt (next .2)) .1))
 
     -- the forecasts of the pairs
-    pub answer-told : (l : ForecastList) → forecastsAs l ≡ map (forecastOf (tableOf m)) (pairsAs (listed .pairs)) → answerAs (record { judged = j; told = l }) ≡ forecastAnswer m ps room w
+    pub answer-told : (l : ForecastList) → forecastsAs l ≡ map (forecastOf (tableOf m)) (tapesOf (pairsAs (listed .pairs))) → answerAs (record { judged = j; told = l }) ≡ forecastAnswer m ps room w
     answer-told l q =
         ap (λ (i : Judged). judgedAs i >>= λ (u : Unit {0}). ok (forecastsAs l)) fine
         ∙ ap ok (q ∙ ap (map (forecastOf (tableOf m))) (k .pairs listed-fine))
@@ -137,16 +138,16 @@ pub records-put : (a : ForecastAnswer) (w v : List ℕ) → a .judged ≡ Fine �
 records-put a w v fine e = rw fine e
 
 -- room for the records of all pairs, counted in whole records
-pub room-is : (bytes result : List ℕ) → leb (length bytes / 2) (length result / 6) ≡ enough (forecastSize * length (pairsOf bytes)) result
-room-is bytes result = go (leb (length bytes / 2) (length result / 6)) refl
+pub room-is : (bytes result : List ℕ) → leb (length bytes / 3) (length result / 6) ≡ enough (forecastSize * length (tapesOf (pairsOf bytes))) result
+room-is bytes result = go (leb (length bytes / 3) (length result / 6)) refl
   where
-    go : (b : Bool) → leb (length bytes / 2) (length result / 6) ≡ b → b ≡ enough (forecastSize * length (pairsOf bytes)) result
+    go : (b : Bool) → leb (length bytes / 3) (length result / 6) ≡ b → b ≡ enough (forecastSize * length (tapesOf (pairsOf bytes))) result
     go true q =
-        sym (le-leb (forecastSize * length (pairsOf bytes)) (length result)
-        (omega (arith, pairs-count bytes, leb-true (length bytes / 2) (length result / 6) q)))
+        sym (le-leb (forecastSize * length (tapesOf (pairsOf bytes))) (length result)
+        (omega (arith, pairs-count bytes, length-tapes (pairsOf bytes), leb-true (length bytes / 3) (length result / 6) q)))
     go false q =
-        sym (lt-leb (forecastSize * length (pairsOf bytes)) (length result)
-        (omega (arith, pairs-count bytes, leb-false (length bytes / 2) (length result / 6) q)))
+        sym (lt-leb (forecastSize * length (tapesOf (pairsOf bytes))) (length result)
+        (omega (arith, pairs-count bytes, length-tapes (pairsOf bytes), leb-false (length bytes / 3) (length result / 6) q)))
 
 -- the records of forecasts that are told fit
 pub answer-recordable : (m : Memory) (ps : List Pair) (room : Bool) (w result : List ℕ) (a : Answer (List Forecast)) → a ≡ forecastAnswer m ps room w

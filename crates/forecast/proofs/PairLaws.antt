@@ -31,7 +31,7 @@ use Rattle.automata.proofs.ForecastRanges.{needed-small}
 use Rattle.memory.specs.Region.{part}
 use Rattle.memory.specs.Endian.{le}
 use Rattle.memory.specs.declared.pair.Pair.{Pair}
-use Rattle.memory.specs.Pairs.{pairAs, Within}
+use Rattle.memory.specs.Pairs.{Within, tapesAs}
 use Rattle.configuration.proofs.SoundLaws.{reads-arc}
 use Rattle.relaxation.specs.Column.{column}
 use Rattle.relaxation.specs.Edges.{edges, ReadableArcs}
@@ -254,11 +254,11 @@ module _ (m : Memory) (s : Sound m) where
           symbols = symbolsBy (p .first - 1) (p .second - 1) (m .arcs) (m .arcBytes)
 
       -- and that is its forecast
-      pub pair-needs : (b : Bool) → b ≡ mixedOn A (onTapes p) → b ≡ false → neededBy (p .first - 1) (p .second - 1) (m .arcs) (m .arcBytes) n w found ≡ forecastOf A (pairAs p)
+      pub pair-needs : (b : Bool) → b ≡ mixedOn A (onTapes p) → b ≡ false → neededBy (p .first - 1) (p .second - 1) (m .arcs) (m .arcBytes) n w found ≡ forecastOf A (tapesAs p)
       unfolding forecastOf forecast
       pair-needs b e q = needed-is ∙ rw (sym e ∙ q)
 
     -- a pair that is mixed
-    pub pair-mixed : (b : Bool) → b ≡ mixedOn A (onTapes p) → b ≡ true → mixed ≡ forecastOf A (pairAs p)
+    pub pair-mixed : (b : Bool) → b ≡ mixedOn A (onTapes p) → b ≡ true → mixed ≡ forecastOf A (tapesAs p)
     unfolding forecastOf forecast
     pair-mixed b e q = rw (sym e ∙ q)

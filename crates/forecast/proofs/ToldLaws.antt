@@ -8,12 +8,13 @@ use lib.ListN.{length, getD, take, set, length-set}
 use lib.Seq.{take-suc, take-set-le, getD-set-same}
 use borrow.Author.Tests.{lt-ltb, le-ltb}
 use Rattle.automata.specs.TapePair as tapes
+use Rattle.automata.specs.TapePair.{tapesOf}
 use Rattle.automata.specs.Forecast as automata
 use Rattle.automata.specs.Forecast.{number, over, needs, cappedSum, toldCapped}
 use Rattle.automata.proofs.ListFacts.{map-append}
 use Rattle.automata.proofs.ForecastFacts.{capped-le}
 use Rattle.memory.specs.declared.pair.Pair.{Pair}
-use Rattle.memory.specs.Pairs.{pairAs, noPair}
+use Rattle.memory.specs.Pairs.{pairAs, tapesAs, noPair}
 use Rattle.forecast_records.specs.declared.Forecast.{Forecast}
 use Rattle.forecast_records.specs.declared.ForecastList.{ForecastList}
 use Rattle.forecast_records.specs.Values.{noForecasts, forecastAs}
@@ -62,19 +63,20 @@ needed-told first second count arcs n w found D s t d e f = f ∙ ap₂ (λ (x y
 
 -- one forecast more
 pub forecasts-turn : (fs : List Forecast) (ps : List Pair) (h k : ℕ) (f : Forecast) (g : tapes.Pair → automata.Forecast) → k ≡ h + 1 → h < length fs → h < length ps
-    → map forecastAs (take h fs) ≡ map g (map pairAs (take h ps)) → forecastAs f ≡ g (pairAs (getD ps h noPair))
-    → map forecastAs (take k (set fs h f)) ≡ map g (map pairAs (take k ps))
+    → map forecastAs (take h fs) ≡ map g (tapesOf (map pairAs (take h ps))) → forecastAs f ≡ g (tapesAs (getD ps h noPair))
+    → map forecastAs (take k (set fs h f)) ≡ map g (tapesOf (map pairAs (take k ps)))
 forecasts-turn fs ps h k f g q a b e d =
     let next : k ≡ suc h = omega arith in
     let l : h < length (set fs h f) = omega (arith, length-set fs h f) in
     let left : take (suc h) (set fs h f) ≡ take h fs ++ (f ∷ [])
     = take-suc (set fs h f) h f l ∙ ap₂ (λ (xs : List Forecast) (x : Forecast). xs ++ (x ∷ [])) (take-set-le h fs h f (omega arith)) (getD-set-same fs h f f a) in
-    let right : map pairAs (take (suc h) ps) ≡ map pairAs (take h ps) ++ (pairAs (getD ps h noPair) ∷ [])
-    = ap (map pairAs) (take-suc ps h noPair b) ∙ map-append pairAs (take h ps) (getD ps h noPair ∷ []) in
+    let right : tapesOf (map pairAs (take (suc h) ps)) ≡ tapesOf (map pairAs (take h ps)) ++ (tapesAs (getD ps h noPair) ∷ [])
+    = ap (λ (qs : List Pair). tapesOf (map pairAs qs)) (take-suc ps h noPair b) ∙ ap tapesOf (map-append pairAs (take h ps) (getD ps h noPair ∷ []))
+    ∙ map-append _ (map pairAs (take h ps)) (pairAs (getD ps h noPair) ∷ []) in
     rw next
     (ap (map forecastAs) left ∙ map-append forecastAs (take h fs) (f ∷ [])
     ∙ ap₂ (λ (xs : List automata.Forecast) (x : automata.Forecast). xs ++ (x ∷ [])) e d
-    ∙ sym (ap (map g) right ∙ map-append g (map pairAs (take h ps)) (pairAs (getD ps h noPair) ∷ [])))
+    ∙ sym (ap (map g) right ∙ map-append g (tapesOf (map pairAs (take h ps))) (tapesAs (getD ps h noPair) ∷ [])))
 
 -- none yet
 pub forecasts-start : (fs : List Forecast) (l : ForecastList) → l ≡ noForecasts → fs ≡ l .forecasts → length fs ≡ 4
@@ -82,5 +84,5 @@ forecasts-start fs l e f = rw (f, e)
 
 -- all of them
 pub forecasts-end : (fs : List Forecast) (ps : List Pair) (h n : ℕ) (g : tapes.Pair → automata.Forecast) → h ≡ n
-    → map forecastAs (take h fs) ≡ map g (map pairAs (take h ps)) → map forecastAs (take n fs) ≡ map g (map pairAs (take n ps))
+    → map forecastAs (take h fs) ≡ map g (tapesOf (map pairAs (take h ps))) → map forecastAs (take n fs) ≡ map g (tapesOf (map pairAs (take n ps)))
 forecasts-end fs ps h n g q e = rw q at e

@@ -8,9 +8,10 @@ use memory::answer::Counts;
 use memory::answer::Judged;
 use memory::bytes::zero;
 use memory::judge::judge;
+use memory::pair::PAIR;
 use pairs::PairsJudged;
 use pairs::in_turn;
-use pairs::judge_pairs;
+use pairs::judge_tapes;
 ghost use mathlib.Core.Path.{_≡_};
 ghost use mathlib.Core.List.{List};
 ghost use Prim.Native.Nat.{_/_, _≤_};
@@ -19,14 +20,14 @@ ghost use lib.ListN.{length};
 ghost use Rattle.automata.specs.Lists.{and};
 ghost use Rattle.automata.specs.Answer.{forget};
 ghost use Rattle.automata.specs.Memory.{decodeTable};
-ghost use Rattle.automata.specs.TapePair.{Pair};
+ghost use Rattle.automata.specs.TapePair.{Pair, tapesOf};
 ghost use Rattle.automata.specs.Calls.Outcome.{cleared};
 ghost use Rattle.automata.specs.Calls.Work.{forecastWork};
 ghost use Rattle.automata.specs.Calls.Forecast.{forecastAnswer, forecastRecorded, foretoldOf, recordBytes, recordedOf};
 ghost use Rattle.memory.specs.Answers.{judgedAs, lent};
 ghost use Rattle.pairs.specs.PairBytes.{pairsOf};
 ghost use Rattle.pairs.specs.PairTests.{inTurn};
-ghost use Rattle.pairs.specs.Judgement.{KeepJudged, Listed};
+ghost use Rattle.pairs.specs.Judgement.{TapesJudged, TapesListed};
 ghost use Rattle.forecast_records.specs.Values.{answerAs};
 ghost use Rattle.forecast.specs.Outcome.{Recordable, recorded};
 
@@ -67,8 +68,8 @@ fn tell(
     room: bool,
     work: &mut [u8],
 ) -> ForecastAnswer
-    requires { ⌜ Listed (counts .tapes) 0 listed ⌝ }
-    ensures { λ r. ⌜ (r .told .used ≤ 4) × ((ps : List Pair) → KeepJudged ps (counts .tapes) 0 listed → answerAs r ≡ forecastAnswer (lent counts (now (states .entry)) (now (arcs .entry))) ps room (now (work .entry))) ⌝ }
+    requires { ⌜ TapesListed (counts .tapes) listed ⌝ }
+    ensures { λ r. ⌜ (r .told .used ≤ 4) × ((ps : List Pair) → TapesJudged ps (counts .tapes) listed → answerAs r ≡ forecastAnswer (lent counts (now (states .entry)) (now (arcs .entry))) ps room (now (work .entry))) ⌝ }
 {
     let fit = listed.judged;
     let list = listed.pairs;
@@ -93,8 +94,8 @@ pub fn forecast_judged(
     room: bool,
     work: &mut [u8],
 ) -> ForecastAnswer
-    requires { ⌜ Listed (counts .tapes) 0 listed ⌝ }
-    ensures { λ r. ⌜ (r .told .used ≤ 4) × ((ps : List Pair) → KeepJudged ps (counts .tapes) 0 listed → foretoldOf (answerAs r) (now (work .exit)) ≡ foretoldOf (forecastAnswer (lent counts (now (states .entry)) (now (arcs .entry))) ps room (now (work .entry))) (cleared (now (work .entry)))) ⌝ }
+    requires { ⌜ TapesListed (counts .tapes) listed ⌝ }
+    ensures { λ r. ⌜ (r .told .used ≤ 4) × ((ps : List Pair) → TapesJudged ps (counts .tapes) listed → foretoldOf (answerAs r) (now (work .exit)) ≡ foretoldOf (forecastAnswer (lent counts (now (states .entry)) (now (arcs .entry))) ps room (now (work .entry))) (cleared (now (work .entry)))) ⌝ }
 {
     let answer = tell(counts, states, arcs, listed, room, work);
     zero(work);
@@ -115,8 +116,8 @@ fn record_answer(answer: ForecastAnswer, result: &mut [u8])
     put_forecasts(list, result);
 }
 
-// The forecasts of pairs of tapes, two bytes a pair, as records over the front of `result`. Work space is zero
-// afterwards.
+// The forecasts of pairs of tapes, three bytes a pair, as records over the front of `result`. No limit is read. Work
+// space is zero afterwards.
 pub fn forecast_into(
     counts: Counts,
     states: &[u8],
@@ -125,10 +126,10 @@ pub fn forecast_into(
     result: &mut [u8],
     work: &mut [u8],
 ) -> ForecastAnswer
-    ensures { λ r. ⌜ (r .told .used ≤ 4) × (recordedOf (recordBytes (answerAs r)) (now (result .exit)) (now (work .exit)) ≡ forecastRecorded (lent counts (now (states .entry)) (now (arcs .entry))) (pairsOf (now (pairs .entry))) (now (result .entry)) (now (work .entry))) ⌝ }
+    ensures { λ r. ⌜ (r .told .used ≤ 4) × (recordedOf (recordBytes (answerAs r)) (now (result .exit)) (now (work .exit)) ≡ forecastRecorded (lent counts (now (states .entry)) (now (arcs .entry))) (tapesOf (pairsOf (now (pairs .entry)))) (now (result .entry)) (now (work .entry))) ⌝ }
 {
-    let listed = judge_pairs(pairs, counts.tapes, 0);
-    let room = pairs.len() / 2 <= result.len() / RECORD;
+    let listed = judge_tapes(pairs, counts.tapes);
+    let room = pairs.len() / PAIR <= result.len() / RECORD;
     let answer = forecast_judged(counts, states, arcs, listed, room, work);
     record_answer(answer, result);
     answer

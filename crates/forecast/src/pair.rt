@@ -21,12 +21,13 @@ ghost use mathlib.Core.Bool.{false};
 ghost use mathlib.Core.List.{map};
 ghost use Prim.Native.Nat.{_-_, _*_, _≤_, _<_};
 ghost use lib.ListN.{length};
+ghost use Rattle.automata.specs.TapePair.{tapesOf};
 ghost use Rattle.automata.specs.Memory.{Sound, tableOf};
 ghost use Rattle.automata.specs.Forecast.{needs, pathStates, toldCapped};
 ghost use Rattle.automata.specs.ForecastCall.{forecastOf};
 ghost use Rattle.automata.specs.Calls.Work.{forecastWork};
 ghost use Rattle.memory.specs.Answers.{lent};
-ghost use Rattle.memory.specs.Pairs.{Within, Named, pairAs, pairsAs};
+ghost use Rattle.memory.specs.Pairs.{Within, Named, tapesAs, pairsAs};
 ghost use Rattle.relaxation.specs.Edges.{ReadableArcs};
 ghost use Rattle.forecast_counts.specs.Symbols.{ShortLabels};
 ghost use Rattle.forecast_records.specs.Values.{forecastAs, forecastsAs};
@@ -107,7 +108,7 @@ fn forecast_pair(
     work: &mut [u8],
 ) -> Forecast
     requires { ⌜ Sound (lent counts (now states) (now arcs)) × Within (counts .tapes) p × (forecastWork (counts .states) ≤ length (now work)) × Marked (lent counts (now states) (now arcs)) (now work) × (found ≡ pathStates (tableOf (lent counts (now states) (now arcs)))) ⌝ }
-    ensures { λ r. ⌜ (forecastAs r ≡ forecastOf (tableOf (lent counts (now (states .entry)) (now (arcs .entry)))) (pairAs p)) × Marked (lent counts (now (states .entry)) (now (arcs .entry))) (now (work .exit)) ⌝ }
+    ensures { λ r. ⌜ (forecastAs r ≡ forecastOf (tableOf (lent counts (now (states .entry)) (now (arcs .entry)))) (tapesAs p)) × Marked (lent counts (now (states .entry)) (now (arcs .entry))) (now (work .exit)) ⌝ }
 {
     let n = counts.states;
     let count = counts.arcs;
@@ -137,7 +138,7 @@ fn forecast_pairs(
     work: &mut [u8],
 ) -> ForecastList
     requires { ⌜ Sound (lent counts (now states) (now arcs)) × Named (counts .tapes) pairs × (forecastWork (counts .states) ≤ length (now work)) × Marked (lent counts (now states) (now arcs)) (now work) × (found ≡ pathStates (tableOf (lent counts (now states) (now arcs)))) ⌝ }
-    ensures { λ r. ⌜ (r .used ≤ 4) × (forecastsAs r ≡ map (forecastOf (tableOf (lent counts (now (states .entry)) (now (arcs .entry))))) (pairsAs pairs)) ⌝ }
+    ensures { λ r. ⌜ (r .used ≤ 4) × (forecastsAs r ≡ map (forecastOf (tableOf (lent counts (now (states .entry)) (now (arcs .entry))))) (tapesOf (pairsAs pairs))) ⌝ }
 {
     let used = pairs.used;
     let list = pairs.pairs;
@@ -161,7 +162,7 @@ pub fn forecasts_of(
     work: &mut [u8],
 ) -> ForecastList
     requires { ⌜ Sound (lent counts (now states) (now arcs)) × Named (counts .tapes) pairs × (forecastWork (counts .states) ≤ length (now work)) ⌝ }
-    ensures { λ r. ⌜ (r .used ≤ 4) × (forecastsAs r ≡ map (forecastOf (tableOf (lent counts (now (states .entry)) (now (arcs .entry))))) (pairsAs pairs)) ⌝ }
+    ensures { λ r. ⌜ (r .used ≤ 4) × (forecastsAs r ≡ map (forecastOf (tableOf (lent counts (now (states .entry)) (now (arcs .entry))))) (tapesOf (pairsAs pairs))) ⌝ }
 {
     let n = counts.states;
     let count = counts.arcs;

@@ -1,13 +1,13 @@
 -- The search of a plan, as the answer is settled by it.
 use Prim.Native.Nat.{ℕ, _+_, _/_, _≤_, _<_}
 use mathlib.Core.Path.{_≡_, sym, ap, _∙_, subst}
+use mathlib.Core.Bool.{true}
 use mathlib.Core.List.{List, [], _∷_, _++_, map}
 use native.Mathlib.Omega.{arith}
 use lib.ListN.{length, getD, drop}
 use Rattle.automata.specs.Lists.{All}
-use Rattle.automata.specs.TapePair.{Pair}
+use Rattle.automata.specs.TapePair.{TapePair, limitsFit}
 use Rattle.automata.specs.Config.{Config}
-use Rattle.automata.specs.Limits.{maxDelay}
 use Rattle.automata.specs.Memory.{Sound}
 use Rattle.automata.proofs.SoundFacts.{sound-holds}
 use Rattle.memory.specs.Region.{part, rows}
@@ -15,7 +15,7 @@ use Rattle.memory.specs.declared.answer.Judged.the-variants.{Fine}
 use Rattle.memory.specs.declared.answer.Counts.{Counts}
 use Rattle.memory.specs.declared.pair.PairList.{PairList}
 use Rattle.memory.specs.Answers.{lent}
-use Rattle.memory.specs.Pairs.{Named}
+use Rattle.memory.specs.Pairs.{Named, pairsAs}
 use Rattle.memory.proofs.Laws.{part-add}
 use Rattle.chains.specs.Chain.{fronts}
 use Rattle.configuration.specs.Configs.{configBytes}
@@ -33,21 +33,21 @@ use Rattle.intersect_result.specs.Searched.{Searched, Settleable}
 use Rattle.intersect.proofs.ConfigRows.{row-of}
 
 -- a row that begins with the record of a configuration that is stored holds it
-stored-row : (used limit n : ℕ) (c : Config) (a : ℕ) (w : List ℕ) → used ≤ 4 → Stored used limit n c → part a 298 w ≡ rowOf c → RowOf c (part a 320 w)
+stored-row : (used n : ℕ) (c : Config) (a : ℕ) (w : List ℕ) → used ≤ 4 → Stored used n c → part a 298 w ≡ rowOf c → RowOf c (part a 320 w)
 unfolding rowOf
-stored-row used limit n c a w h s e =
+stored-row used n c a w h s e =
     let q : configBytes (configOf c) ++ part (a + 298) 22 w ≡ part a 320 w = ap (λ (r : List ℕ). r ++ part (a + 298) 22 w) (sym e) ∙ sym (part-add a 298 22 w) in
     subst (RowOf c) q (subst (λ (x : Config). RowOf x (configBytes (configOf c) ++ part (a + 298) 22 w)) (s .meaning) (row-of used (configOf c) h (s .form) (part (a + 298) 22 w)))
 
 -- so do all rows, where the records are at their fronts
-stored-rows : (used limit n k : ℕ) (cs : List Config) (a : ℕ) (w : List ℕ) → used ≤ 4 → n ≡ k → All (Stored used limit n) cs
+stored-rows : (used n k : ℕ) (cs : List Config) (a : ℕ) (w : List ℕ) → used ≤ 4 → n ≡ k → All (Stored used n) cs
     → fronts a 320 298 (length cs) w ≡ map rowOf cs → RowsOf k cs (rows a 320 (length cs) w)
 unfolding fronts rows
-stored-rows used limit n k [] a w h e s q = tt
-stored-rows used limit n k (c ∷ cs) a w h e s q =
+stored-rows used n k [] a w h e s q = tt
+stored-rows used n k (c ∷ cs) a w h e s q =
     let r : part a 298 w ≡ rowOf c = ap (λ (z : List (List ℕ)). getD z 0 []) q in
     let t : fronts (a + 320) 320 298 (length cs) w ≡ map rowOf cs = ap (λ (z : List (List ℕ)). drop 1 z) q in
-    ((stored-row used limit n c a w h (s .0) r, omega (arith, s .0 .state-fits)), stored-rows used limit n k cs (a + 320) w h e (s .1) t)
+    ((stored-row used n c a w h (s .0) r, omega (arith, s .0 .state-fits)), stored-rows used n k cs (a + 320) w h e (s .1) t)
 
 module _ (p : Plan) (states arcs : List ℕ) (size : ℕ) (x : Explorable p states arcs size) (h : Head) (v w : List ℕ) (e : Explored p states arcs v h w) where
   -- what the search tells
@@ -60,7 +60,7 @@ module _ (p : Plan) (states arcs : List ℕ) (size : ℕ) (x : Explorable p stat
       number = d .arc-count;
       delay = d .late-is;
       placed =
-          stored-rows (p .pairs .used) (p .limit) (p .counts .states) (length (tableIn p states arcs .states)) (reachedIn p states arcs) 0 w (x .named .used-fit)
+          stored-rows (p .pairs .used) (p .counts .states) (length (tableIn p states arcs .states)) (reachedIn p states arcs) 0 w (x .named .used-fit)
           (sound-holds (lent (p .counts) states arcs) (x .sound) .states) (d .stored) (d .configs);
       held = d .edges;
     };
@@ -77,15 +77,15 @@ module _ (p : Plan) (states arcs : List ℕ) (size : ℕ) (x : Explorable p stat
     searched = searched;
   }
 
--- a table, pairs of its tapes, a limit and the parts of the work space are what the search asks for
-pub searchable : (c : Counts) (states arcs : List ℕ) (pairs : PairList) (limit : ℕ) (room : Room) (forStates forArcs work : ℕ)
-    → Sound (lent c states arcs) → Named (c .tapes) pairs → length (pairs .pairs) ≡ 4 → limit ≤ maxDelay → Divides forStates forArcs (c .states) work room
-    → Explorable (record { counts = c; pairs = pairs; limit = limit; room = room }) states arcs work
-searchable c states arcs pairs limit room forStates forArcs work s n f l d = record {
+-- a table, pairs of its tapes with limits in range and the parts of the work space are what the search asks for
+pub searchable : (c : Counts) (states arcs : List ℕ) (pairs : PairList) (room : Room) (forStates forArcs work : ℕ)
+    → Sound (lent c states arcs) → Named (c .tapes) pairs → length (pairs .pairs) ≡ 4 → limitsFit (pairsAs pairs) ≡ true → Divides forStates forArcs (c .states) work room
+    → Explorable (record { counts = c; pairs = pairs; room = room }) states arcs work
+searchable c states arcs pairs room forStates forArcs work s n f l d = record {
   sound = s;
   named = n;
   four-pairs = f;
-  limit-fits = omega (arith, l);
+  limits-fit = l;
   configs-fit = d .configs-fit;
   edges-fit = d .edges-fit;
   delays-fit = d .delays-fit;
@@ -94,8 +94,8 @@ searchable c states arcs pairs limit room forStates forArcs work s n f l d = rec
 }
 
 -- what was judged before the search
-pub explorable : (c : Counts) (states arcs : List ℕ) (ps : List Pair) (D forStates forArcs work : ℕ) (r : Prepared)
-    → Prepares (lent c states arcs) ps D forStates forArcs work r → r .judged ≡ Fine
-    → Explorable (record { counts = c; pairs = r .pairs; limit = D; room = r .room }) states arcs work
-explorable c states arcs ps D forStates forArcs work r p e =
-    searchable c states arcs (r .pairs) D (r .room) forStates forArcs work (p .sound e) (p .named e) (p .four e) (p .limit-fits e) (p .divides e)
+pub explorable : (c : Counts) (states arcs : List ℕ) (ps : List TapePair) (forStates forArcs work : ℕ) (r : Prepared)
+    → Prepares (lent c states arcs) ps forStates forArcs work r → r .judged ≡ Fine
+    → Explorable (record { counts = c; pairs = r .pairs; room = r .room }) states arcs work
+explorable c states arcs ps forStates forArcs work r p e =
+    searchable c states arcs (r .pairs) (r .room) forStates forArcs work (p .sound e) (p .named e) (p .four e) (ap limitsFit (p .pairs-are e) ∙ p .limits-fit e) (p .divides e)

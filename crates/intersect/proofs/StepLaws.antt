@@ -5,7 +5,7 @@ use mathlib.Core.List.{List}
 use borrow.Author.Tests.{le-leb}
 use Rattle.automata.specs.Answer.{_>>=_, Answer}
 use Rattle.automata.specs.Automaton.{Automaton}
-use Rattle.automata.specs.TapePair.{Pair, limited}
+use Rattle.automata.specs.TapePair.{TapePair}
 use Rattle.automata.specs.Memory.{Memory, Sound, tableOf}
 use Rattle.automata.specs.Closing.{closingTables, viable}
 use Rattle.automata.specs.Intersect.{intersect}
@@ -24,23 +24,23 @@ use Rattle.intersect_result.specs.Searched.{tableBy}
 use Rattle.intersect.specs.Step.{Intersectable}
 use Rattle.intersect.proofs.SearchLaws.{searchable}
 
-module _ (c : Counts) (states arcs : List ℕ) (pairs : PairList) (limit forStates forArcs work : ℕ)
-    (x : Intersectable (lent c states arcs) pairs limit forStates forArcs work) (r : RoomAnswer) (f : RoomFor (forStates / 10) (forArcs / 80) (c .states) work r) where
+module _ (c : Counts) (states arcs : List ℕ) (pairs : PairList) (forStates forArcs work : ℕ)
+    (x : Intersectable (lent c states arcs) pairs forStates forArcs work) (r : RoomAnswer) (f : RoomFor (forStates / 10) (forArcs / 80) (c .states) work r) where
   -- the work space is divided
   divided : Divides (forStates / 10) (forArcs / 80) (c .states) work (r .room)
   divided = f .divides (f .enough ∙ le-leb (buildWork (lentSpace (forStates / 10) (forArcs / 80)) (c .states)) work (x .work-fits))
 
   -- what the search asks for
-  pub step-ready : Explorable (record { counts = c; pairs = pairs; limit = limit; room = r .room }) states arcs work × Divides (forStates / 10) (forArcs / 80) (c .states) work (r .room)
+  pub step-ready : Explorable (record { counts = c; pairs = pairs; room = r .room }) states arcs work × Divides (forStates / 10) (forArcs / 80) (c .states) work (r .room)
   step-ready = (
-    searchable c states arcs pairs limit (r .room) (forStates / 10) (forArcs / 80) work (x .sound) (x .named) (x .four) (x .limit-fits) divided,
+    searchable c states arcs pairs (r .room) (forStates / 10) (forArcs / 80) work (x .sound) (x .named) (x .four) (x .limits-fit) divided,
     divided,
   )
 
 -- what the search settles is the step's
-pub step-settled : (m : Memory) → Sound m → (ps : List Pair) (D : ℕ) (s : Slices) (a : Answer TableCounts) (states arcBytes : List ℕ)
-    → madeOf a states arcBytes ≡ put (tableBy m (limited D ps) (viable (closingTables (tableOf m) (limited D ps))) (spaceOf s)) s
-    → madeOf a states arcBytes ≡ intersectStep m ps D s
+pub step-settled : (m : Memory) → Sound m → (ps : List TapePair) (s : Slices) (a : Answer TableCounts) (states arcBytes : List ℕ)
+    → madeOf a states arcBytes ≡ put (tableBy m ps (viable (closingTables (tableOf m) ps)) (spaceOf s)) s
+    → madeOf a states arcBytes ≡ intersectStep m ps s
 unfolding intersectStep intersectOn intersect
-step-settled m h ps D s a states arcBytes z =
-    z ∙ ap (λ (t : Answer (Automaton ℕ)). put (t >>= λ P. intersectOn D (spaceOf s) ps P) s) (sym (sound-decoded m h))
+step-settled m h ps s a states arcBytes z =
+    z ∙ ap (λ (t : Answer (Automaton ℕ)). put (t >>= λ P. intersectOn (spaceOf s) ps P) s) (sym (sound-decoded m h))

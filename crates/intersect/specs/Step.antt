@@ -1,18 +1,19 @@
 -- What the auto-intersection asks for as a step on a table and pairs that are known to be fine.
 use Prim.Native.Nat.{ℕ, _/_, _≤_}
 use mathlib.Core.Path.{_≡_}
+use mathlib.Core.Bool.{true}
 use lib.ListN.{length}
-use Rattle.automata.specs.Limits.{maxDelay}
+use Rattle.automata.specs.TapePair.{limitsFit}
 use Rattle.automata.specs.Memory.{Memory, Sound}
 use Rattle.automata.specs.Calls.Work.{buildWork}
 use Rattle.memory.specs.declared.pair.PairList.{PairList}
-use Rattle.memory.specs.Pairs.{Named}
+use Rattle.memory.specs.Pairs.{Named, pairsAs}
 use Rattle.workspace.specs.Room.{lentSpace}
 
--- a table, at most four pairs of its tapes by value, a limit, and work space for slices of so many bytes
-pub record Intersectable (m : Memory) (pairs : PairList) (limit forStates forArcs work : ℕ) : Type 0 where
+-- a table, at most four pairs of its tapes by value with limits in range, and work space for slices of so many bytes
+pub record Intersectable (m : Memory) (pairs : PairList) (forStates forArcs work : ℕ) : Type 0 where
   pub sound : Sound m
   pub named : Named (m .tapes) pairs
   pub four : length (pairs .pairs) ≡ 4
-  pub limit-fits : limit ≤ maxDelay
+  pub limits-fit : limitsFit (pairsAs pairs) ≡ true
   pub work-fits : buildWork (lentSpace (forStates / 10) (forArcs / 80)) (m .states) ≤ work

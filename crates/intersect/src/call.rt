@@ -10,7 +10,7 @@ use pairs::PairsJudged;
 use pairs::judge_pairs;
 ghost use mathlib.Core.Path.{_≡_};
 ghost use mathlib.Core.List.{List};
-ghost use Rattle.automata.specs.TapePair.{Pair};
+ghost use Rattle.automata.specs.TapePair.{TapePair};
 ghost use Rattle.automata.specs.Calls.Outcome.{spaceOf, put, madeOf, builtOf, slicesOf};
 ghost use Rattle.automata.specs.Calls.Intersect.{intersectAnswer, intersectOutcome};
 ghost use Rattle.memory.specs.Answers.{lent, tableAs};
@@ -23,13 +23,12 @@ fn build(
     states: &[u8],
     arcs: &[u8],
     listed: PairsJudged,
-    limit: usize,
     out_states: &mut [u8],
     out_arcs: &mut [u8],
     work: &mut [u8],
 ) -> TableAnswer
-    requires { ⌜ Listed (counts .tapes) limit listed ⌝ }
-    ensures { λ r. ⌜ ((ps : List Pair) → KeepJudged ps (counts .tapes) limit listed → madeOf (tableAs r) (now («out_states» .exit)) (now («out_arcs» .exit)) ≡ put (intersectAnswer (lent counts (now (states .entry)) (now (arcs .entry))) ps limit (spaceOf (slicesOf (now («out_states» .entry)) (now («out_arcs» .entry)))) (now (work .entry))) (slicesOf (now («out_states» .entry)) (now («out_arcs» .entry)))) ⌝ }
+    requires { ⌜ Listed (counts .tapes) listed ⌝ }
+    ensures { λ r. ⌜ ((ps : List TapePair) → KeepJudged ps (counts .tapes) listed → madeOf (tableAs r) (now («out_states» .exit)) (now («out_arcs» .exit)) ≡ put (intersectAnswer (lent counts (now (states .entry)) (now (arcs .entry))) ps (spaceOf (slicesOf (now («out_states» .entry)) (now («out_arcs» .entry)))) (now (work .entry))) (slicesOf (now («out_states» .entry)) (now («out_arcs» .entry)))) ⌝ }
 {
     let prepared = prepare(
         counts,
@@ -49,7 +48,6 @@ fn build(
             let plan = Plan {
                 counts,
                 pairs: list,
-                limit: limit as u8,
                 room,
             };
             reach(plan, states, arcs, out_states, out_arcs, work)
@@ -57,57 +55,37 @@ fn build(
     }
 }
 
-// Keeping the accounts that agree on pairs that were judged for this table and this limit. Work space is zero afterwards.
+// Keeping the accounts that agree on pairs that were judged for this table. Work space is zero afterwards.
 pub fn intersect_judged(
     counts: Counts,
     states: &[u8],
     arcs: &[u8],
     listed: PairsJudged,
-    limit: usize,
     out_states: &mut [u8],
     out_arcs: &mut [u8],
     work: &mut [u8],
 ) -> TableAnswer
-    requires { ⌜ Listed (counts .tapes) limit listed ⌝ }
-    ensures { λ r. ⌜ ((ps : List Pair) → KeepJudged ps (counts .tapes) limit listed → builtOf (tableAs r) (now («out_states» .exit)) (now («out_arcs» .exit)) (now (work .exit)) ≡ intersectOutcome (lent counts (now (states .entry)) (now (arcs .entry))) ps limit (slicesOf (now («out_states» .entry)) (now («out_arcs» .entry))) (now (work .entry))) ⌝ }
+    requires { ⌜ Listed (counts .tapes) listed ⌝ }
+    ensures { λ r. ⌜ ((ps : List TapePair) → KeepJudged ps (counts .tapes) listed → builtOf (tableAs r) (now («out_states» .exit)) (now («out_arcs» .exit)) (now (work .exit)) ≡ intersectOutcome (lent counts (now (states .entry)) (now (arcs .entry))) ps (slicesOf (now («out_states» .entry)) (now («out_arcs» .entry))) (now (work .entry))) ⌝ }
 {
-    let answer = build(
-        counts,
-        states,
-        arcs,
-        listed,
-        limit,
-        out_states,
-        out_arcs,
-        work,
-    );
+    let answer = build(counts, states, arcs, listed, out_states, out_arcs, work);
     zero(work);
     answer
 }
 
-// Keeping the accounts that agree: the auto-intersection of the table in `states` and `arcs` on pairs of its tapes, each with the same limit,
-// into `out_states` and `out_arcs`. Work space is zero afterwards.
+// Keeping the accounts that agree: the auto-intersection of the table in `states` and `arcs` on pairs of its tapes,
+// three bytes a pair, each with its own limit, into `out_states` and `out_arcs`. Work space is zero afterwards.
 pub fn intersect(
     counts: Counts,
     states: &[u8],
     arcs: &[u8],
     pairs: &[u8],
-    limit: usize,
     out_states: &mut [u8],
     out_arcs: &mut [u8],
     work: &mut [u8],
 ) -> TableAnswer
-    ensures { λ r. ⌜ builtOf (tableAs r) (now («out_states» .exit)) (now («out_arcs» .exit)) (now (work .exit)) ≡ intersectOutcome (lent counts (now (states .entry)) (now (arcs .entry))) (pairsOf (now (pairs .entry))) limit (slicesOf (now («out_states» .entry)) (now («out_arcs» .entry))) (now (work .entry)) ⌝ }
+    ensures { λ r. ⌜ builtOf (tableAs r) (now («out_states» .exit)) (now («out_arcs» .exit)) (now (work .exit)) ≡ intersectOutcome (lent counts (now (states .entry)) (now (arcs .entry))) (pairsOf (now (pairs .entry))) (slicesOf (now («out_states» .entry)) (now («out_arcs» .entry))) (now (work .entry)) ⌝ }
 {
-    let listed = judge_pairs(pairs, counts.tapes, limit);
-    intersect_judged(
-        counts,
-        states,
-        arcs,
-        listed,
-        limit,
-        out_states,
-        out_arcs,
-        work,
-    )
+    let listed = judge_pairs(pairs, counts.tapes);
+    intersect_judged(counts, states, arcs, listed, out_states, out_arcs, work)
 }

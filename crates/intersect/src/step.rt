@@ -48,20 +48,19 @@ pub fn reach(
     )
 }
 
-// The auto-intersection as a step: of a table that is known to be one, on pairs of its tapes, with work space that is enough. Work space is
-// not cleared.
+// The auto-intersection as a step: of a table that is known to be one, on pairs of its tapes, with work space that is
+// enough. Work space is not cleared.
 pub fn intersect_step(
     counts: Counts,
     states: &[u8],
     arcs: &[u8],
     pairs: PairList,
-    limit: usize,
     out_states: &mut [u8],
     out_arcs: &mut [u8],
     work: &mut [u8],
 ) -> TableAnswer
-    requires { ⌜ Intersectable (lent counts (now states) (now arcs)) pairs limit (length (now «out_states»)) (length (now «out_arcs»)) (length (now work)) ⌝ }
-    ensures { λ r. ⌜ madeOf (tableAs r) (now («out_states» .exit)) (now («out_arcs» .exit)) ≡ intersectStep (lent counts (now (states .entry)) (now (arcs .entry))) (pairsAs pairs) limit (slicesOf (now («out_states» .entry)) (now («out_arcs» .entry))) ⌝ }
+    requires { ⌜ Intersectable (lent counts (now states) (now arcs)) pairs (length (now «out_states»)) (length (now «out_arcs»)) (length (now work)) ⌝ }
+    ensures { λ r. ⌜ madeOf (tableAs r) (now («out_states» .exit)) (now («out_arcs» .exit)) ≡ intersectStep (lent counts (now (states .entry)) (now (arcs .entry))) (pairsAs pairs) (slicesOf (now («out_states» .entry)) (now («out_arcs» .entry))) ⌝ }
 {
     let answer = room_for(
         out_states.len() / 10,
@@ -73,7 +72,6 @@ pub fn intersect_step(
     let plan = Plan {
         counts,
         pairs,
-        limit: limit as u8,
         room,
     };
     reach(plan, states, arcs, out_states, out_arcs, work)

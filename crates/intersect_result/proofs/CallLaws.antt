@@ -9,7 +9,7 @@ use Rattle.automata.specs.Refusal as refusal
 use Rattle.automata.specs.Answer.{_>>=_, Answer, ok, refused}
 use Rattle.automata.specs.Automaton.{Automaton}
 use Rattle.automata.specs.Space.{Space, stateCap, arcCap}
-use Rattle.automata.specs.TapePair.{Pair, TapePair, limited}
+use Rattle.automata.specs.TapePair.{TapePair}
 use Rattle.automata.specs.Config.{Config}
 use Rattle.automata.specs.Memory.{Memory, Sound, tableOf, zeros}
 use Rattle.automata.specs.Closing.{closingTables, viable}
@@ -23,7 +23,6 @@ use Rattle.automata.proofs.IntersectSteps.{reachedConfigs-distinct}
 use Rattle.memory.specs.declared.answer.Refusal.{Refusal}
 use Rattle.memory.specs.declared.answer.Judged.{Judged}
 use Rattle.memory.specs.declared.answer.Judged.the-variants.{Fine, Refused}
-use Rattle.memory.specs.declared.pair.PairList.{PairList}
 use Rattle.memory.specs.Answers.{judgedAs, refusalNumber}
 use Rattle.memory.specs.Pairs.{pairsAs}
 use Rattle.edges.specs.Edges.{HoldsEdges}
@@ -118,41 +117,36 @@ module _ (m : Memory) (ps : List TapePair) (v : Config → Bool) (room : Room) (
 
 -- ---- the whole call
 
-module _ (m : Memory) (listed : List Pair) (D : ℕ) (oldStates oldArcs work : List ℕ) (r : Prepared)
-    (p : Prepares m listed D (length oldStates / 10) (length oldArcs / 80) (length work) r) where
+module _ (m : Memory) (listed : List TapePair) (oldStates oldArcs work : List ℕ) (r : Prepared)
+    (p : Prepares m listed (length oldStates / 10) (length oldArcs / 80) (length work) r) where
   -- the slices, and what the call answers
   abbrev slices : Slices
   slices = slicesOf oldStates oldArcs
 
   abbrev answer : Answer (Automaton ℕ)
-  answer = intersectAnswer m listed D (spaceOf slices) work
+  answer = intersectAnswer m listed (spaceOf slices) work
 
   -- a refusal before any configuration is reached
   pub call-refused : (why : Refusal) → r .judged ≡ Refused why → madeOf (refused (refusalNumber why)) oldStates oldArcs ≡ put answer slices
   call-refused why e =
       sym (put-refused slices (refusalNumber why))
       ∙ ap (λ (a : Answer (Automaton ℕ)). put a slices)
-      (sym (p .answer work refl ∙ ap (λ (j : Judged). judgedAs j >>= λ (u : Unit {0}). intersectOn D (spaceOf slices) listed (tableOf m)) e))
-
-  -- the pairs with their limit, by value
-  abbrev tapes : ℕ → PairList → List TapePair
-  tapes limit ps = limited limit (pairsAs ps)
+      (sym (p .answer work refl ∙ ap (λ (j : Judged). judgedAs j >>= λ (u : Unit {0}). intersectOn (spaceOf slices) listed (tableOf m)) e))
 
   -- what the search settles is the call's
-  pub call-settled : (limit : ℕ) → limit ≡ D → r .judged ≡ Fine → (a : Answer TableCounts) (states arcBytes : List ℕ)
-      → madeOf a states arcBytes ≡ put (tableBy m (tapes limit (r .pairs)) (viable (closingTables (tableOf m) (tapes limit (r .pairs)))) (spaceOf slices)) slices
+  pub call-settled : r .judged ≡ Fine → (a : Answer TableCounts) (states arcBytes : List ℕ)
+      → madeOf a states arcBytes ≡ put (tableBy m (pairsAs (r .pairs)) (viable (closingTables (tableOf m) (pairsAs (r .pairs)))) (spaceOf slices)) slices
       → madeOf a states arcBytes ≡ put answer slices
   unfolding intersectOn intersect
-  call-settled limit l e a states arcBytes z =
-      z ∙ ap (λ (k : ℕ). put (tableBy m (tapes k (r .pairs)) (viable (closingTables (tableOf m) (tapes k (r .pairs)))) (spaceOf slices)) slices) l
-      ∙ ap (λ (ps : List Pair). put (tableBy m (limited D ps) (viable (closingTables (tableOf m) (limited D ps))) (spaceOf slices)) slices) (p .pairs-are e)
+  call-settled e a states arcBytes z =
+      z ∙ ap (λ (ps : List TapePair). put (tableBy m ps (viable (closingTables (tableOf m) ps)) (spaceOf slices)) slices) (p .pairs-are e)
       ∙ ap (λ (x : Answer (Automaton ℕ)). put x slices)
-      (sym (p .answer work refl ∙ ap (λ (j : Judged). judgedAs j >>= λ (u : Unit {0}). intersectOn D (spaceOf slices) listed (tableOf m)) e))
+      (sym (p .answer work refl ∙ ap (λ (j : Judged). judgedAs j >>= λ (u : Unit {0}). intersectOn (spaceOf slices) listed (tableOf m)) e))
 
 -- Work space is zero afterwards.
-pub call-cleared : (m : Memory) (ps : List Pair) (D : ℕ) (s : Slices) (work zeroed : List ℕ) (n : ℕ) (a : Answer TableCounts) (states arcs : List ℕ)
-    → madeOf a states arcs ≡ put (intersectAnswer m ps D (spaceOf s) work) s → n ≡ length work → zeroed ≡ zeros n
-    → builtOf a states arcs zeroed ≡ intersectOutcome m ps D s work
+pub call-cleared : (m : Memory) (ps : List TapePair) (s : Slices) (work zeroed : List ℕ) (n : ℕ) (a : Answer TableCounts) (states arcs : List ℕ)
+    → madeOf a states arcs ≡ put (intersectAnswer m ps (spaceOf s) work) s → n ≡ length work → zeroed ≡ zeros n
+    → builtOf a states arcs zeroed ≡ intersectOutcome m ps s work
 unfolding intersectOutcome build
-call-cleared m ps D s work zeroed n a states arcs e l z =
+call-cleared m ps s work zeroed n a states arcs e l z =
     λ i. record { made = e i; work = (z ∙ ap zeros l) i }

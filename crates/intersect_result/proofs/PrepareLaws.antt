@@ -8,7 +8,7 @@ use lib.ListN.{length}
 use Rattle.automata.specs.Refusal as refusal
 use Rattle.automata.specs.Answer.{_>>=_, Answer, ok, require, judge, forget}
 use Rattle.automata.specs.Automaton.{Automaton, size}
-use Rattle.automata.specs.TapePair.{Pair}
+use Rattle.automata.specs.TapePair.{TapePair}
 use Rattle.automata.specs.Memory.{Memory, Sound, tableOf, decodeTable}
 use Rattle.automata.specs.IntersectCall.{intersectOn, intersectCall}
 use Rattle.automata.specs.Calls.Work.{buildWork, enough}
@@ -22,6 +22,7 @@ use Rattle.memory.proofs.TableLaws.{judged-sound}
 use Rattle.pairs.specs.declared.PairsJudged.{PairsJudged}
 use Rattle.pairs.specs.PairTests.{pairsAnswer, inTurn}
 use Rattle.pairs.specs.Judgement.{KeepJudged}
+use Rattle.pairs.proofs.TestLaws.{keep-limits}
 use Rattle.pairs.proofs.CallLaws.{intersect-then}
 use Rattle.pairs.proofs.TurnLaws.{by-turns, judged-fine, require-true}
 use Rattle.workspace.specs.declared.room.RoomAnswer.{RoomAnswer}
@@ -29,38 +30,38 @@ use Rattle.workspace.specs.Room.{lentSpace, RoomFor}
 use Rattle.intersect_result.specs.Prepared.{Prepares}
 
 -- ---- the call
-module _ (m : Memory) (ps : List Pair) (D states arcs work : ℕ) (t p j : Answer (Unit {0})) (b : Bool)
-    (e : t ≡ forget (decodeTable m)) (f : p ≡ pairsAnswer (m .tapes) D ps) (g : b ≡ leb (buildWork (lentSpace states arcs) (m .states)) work) (h : j ≡ inTurn t p b) where
+module _ (m : Memory) (ps : List TapePair) (states arcs work : ℕ) (t p j : Answer (Unit {0})) (b : Bool)
+    (e : t ≡ forget (decodeTable m)) (f : p ≡ pairsAnswer (m .tapes) ps) (g : b ≡ leb (buildWork (lentSpace states arcs) (m .states)) work) (h : j ≡ inTurn t p b) where
   -- the call by the judgements
   pub call-in-turn : (w : List ℕ) → length w ≡ work
-      → intersectAnswer m ps D (lentSpace states arcs) w ≡ (j >>= λ (u : Unit {0}). intersectOn D (lentSpace states arcs) ps (tableOf m))
+      → intersectAnswer m ps (lentSpace states arcs) w ≡ (j >>= λ (u : Unit {0}). intersectOn (lentSpace states arcs) ps (tableOf m))
   unfolding intersectAnswer
   call-in-turn w l = by-turns m p j b next rest (h ∙ ap (λ (a : Answer (Unit {0})). inTurn a p b) e) (λ A d.
       let s : Sound m = sound m A d in
       let y : enough (buildWork (lentSpace states arcs) (size (tableOf m))) w ≡ b
       = ap (λ (n : ℕ). leb (buildWork (lentSpace states arcs) n) (length w)) (sym (sound-holds m s .states)) ∙ ap (leb (buildWork (lentSpace states arcs) (m .states))) l ∙ sym g in
       ap next (sym (tableOf-is m A d))
-      ∙ intersect-then D (enough (buildWork (lentSpace states arcs) (size (tableOf m))) w) (lentSpace states arcs) ps (tableOf m) (m .tapes) (sym (sound-holds m s .tapes))
-      ∙ ap (λ (c : Bool). pairsAnswer (m .tapes) D ps >>= λ (u : Unit {0}). judge c refusal.space rest) y
+      ∙ intersect-then (enough (buildWork (lentSpace states arcs) (size (tableOf m))) w) (lentSpace states arcs) ps (tableOf m) (m .tapes) (sym (sound-holds m s .tapes))
+      ∙ ap (λ (c : Bool). pairsAnswer (m .tapes) ps >>= λ (u : Unit {0}). judge c refusal.space rest) y
       ∙ ap (λ (a : Answer (Unit {0})). a >>= λ (u : Unit {0}). judge b refusal.space rest) (sym f))
     where
       rest : Answer (Automaton ℕ)
-      rest = intersectOn D (lentSpace states arcs) ps (tableOf m)
+      rest = intersectOn (lentSpace states arcs) ps (tableOf m)
 
       next : Automaton ℕ → Answer (Automaton ℕ)
-      next A = intersectCall D (enough (buildWork (lentSpace states arcs) (size A)) w) (lentSpace states arcs) ps A
+      next A = intersectCall (enough (buildWork (lentSpace states arcs) (size A)) w) (lentSpace states arcs) ps A
 
 -- The judgements are those of the call.
-pub prepared : (m : Memory) (ps : List Pair) (D states arcs work : ℕ) (t j : Judged) (l : PairsJudged) (r : RoomAnswer)
-    → judgedAs t ≡ forget (decodeTable m) → KeepJudged ps (m .tapes) D l → RoomFor states arcs (m .states) work r → judgedAs j ≡ inTurn (judgedAs t) (judgedAs (l .judged)) (r .enough)
-    → Prepares m ps D states arcs work (record { judged = j; pairs = l .pairs; room = r .room })
-prepared m ps D states arcs work t j l r e f g h = record {
-  answer = call-in-turn m ps D states arcs work (judgedAs t) (judgedAs (l .judged)) (judgedAs j) (r .enough) e (f .answer) (g .enough) h;
+pub prepared : (m : Memory) (ps : List TapePair) (states arcs work : ℕ) (t j : Judged) (l : PairsJudged) (r : RoomAnswer)
+    → judgedAs t ≡ forget (decodeTable m) → KeepJudged ps (m .tapes) l → RoomFor states arcs (m .states) work r → judgedAs j ≡ inTurn (judgedAs t) (judgedAs (l .judged)) (r .enough)
+    → Prepares m ps states arcs work (record { judged = j; pairs = l .pairs; room = r .room })
+prepared m ps states arcs work t j l r e f g h = record {
+  answer = call-in-turn m ps states arcs work (judgedAs t) (judgedAs (l .judged)) (judgedAs j) (r .enough) e (f .answer) (g .enough) h;
   sound = λ k. judged-sound m (sym e ∙ first k .1);
   pairs-are = λ k. f .pairs (second k);
   four = λ k. f .four (second k);
   named = λ k. f .tapes-named (second k);
-  limit-fits = λ k. f .limit-fits (second k);
+  limits-fit = λ k. keep-limits ps (m .tapes) l f (second k);
   divides = λ k. g .divides (third k);
 }
   where

@@ -1,4 +1,4 @@
-// What is judged before any configuration is reached: the table, the pairs with their limit, the work space.
+// What is judged before any configuration is reached: the table, the pairs with their limits, the work space.
 use memory::answer::Counts;
 use memory::answer::Judged;
 use memory::judge::judge;

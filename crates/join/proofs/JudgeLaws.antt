@@ -14,7 +14,7 @@ use Rattle.automata.specs.OrderedSum.{ℕ-sum}
 use Rattle.automata.specs.Space.{Space}
 use Rattle.automata.specs.Automaton.{Automaton}
 use Rattle.automata.specs.Table.{weightFits}
-use Rattle.automata.specs.TapePair.{Pair}
+use Rattle.automata.specs.TapePair.{TapePair, tapesOf}
 use Rattle.automata.specs.Memory.{Memory, Sound, tableOf, decodeTable}
 use Rattle.automata.specs.Join.{within, joinSteps, join}
 use Rattle.automata.specs.Calls.Work.{joinWork, enough}
@@ -83,38 +83,38 @@ module _ (t u p : Judged) (n e : Bool) (f : t ≡ Fine) (g : u ≡ Fine) where
     turn-fine k l = rw (f, g, h, k, l)
 
 -- ---- the call
-module _ (a b : Memory) (ps : List Pair) (D : ℕ) (product result : Space) (work : ℕ) (t u p j : Answer (Unit {0})) (n e : Bool)
+module _ (a b : Memory) (ps : List TapePair) (product result : Space) (work : ℕ) (t u p j : Answer (Unit {0})) (n e : Bool)
     (is-t : t ≡ forget (decodeTable a)) (is-u : u ≡ forget (decodeTable b)) (is-n : n ≡ leb (a .tapes + b .tapes) maxTapes)
-    (is-p : p ≡ joinPairsAnswer (a .tapes) (b .tapes) D ps) (is-e : e ≡ leb (joinWork product result) work) (is-j : j ≡ inTurn t u n p e)
+    (is-p : p ≡ joinPairsAnswer (a .tapes) (b .tapes) ps) (is-e : e ≡ leb (joinWork product result) work) (is-j : j ≡ inTurn t u n p e)
     (w : List ℕ) (l : length w ≡ work) where
   -- the steps of the call
   abbrev rest : Answer (Automaton ℕ)
-  rest = joinSteps ℕ-sum weightFits (lentTo D product result w) ps (tableOf a) (tableOf b)
+  rest = joinSteps ℕ-sum weightFits (lentTo product result w) ps (tableOf a) (tableOf b)
 
   abbrev after : Answer (Unit {0}) → Answer (Automaton ℕ)
   after x = x >>= λ (v : Unit {0}). rest
 
   -- the call on tables that stand in memory
   abbrev next : Automaton ℕ → Automaton ℕ → Answer (Automaton ℕ)
-  next A B = join ℕ-sum weightFits (lentTo D product result w) ps A B
+  next A B = join ℕ-sum weightFits (lentTo product result w) ps A B
 
   -- the tests behind the tables
   tests-then : Sound a → Sound b → (c : Bool) → n ≡ c → next (tableOf a) (tableOf b) ≡ after (inTurn (ok tt) (ok tt) n p e)
   tests-then s z false q =
       let d : leb (tableOf a .tapes + tableOf b .tapes) maxTapes ≡ false =
       ap₂ (λ (x y : ℕ). leb (x + y) maxTapes) (sym (sound-holds a s .tapes)) (sym (sound-holds b z .tapes)) ∙ sym is-n ∙ q in
-      join-width (lentTo D product result w) ps (tableOf a) (tableOf b) d ∙ sym (ap (λ (c : Bool). after (inTurn (ok tt) (ok tt) c p e)) q)
+      join-width (lentTo product result w) ps (tableOf a) (tableOf b) d ∙ sym (ap (λ (c : Bool). after (inTurn (ok tt) (ok tt) c p e)) q)
   tests-then s z true q =
       let few : a .tapes + b .tapes ≤ maxTapes = leb→le (a .tapes + b .tapes) maxTapes (true-T (leb (a .tapes + b .tapes) maxTapes) (sym is-n ∙ q)) in
       let long : enough (joinWork product result) w ≡ e = ap (leb (joinWork product result)) l ∙ sym is-e in
-      join-then ℕ-sum weightFits (lentTo D product result w) ps (tableOf a) (tableOf b) (a .tapes) (b .tapes) (sym (sound-holds a s .tapes)) (sym (sound-holds b z .tapes)) few
+      join-then ℕ-sum weightFits (lentTo product result w) ps (tableOf a) (tableOf b) (a .tapes) (b .tapes) (sym (sound-holds a s .tapes)) (sym (sound-holds b z .tapes)) few
       ∙ ap (λ (x : Answer (Unit {0})). x >>= λ (v : Unit {0}). judge (enough (joinWork product result) w) refusal.space rest) (sym is-p)
       ∙ ap (λ (c : Bool). p >>= λ (v : Unit {0}). judge c refusal.space rest) long
       ∙ turn-then p e refusal.space rest
       ∙ sym (ap (λ (c : Bool). after (inTurn (ok tt) (ok tt) c p e)) q)
 
   -- the call by the judgements
-  by-tables : (x y : Answer (Automaton ℕ)) → decodeTable a ≡ x → decodeTable b ≡ y → joinAnswer a b ps D product result w ≡ after j
+  by-tables : (x y : Answer (Automaton ℕ)) → decodeTable a ≡ x → decodeTable b ≡ y → joinAnswer a b ps product result w ≡ after j
   unfolding joinAnswer
   by-tables (refused k) y d f =
       ap (λ (r : Answer (Automaton ℕ)). r >>= λ A. decodeTable b >>= λ B. next A B) d
@@ -129,23 +129,23 @@ module _ (a b : Memory) (ps : List Pair) (D : ℕ) (product result : Space) (wor
       ∙ sym (ap after (is-j ∙ ap (λ (x : Answer (Unit {0})). inTurn x u n p e) (is-t ∙ ap forget d) ∙ ap (λ (x : Answer (Unit {0})). inTurn (ok tt) x n p e) (is-u ∙ ap forget f)))
 
 -- pairs that are not refused name tapes that are there
-pairs-within : (n m D : ℕ) (ps : List Pair) → joinPairsAnswer n m D ps ≡ ok tt → T (within n m ps)
+pairs-within : (n m : ℕ) (ps : List TapePair) → joinPairsAnswer n m ps ≡ ok tt → T (within n m (tapesOf ps))
 unfolding joinPairsAnswer
-pairs-within n m D ps e = judge-ok (within n m ps) _ _ tt e .0
+pairs-within n m ps e = judge-ok (within n m (tapesOf ps)) _ _ tt e .0
 
 -- The judgements are those of the call.
-pub prepared : (a b : Memory) (ps : List Pair) (D : ℕ) (product result : Space) (work : ℕ) (t u j : Judged) (l : PairsJudged) (n e : Bool)
+pub prepared : (a b : Memory) (ps : List TapePair) (product result : Space) (work : ℕ) (t u j : Judged) (l : PairsJudged) (n e : Bool)
     → judgedAs t ≡ forget (decodeTable a) → judgedAs u ≡ forget (decodeTable b) → n ≡ leb (a .tapes + b .tapes) maxTapes
-    → JoinJudged ps (a .tapes) (b .tapes) D l → e ≡ leb (joinWork product result) work
-    → judgedAs j ≡ inTurn (judgedAs t) (judgedAs u) n (judgedAs (l .judged)) e → Prepares a b ps D product result work l j
-prepared a b ps D product result work t u j l n e is-t is-u is-n k is-e is-j = record {
-  answer = λ w z. by-tables a b ps D product result work (judgedAs t) (judgedAs u) (judgedAs (l .judged)) (judgedAs j) n e is-t is-u is-n (k .answer) is-e is-j w z
+    → JoinJudged ps (a .tapes) (b .tapes) l → e ≡ leb (joinWork product result) work
+    → judgedAs j ≡ inTurn (judgedAs t) (judgedAs u) n (judgedAs (l .judged)) e → Prepares a b ps product result work l j
+prepared a b ps product result work t u j l n e is-t is-u is-n k is-e is-j = record {
+  answer = λ w z. by-tables a b ps product result work (judgedAs t) (judgedAs u) (judgedAs (l .judged)) (judgedAs j) n e is-t is-u is-n (k .answer) is-e is-j w z
       (decodeTable a) (decodeTable b) refl refl;
   first = λ f. judged-sound a (sym is-t ∙ ap judgedAs (all f .first-fine));
   second = λ f. judged-sound b (sym is-u ∙ ap judgedAs (all f .second-fine));
   narrow = λ f. leb→le (a .tapes + b .tapes) maxTapes (true-T (leb (a .tapes + b .tapes) maxTapes) (sym is-n ∙ all f .is-narrow));
   listed-fine = λ f. all f .pairs-fine;
-  inside = λ f. pairs-within (a .tapes) (b .tapes) D ps (sym (k .answer) ∙ ap judgedAs (all f .pairs-fine));
+  inside = λ f. pairs-within (a .tapes) (b .tapes) ps (sym (k .answer) ∙ ap judgedAs (all f .pairs-fine));
   enough = λ f. leb→le (joinWork product result) work (true-T (leb (joinWork product result) work) (sym is-e ∙ all f .is-enough));
 }
   where

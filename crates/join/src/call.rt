@@ -9,7 +9,7 @@ use pairs::PairsJudged;
 use pairs::judge_join_pairs;
 ghost use mathlib.Core.Path.{_≡_};
 ghost use mathlib.Core.List.{List};
-ghost use Rattle.automata.specs.TapePair.{Pair};
+ghost use Rattle.automata.specs.TapePair.{TapePair};
 ghost use Rattle.automata.specs.Calls.Outcome.{spaceOf, put, madeOf, joinedOf, slicesOf};
 ghost use Rattle.automata.specs.Calls.Join.{joinAnswer, joinOutcome};
 ghost use Rattle.memory.specs.Answers.{lent, tableAs};
@@ -26,15 +26,14 @@ fn build(
     second_states: &[u8],
     second_arcs: &[u8],
     listed: PairsJudged,
-    limit: usize,
     product_states: &mut [u8],
     product_arcs: &mut [u8],
     out_states: &mut [u8],
     out_arcs: &mut [u8],
     work: &mut [u8],
 ) -> TableAnswer
-    requires { ⌜ Listed (first .tapes) (second .tapes) limit listed ⌝ }
-    ensures { λ r. ⌜ ((ps : List Pair) → JoinJudged ps (first .tapes) (second .tapes) limit listed → madeOf (tableAs r) (now («out_states» .exit)) (now («out_arcs» .exit)) ≡ put (joinAnswer (lent first (now («first_states» .entry)) (now («first_arcs» .entry))) (lent second (now («second_states» .entry)) (now («second_arcs» .entry))) ps limit (spaceOf (slicesOf (now («product_states» .entry)) (now («product_arcs» .entry)))) (spaceOf (slicesOf (now («out_states» .entry)) (now («out_arcs» .entry)))) (now (work .entry))) (slicesOf (now («out_states» .entry)) (now («out_arcs» .entry)))) ⌝ }
+    requires { ⌜ Listed (first .tapes) (second .tapes) listed ⌝ }
+    ensures { λ r. ⌜ ((ps : List TapePair) → JoinJudged ps (first .tapes) (second .tapes) listed → madeOf (tableAs r) (now («out_states» .exit)) (now («out_arcs» .exit)) ≡ put (joinAnswer (lent first (now («first_states» .entry)) (now («first_arcs» .entry))) (lent second (now («second_states» .entry)) (now («second_arcs» .entry))) ps (spaceOf (slicesOf (now («product_states» .entry)) (now («product_arcs» .entry)))) (spaceOf (slicesOf (now («out_states» .entry)) (now («out_arcs» .entry)))) (now (work .entry))) (slicesOf (now («out_states» .entry)) (now («out_arcs» .entry)))) ⌝ }
 {
     let judged = judge_join(
         first,
@@ -62,7 +61,6 @@ fn build(
                 second_states,
                 second_arcs,
                 list,
-                limit,
                 product_states,
                 product_arcs,
                 out_states,
@@ -73,7 +71,7 @@ fn build(
     }
 }
 
-// The join on pairs that were judged for these tables and this limit. The product's space and the work space are zero afterwards.
+// The join on pairs that were judged for these tables. The product's space and the work space are zero afterwards.
 pub fn join_judged(
     first: Counts,
     first_states: &[u8],
@@ -82,15 +80,14 @@ pub fn join_judged(
     second_states: &[u8],
     second_arcs: &[u8],
     listed: PairsJudged,
-    limit: usize,
     product_states: &mut [u8],
     product_arcs: &mut [u8],
     out_states: &mut [u8],
     out_arcs: &mut [u8],
     work: &mut [u8],
 ) -> TableAnswer
-    requires { ⌜ Listed (first .tapes) (second .tapes) limit listed ⌝ }
-    ensures { λ r. ⌜ ((ps : List Pair) → JoinJudged ps (first .tapes) (second .tapes) limit listed → joinedOf (tableAs r) (now («out_states» .exit)) (now («out_arcs» .exit)) (now («product_states» .exit)) (now («product_arcs» .exit)) (now (work .exit)) ≡ joinOutcome (lent first (now («first_states» .entry)) (now («first_arcs» .entry))) (lent second (now («second_states» .entry)) (now («second_arcs» .entry))) ps limit (slicesOf (now («product_states» .entry)) (now («product_arcs» .entry))) (slicesOf (now («out_states» .entry)) (now («out_arcs» .entry))) (now (work .entry))) ⌝ }
+    requires { ⌜ Listed (first .tapes) (second .tapes) listed ⌝ }
+    ensures { λ r. ⌜ ((ps : List TapePair) → JoinJudged ps (first .tapes) (second .tapes) listed → joinedOf (tableAs r) (now («out_states» .exit)) (now («out_arcs» .exit)) (now («product_states» .exit)) (now («product_arcs» .exit)) (now (work .exit)) ≡ joinOutcome (lent first (now («first_states» .entry)) (now («first_arcs» .entry))) (lent second (now («second_states» .entry)) (now («second_arcs» .entry))) ps (slicesOf (now («product_states» .entry)) (now («product_arcs» .entry))) (slicesOf (now («out_states» .entry)) (now («out_arcs» .entry))) (now (work .entry))) ⌝ }
 {
     let answer = build(
         first,
@@ -100,7 +97,6 @@ pub fn join_judged(
         second_states,
         second_arcs,
         listed,
-        limit,
         product_states,
         product_arcs,
         out_states,
@@ -113,9 +109,10 @@ pub fn join_judged(
     answer
 }
 
-// The join of the table in `first_states` and `first_arcs` with that in `second_states` and `second_arcs`, on pairs of a tape of the first and one
-// of the second: the product in its own space, what agrees on the pairs into `out_states` and `out_arcs`, and the second tapes dropped there. The
-// product's space and the work space are zero afterwards.
+// The join of the table in `first_states` and `first_arcs` with that in `second_states` and `second_arcs`, on pairs of a
+// tape of the first and one of the second, three bytes a pair, each with its own limit: the product in its own space,
+// what agrees on the pairs into `out_states` and `out_arcs`, and the second tapes dropped there. The product's space
+// and the work space are zero afterwards.
 pub fn join(
     first: Counts,
     first_states: &[u8],
@@ -124,16 +121,15 @@ pub fn join(
     second_states: &[u8],
     second_arcs: &[u8],
     pairs: &[u8],
-    limit: usize,
     product_states: &mut [u8],
     product_arcs: &mut [u8],
     out_states: &mut [u8],
     out_arcs: &mut [u8],
     work: &mut [u8],
 ) -> TableAnswer
-    ensures { λ r. ⌜ joinedOf (tableAs r) (now («out_states» .exit)) (now («out_arcs» .exit)) (now («product_states» .exit)) (now («product_arcs» .exit)) (now (work .exit)) ≡ joinOutcome (lent first (now («first_states» .entry)) (now («first_arcs» .entry))) (lent second (now («second_states» .entry)) (now («second_arcs» .entry))) (pairsOf (now (pairs .entry))) limit (slicesOf (now («product_states» .entry)) (now («product_arcs» .entry))) (slicesOf (now («out_states» .entry)) (now («out_arcs» .entry))) (now (work .entry)) ⌝ }
+    ensures { λ r. ⌜ joinedOf (tableAs r) (now («out_states» .exit)) (now («out_arcs» .exit)) (now («product_states» .exit)) (now («product_arcs» .exit)) (now (work .exit)) ≡ joinOutcome (lent first (now («first_states» .entry)) (now («first_arcs» .entry))) (lent second (now («second_states» .entry)) (now («second_arcs» .entry))) (pairsOf (now (pairs .entry))) (slicesOf (now («product_states» .entry)) (now («product_arcs» .entry))) (slicesOf (now («out_states» .entry)) (now («out_arcs» .entry))) (now (work .entry)) ⌝ }
 {
-    let listed = judge_join_pairs(pairs, first.tapes, second.tapes, limit);
+    let listed = judge_join_pairs(pairs, first.tapes, second.tapes);
     join_judged(
         first,
         first_states,
@@ -142,7 +138,6 @@ pub fn join(
         second_states,
         second_arcs,
         listed,
-        limit,
         product_states,
         product_arcs,
         out_states,

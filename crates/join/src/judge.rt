@@ -1,4 +1,5 @@
-// What is judged before any step of a join: the first table, the second, their width, the pairs with their limit, the work space.
+// What is judged before any step of a join: the first table, the second, their width, the pairs with their limits, the
+// work space.
 use crate::room::work_enough;
 use memory::answer::Counts;
 use memory::answer::Judged;
@@ -23,7 +24,7 @@ fn width_fits(n: usize, m: usize) -> bool
     m <= 8 - n
 }
 
-// The first refusal of two tables, of their width, of the pairs and their limit, or of the work space.
+// The first refusal of two tables, of their width, of the pairs and their limits, or of the work space.
 fn in_turn(first: Judged, second: Judged, narrow: bool, pairs: Judged, enough: bool) -> Judged
     ensures { λ r. ⌜ judgedAs r ≡ inTurn (judgedAs first) (judgedAs second) narrow (judgedAs pairs) enough ⌝ }
 {

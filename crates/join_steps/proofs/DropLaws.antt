@@ -26,7 +26,7 @@ use Rattle.join_steps.specs.Steps.{SecondsDroppable}
 
 -- no second tape stands beyond the tapes
 none-beyond : (l : List Pair) (used tapes k : ℕ) → ((h : ℕ) → h < used → getD l h noPair .second ≤ tapes) → tapes ≤ k
-    → any (λ (p : automata.Pair). eqb (p .second) (suc k)) (map pairAs (take used l)) ≡ false
+    → any (λ (p : automata.Pair). eqb (p .second) (suc k)) (automata.tapesOf (map pairAs (take used l))) ≡ false
 none-beyond [] zero tapes k each h = refl
 none-beyond [] (suc used) tapes k each h = refl
 none-beyond (p ∷ l) zero tapes k each h = refl
@@ -50,24 +50,24 @@ places-droppable d tapes beyond left =
     at k true e = T-or-left (ltb k tapes) (not (d k)) (rw e tt)
     at k false e = T-or-right (ltb k tapes) (not (d k)) (rw (beyond k (ltb-false e)) tt)
 
-module _ (m : Memory) (pairs : PairList) (x : SecondsDroppable m pairs) (mask : ℕ) (e : mask ≡ maskOf (seconds (pairsAs pairs))) where
-  beyond : (k : ℕ) → m .tapes ≤ k → seconds (pairsAs pairs) k ≡ false
+module _ (m : Memory) (pairs : PairList) (x : SecondsDroppable m pairs) (mask : ℕ) (e : mask ≡ maskOf (seconds (automata.tapesOf (pairsAs pairs)))) where
+  beyond : (k : ℕ) → m .tapes ≤ k → seconds (automata.tapesOf (pairsAs pairs)) k ≡ false
   beyond k h = none-beyond (pairs .pairs) (pairs .used) (m .tapes) k (λ i g. x .named .each i g .second-to) h
 
   -- what the mask marks
-  marked : inMask mask ≡ seconds (pairsAs pairs)
+  marked : inMask mask ≡ seconds (automata.tapesOf (pairsAs pairs))
   marked =
       let few = sound-well-formed m (x .sound) .counts .tapesFit in
       let same = sound-holds m (x .sound) .tapes in
-      ap inMask e ∙ mask-marked (seconds (pairsAs pairs)) (λ k h. beyond k (omega (arith, few, same, h)))
+      ap inMask e ∙ mask-marked (seconds (automata.tapesOf (pairsAs pairs))) (λ k h. beyond k (omega (arith, few, same, h)))
 
   -- they can be dropped
   pub seconds-droppable : Droppable m mask
   seconds-droppable = record {
     sound = x .sound;
-    marks = ap (λ (d : ℕ → Bool). droppable d (m .tapes)) marked ∙ places-droppable (seconds (pairsAs pairs)) (m .tapes) beyond (x .left);
+    marks = ap (λ (d : ℕ → Bool). droppable d (m .tapes)) marked ∙ places-droppable (seconds (automata.tapesOf (pairsAs pairs))) (m .tapes) beyond (x .left);
   }
 
   -- and they are what is dropped
-  pub seconds-dropped : (s : Slices) (o : Made) → o ≡ dropStep m (inMask mask) s → o ≡ dropStep m (seconds (pairsAs pairs)) s
+  pub seconds-dropped : (s : Slices) (o : Made) → o ≡ dropStep m (inMask mask) s → o ≡ dropStep m (seconds (automata.tapesOf (pairsAs pairs))) s
   seconds-dropped s o z = z ∙ ap (λ (d : ℕ → Bool). dropStep m d s) marked

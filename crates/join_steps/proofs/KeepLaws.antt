@@ -6,6 +6,7 @@ use lib.ListN.{length}
 use Rattle.automata.specs.Answer.{_>>=_, Answer, ok}
 use Rattle.automata.specs.Automaton.{Automaton}
 use Rattle.automata.specs.Table.{WellFormed}
+use Rattle.automata.specs.TapePair.{tapesOf}
 use Rattle.automata.specs.Tapes.{seconds, placeAfter}
 use Rattle.automata.specs.Memory.{Memory, tableOf, decodeTable}
 use Rattle.automata.specs.IntersectCall.{intersectOn}
@@ -50,13 +51,13 @@ pub told : (t : TableAnswer) (c : Counts) (states arcs : List ℕ) (o : Made) �
 told t c states arcs o q e = subst (λ (x : TableAnswer). madeOf (tableAs x) states arcs ≡ o) q e
 
 -- ---- after the auto-intersection
-module _ (m : Memory) (pairs : PairList) (D forStates forArcs work : ℕ) (x : Keepable m pairs D forStates forArcs work) (s : Slices) where
+module _ (m : Memory) (pairs : PairList) (forStates forArcs work : ℕ) (x : Keepable m pairs forStates forArcs work) (s : Slices) where
   -- the steps that are left
   abbrev next : Memory → Slices → Made
-  next K left = dropStep K (seconds (pairsAs pairs)) left
+  next K left = dropStep K (seconds (tapesOf (pairsAs pairs))) left
 
   abbrev step : Made
-  step = intersectStep m (pairsAs pairs) D s
+  step = intersectStep m (pairsAs pairs) s
 
   -- a refusal ends them
   pub keep-refused : (t : TableAnswer) (why : Refusal) (states arcs : List ℕ) → t ≡ Refused why → madeOf (tableAs t) states arcs ≡ step
@@ -69,20 +70,20 @@ module _ (m : Memory) (pairs : PairList) (D forStates forArcs work : ℕ) (x : K
   unfolding intersectStep
   kept-droppable t₀ c states arcs q e =
       let i = x .keeps in
-      let e′ : madeOf (ok (countsAs c)) states arcs ≡ put (intersectOn D (spaceOf s) (pairsAs pairs) (tableOf m)) s =
-      told t₀ c states arcs step q e ∙ ap (λ (r : Answer (Automaton ℕ)). put (r >>= λ P. intersectOn D (spaceOf s) (pairsAs pairs) P) s) (sound-decoded m (i .sound)) in
-      let t = made-table (intersectOn D (spaceOf s) (pairsAs pairs) (tableOf m)) s (countsAs c) states arcs e′ in
-      let w = Results.intersected D (spaceOf s) (pairsAs pairs) (tableOf m) (t .automaton) (sound-well-formed m (i .sound)) (t .gave) .well-formed in
+      let e′ : madeOf (ok (countsAs c)) states arcs ≡ put (intersectOn (spaceOf s) (pairsAs pairs) (tableOf m)) s =
+      told t₀ c states arcs step q e ∙ ap (λ (r : Answer (Automaton ℕ)). put (r >>= λ P. intersectOn (spaceOf s) (pairsAs pairs) P) s) (sound-decoded m (i .sound)) in
+      let t = made-table (intersectOn (spaceOf s) (pairsAs pairs) (tableOf m)) s (countsAs c) states arcs e′ in
+      let w = Results.intersected (spaceOf s) (pairsAs pairs) (tableOf m) (t .automaton) (sound-well-formed m (i .sound)) (t .gave) .well-formed in
       let same : m .tapes ≡ c .tapes =
-      sound-holds m (i .sound) .tapes ∙ sym (t .tapes ∙ Results.intersected-tapes D (spaceOf s) (pairsAs pairs) (tableOf m) (t .automaton) (t .gave)) in
+      sound-holds m (i .sound) .tapes ∙ sym (t .tapes ∙ Results.intersected-tapes (spaceOf s) (pairsAs pairs) (tableOf m) (t .automaton) (t .gave)) in
       record {
         sound = sound (lent c states arcs) (t .automaton) (t .decoded w);
         named = subst (λ (k : ℕ). Named k pairs) same (i .named);
-        left = subst (λ (k : ℕ). 1 ≤ placeAfter (seconds (pairsAs pairs)) k) same (x .left);
+        left = subst (λ (k : ℕ). 1 ≤ placeAfter (seconds (tapesOf (pairsAs pairs))) k) same (x .left);
       }
 
   -- dropping them ends the steps
   pub keep-dropped : (t : TableAnswer) (c : Counts) (states arcs : List ℕ) (o : Made) → t ≡ Table c → madeOf (tableAs t) states arcs ≡ step
-      → o ≡ dropStep (lent c states arcs) (seconds (pairsAs pairs)) (slicesOf states arcs) → o ≡ andThen step next
+      → o ≡ dropStep (lent c states arcs) (seconds (tapesOf (pairsAs pairs))) (slicesOf states arcs) → o ≡ andThen step next
   keep-dropped t c states arcs o q e z =
       z ∙ sym (andThen-given (madeOf (ok (countsAs c)) states arcs) next (countsAs c) refl) ∙ ap (λ (p : Made). andThen p next) (told t c states arcs step q e)

@@ -27,20 +27,20 @@ used-from (p ∷ l) (suc used) (suc i) h k = used-from l used i (omega arith) (o
 
 -- whether it stands at a place among the pairs used from the j-th on
 abbrev pub later : List Pair → ℕ → ℕ → ℕ → Bool
-later l used place j = any (λ (p : automata.Pair). eqb (p .second) (suc place)) (drop j (map pairAs (take used l)))
+later l used place j = any (λ (p : automata.Pair). eqb (p .second) (suc place)) (automata.tapesOf (drop j (map pairAs (take used l))))
 
 module _ (l : List Pair) (used place i : ℕ) where
   pub second-end : used ≤ i → later l used place i ≡ false
   second-end h =
-      ap (any (λ (p : automata.Pair). eqb (p .second) (suc place)))
+      ap (λ (ps : List automata.TapePair). any (λ (p : automata.Pair). eqb (p .second) (suc place)) (automata.tapesOf ps))
       (drop-of-length-le (map pairAs (take used l)) short)
     where
       short : length (map pairAs (take used l)) ≤ i
       short = let a = length-map (take used l) pairAs in let b = length-take used l in omega (arith, a, b)
 
   module _ (h : i < used) (k : used ≤ length l) where
-    here : later l used place i ≡ any (λ (p : automata.Pair). eqb (p .second) (suc place)) (pairAs (getD l i noPair) ∷ drop (suc i) (map pairAs (take used l)))
-    here = ap (any (λ (p : automata.Pair). eqb (p .second) (suc place))) (used-from l used i h k)
+    here : later l used place i ≡ any (λ (p : automata.Pair). eqb (p .second) (suc place)) (automata.tapesOf (pairAs (getD l i noPair) ∷ drop (suc i) (map pairAs (take used l))))
+    here = ap (λ (ps : List automata.TapePair). any (λ (p : automata.Pair). eqb (p .second) (suc place)) (automata.tapesOf ps)) (used-from l used i h k)
 
     pub second-here : getD l i noPair .second ≡ place + 1 → later l used place i ≡ true
     second-here e = here ∙ rw (eq-eqb (getD l i noPair .second) (suc place) (e ∙ add-one place))

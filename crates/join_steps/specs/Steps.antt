@@ -1,7 +1,10 @@
--- What the steps of a join ask for, once its tables, pairs, limit and work space are judged.
+-- What the steps of a join ask for, once its tables, pairs, limits and work space are judged.
 use Prim.Native.Nat.{ℕ, _+_, _/_, _≤_}
+use mathlib.Core.Path.{_≡_}
+use mathlib.Core.Bool.{true}
 use lib.Dec.{T}
-use Rattle.automata.specs.Limits.{maxTapes, maxDelay}
+use Rattle.automata.specs.Limits.{maxTapes}
+use Rattle.automata.specs.TapePair.{tapesOf, limitsFit}
 use Rattle.automata.specs.Tapes.{seconds, placeAfter}
 use Rattle.automata.specs.Memory.{Memory, Sound}
 use Rattle.automata.specs.Join.{within}
@@ -16,19 +19,20 @@ use Rattle.intersect.specs.Step.{Intersectable}
 pub record SecondsDroppable (m : Memory) (pairs : PairList) : Type 0 where
   pub sound : Sound m
   pub named : Named (m .tapes) pairs
-  pub left : 1 ≤ placeAfter (seconds (pairsAs pairs)) (m .tapes)
+  pub left : 1 ≤ placeAfter (seconds (tapesOf (pairsAs pairs))) (m .tapes)
 
 -- a table that can be kept on these pairs, and its second tapes dropped then
-pub record Keepable (m : Memory) (pairs : PairList) (limit forStates forArcs work : ℕ) : Type 0 where
-  pub keeps : Intersectable m pairs limit forStates forArcs work
-  pub left : 1 ≤ placeAfter (seconds (pairsAs pairs)) (m .tapes)
+pub record Keepable (m : Memory) (pairs : PairList) (forStates forArcs work : ℕ) : Type 0 where
+  pub keeps : Intersectable m pairs forStates forArcs work
+  pub left : 1 ≤ placeAfter (seconds (tapesOf (pairsAs pairs))) (m .tapes)
 
--- two tables, pairs of a tape of the first and one of the second, a limit, and work space for a product and a result in slices of so many bytes
-pub record Joinable (a b : Memory) (pairs : PairList) (limit forProductStates forProductArcs forStates forArcs work : ℕ) : Type 0 where
+-- two tables, pairs of a tape of the first and one of the second with limits in range, and work space for a product and
+-- a result in slices of so many bytes
+pub record Joinable (a b : Memory) (pairs : PairList) (forProductStates forProductArcs forStates forArcs work : ℕ) : Type 0 where
   pub first : Sound a
   pub second : Sound b
   pub narrow : a .tapes + b .tapes ≤ maxTapes
   pub sided : Sided (a .tapes) (b .tapes) pairs
-  pub inside : T (within (a .tapes) (b .tapes) (pairsAs pairs))
-  pub limit-fits : limit ≤ maxDelay
+  pub inside : T (within (a .tapes) (b .tapes) (tapesOf (pairsAs pairs)))
+  pub limits-fit : limitsFit (pairsAs pairs) ≡ true
   pub work-fits : joinWork (lentSpace (forProductStates / 10) (forProductArcs / 80)) (lentSpace (forStates / 10) (forArcs / 80)) ≤ work

@@ -8,6 +8,7 @@ use memory::pair::PairList;
 ghost use mathlib.Core.Path.{_≡_};
 ghost use lib.ListN.{length};
 ghost use Rattle.automata.specs.Answer.{ok};
+ghost use Rattle.automata.specs.TapePair.{tapesOf};
 ghost use Rattle.automata.specs.Tapes.{seconds};
 ghost use Rattle.automata.specs.Calls.Outcome.{madeOf, slicesOf, andThen};
 ghost use Rattle.automata.specs.Calls.JoinSteps.{intersectStep, dropStep};
@@ -18,7 +19,7 @@ ghost use Rattle.join_steps.specs.Steps.{SecondsDroppable, Keepable};
 // The table in `states` and `arcs` without the second tapes of the pairs, where it stands.
 fn drop_seconds(counts: Counts, pairs: PairList, states: &[u8], arcs: &mut [u8]) -> Counts
     requires { ⌜ SecondsDroppable (lent counts (now states) (now arcs)) pairs ⌝ }
-    ensures { λ r. ⌜ madeOf (ok (countsAs r)) (now (states .entry)) (now (arcs .exit)) ≡ dropStep (lent counts (now (states .entry)) (now (arcs .entry))) (seconds (pairsAs pairs)) (slicesOf (now (states .entry)) (now (arcs .entry))) ⌝ }
+    ensures { λ r. ⌜ madeOf (ok (countsAs r)) (now (states .entry)) (now (arcs .exit)) ≡ dropStep (lent counts (now (states .entry)) (now (arcs .entry))) (seconds (tapesOf (pairsAs pairs))) (slicesOf (now (states .entry)) (now (arcs .entry))) ⌝ }
 {
     let mask = second_tapes(pairs);
     drop_in_place(counts, mask, states, arcs)
@@ -30,24 +31,14 @@ pub fn keep_firsts(
     states: &[u8],
     arcs: &[u8],
     pairs: PairList,
-    limit: usize,
     out_states: &mut [u8],
     out_arcs: &mut [u8],
     work: &mut [u8],
 ) -> TableAnswer
-    requires { ⌜ Keepable (lent counts (now states) (now arcs)) pairs limit (length (now «out_states»)) (length (now «out_arcs»)) (length (now work)) ⌝ }
-    ensures { λ r. ⌜ madeOf (tableAs r) (now («out_states» .exit)) (now («out_arcs» .exit)) ≡ andThen (intersectStep (lent counts (now (states .entry)) (now (arcs .entry))) (pairsAs pairs) limit (slicesOf (now («out_states» .entry)) (now («out_arcs» .entry)))) (λ K left. dropStep K (seconds (pairsAs pairs)) left) ⌝ }
+    requires { ⌜ Keepable (lent counts (now states) (now arcs)) pairs (length (now «out_states»)) (length (now «out_arcs»)) (length (now work)) ⌝ }
+    ensures { λ r. ⌜ madeOf (tableAs r) (now («out_states» .exit)) (now («out_arcs» .exit)) ≡ andThen (intersectStep (lent counts (now (states .entry)) (now (arcs .entry))) (pairsAs pairs) (slicesOf (now («out_states» .entry)) (now («out_arcs» .entry)))) (λ K left. dropStep K (seconds (tapesOf (pairsAs pairs))) left) ⌝ }
 {
-    let answer = intersect_step(
-        counts,
-        states,
-        arcs,
-        pairs,
-        limit,
-        out_states,
-        out_arcs,
-        work,
-    );
+    let answer = intersect_step(counts, states, arcs, pairs, out_states, out_arcs, work);
     let TableAnswer::Table(kept) = answer else {
         return answer;
     };

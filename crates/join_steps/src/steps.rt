@@ -1,4 +1,5 @@
-// The steps of a join: the product, what agrees on the moved pairs, and the second tapes dropped. The first step that refuses decides.
+// The steps of a join: the product, what agrees on the moved pairs, and the second tapes dropped. The first step that
+// refuses decides.
 use crate::keep::keep_firsts;
 use memory::answer::Counts;
 use memory::answer::TableAnswer;
@@ -23,15 +24,14 @@ pub fn join_steps(
     second_states: &[u8],
     second_arcs: &[u8],
     pairs: PairList,
-    limit: usize,
     product_states: &mut [u8],
     product_arcs: &mut [u8],
     out_states: &mut [u8],
     out_arcs: &mut [u8],
     work: &mut [u8],
 ) -> TableAnswer
-    requires { ⌜ Joinable (lent first (now «first_states») (now «first_arcs»)) (lent second (now «second_states») (now «second_arcs»)) pairs limit (length (now «product_states»)) (length (now «product_arcs»)) (length (now «out_states»)) (length (now «out_arcs»)) (length (now work)) ⌝ }
-    ensures { λ r. ⌜ madeOf (tableAs r) (now («out_states» .exit)) (now («out_arcs» .exit)) ≡ joinByCalls (tableOf (lent first (now («first_states» .entry)) (now («first_arcs» .entry)))) (tableOf (lent second (now («second_states» .entry)) (now («second_arcs» .entry)))) (pairsAs pairs) limit (slicesOf (now («product_states» .entry)) (now («product_arcs» .entry))) (slicesOf (now («out_states» .entry)) (now («out_arcs» .entry))) ⌝ }
+    requires { ⌜ Joinable (lent first (now «first_states») (now «first_arcs»)) (lent second (now «second_states») (now «second_arcs»)) pairs (length (now «product_states»)) (length (now «product_arcs»)) (length (now «out_states»)) (length (now «out_arcs»)) (length (now work)) ⌝ }
+    ensures { λ r. ⌜ madeOf (tableAs r) (now («out_states» .exit)) (now («out_arcs» .exit)) ≡ joinByCalls (tableOf (lent first (now («first_states» .entry)) (now («first_arcs» .entry)))) (tableOf (lent second (now («second_states» .entry)) (now («second_arcs» .entry)))) (pairsAs pairs) (slicesOf (now («product_states» .entry)) (now («product_arcs» .entry))) (slicesOf (now («out_states» .entry)) (now («out_arcs» .entry))) ⌝ }
 {
     let answer = product_step(
         first,
@@ -53,7 +53,6 @@ pub fn join_steps(
         product_states,
         product_arcs,
         moved,
-        limit,
         out_states,
         out_arcs,
         work,

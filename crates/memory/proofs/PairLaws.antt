@@ -56,16 +56,18 @@ tape-range : (tapes k : ℕ) → T (isTape tapes k) → (1 ≤ k) × (k ≤ tape
 tape-range tapes k t = let (a, b) = and-T (leb 1 k) (leb k tapes) t in (leb→le 1 k a, leb→le k tapes b)
 
 -- pairs that pass the test of the definitions name tapes
-pub named-tested : (tapes : ℕ) (ps : PairList) → ps .used ≤ length (ps .pairs) → ps .used ≤ 4 → all (isTape tapes) (named (pairsAs ps)) ≡ true → Named tapes ps
+pub named-tested : (tapes : ℕ) (ps : PairList) → ps .used ≤ length (ps .pairs) → ps .used ≤ 4 → all (isTape tapes) (named (automata.tapesOf (pairsAs ps))) ≡ true → Named tapes ps
 named-tested tapes ps l four e = record { used-fit = four; each = each }
   where
     each : (h : ℕ) → h < ps .used → Within tapes (getD (ps .pairs) h noPair)
     each h lt =
         let p = getD (ps .pairs) h noPair in
-        let ms = pairsAs ps in
+        let ms = automata.tapesOf (pairsAs ps) in
         let firsts : List ℕ = map (λ q. q .first) ms in
         let seconds : List ℕ = map (λ q. q .second) ms in
-        let at : getElem? ms h ≡ some (pairAs p) = place-map pairAs (take (ps .used) (ps .pairs)) h (place-take (ps .used) (ps .pairs) h noPair lt (omega arith)) in
+        let pairOf : automata.TapePair → automata.Pair = λ q. record { first = q .first; second = q .second } in
+        let at : getElem? ms h ≡ some (pairOf (pairAs p)) =
+        place-map pairOf (pairsAs ps) h (place-map pairAs (take (ps .used) (ps .pairs)) h (place-take (ps .used) (ps .pairs) h noPair lt (omega arith))) in
         let t : T (all (isTape tapes) (named ms)) = true-T _ e in
         let a = placed (named ms) h (place-append firsts seconds h (place-map {A = automata.Pair} (λ q. q .first) ms h at)) in
         let b = placed (named ms) (length firsts + h) (place-append-right firsts seconds h ∙ place-map {A = automata.Pair} (λ q. q .second) ms h at) in

@@ -6,17 +6,21 @@ use Rattle.automata.specs.TapePair as automata
 use Rattle.memory.specs.declared.pair.Pair.{Pair}
 use Rattle.memory.specs.declared.pair.PairList.{PairList}
 
--- a pair of tapes
-abbrev pub pairAs : Pair → automata.Pair
-pairAs p = record { first = p .first; second = p .second }
+-- a pair of tapes with its limit
+abbrev pub pairAs : Pair → automata.TapePair
+pairAs p = record { first = p .first; second = p .second; limit = p .limit }
+
+-- its two tapes, whatever its limit
+abbrev pub tapesAs : Pair → automata.Pair
+tapesAs p = record { first = p .first; second = p .second }
 
 -- the pairs that are used
-abbrev pub pairsAs : PairList → List automata.Pair
+abbrev pub pairsAs : PairList → List automata.TapePair
 pairsAs ps = map pairAs (take (ps .used) (ps .pairs))
 
 -- what an element of an array of pairs is where the array ends
 abbrev pub noPair : Pair
-noPair = record { first = 0; second = 0 }
+noPair = record { first = 0; second = 0; limit = 0 }
 
 -- both tapes of a pair are among so many, counted from 1
 pub record Within (tapes : ℕ) (p : Pair) : Type 0 where

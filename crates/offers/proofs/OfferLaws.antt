@@ -24,7 +24,7 @@ use Rattle.memory.specs.Endian.{le}
 use Rattle.memory.specs.Answers.{lent}
 use Rattle.memory.specs.Pairs.{pairAs, pairsAs}
 use Rattle.relaxation.proofs.TableLaws.{source-is}
-use Rattle.configuration.specs.Configs.{Config, configAs, GoodConfig, TellsLong, lengthsOn, configAt, configBytes}
+use Rattle.configuration.specs.Configs.{Config, configAs, GoodConfig, lengthsOn, configAt, configBytes}
 use Rattle.configuration.specs.Steps.{Followed, Reads, Followable, Follows, followedAs}
 use Rattle.configuration.proofs.TestLaws.{length-of}
 use Rattle.configuration.proofs.RowLaws.{length-row}
@@ -119,7 +119,7 @@ module _ (p : Plan) (c : Config) (arcs : List ℕ) (j : ℕ) (w : List ℕ) (o :
   pub may-follow : Followable c arcs (80 * j) (p .pairs)
   may-follow = followable c arcs (80 * j) (p .counts .tapes) (p .pairs) (some-arc .0)
       (arc-reads p (o .states) arcs (length w) (o .explorable) j (some-arc .0) (some-arc .1)) (o .explorable .named) (o .good)
-      (λ h l. let s = o .short h l in omega (arith, s, o .explorable .limit-fits))
+      (λ h l. let s = o .short h l in omega (arith, s))
 
   -- the definition, where the arc leaves another state
   pub offers-away : (x : ℕ) (d : Config) → GoodConfig used d → x ≡ le (part (80 * j) 2 arcs) → (x ≡ c .state .0 → ⊥) → Offers p c arcs j w (record { kind = Nothing; config = d })
@@ -141,7 +141,7 @@ module _ (p : Plan) (c : Config) (arcs : List ℕ) (j : ℕ) (w : List ℕ) (o :
     offer-to states a ex g =
         let s : a .source ≡ x = arc-source p states arcs (length w) ex j a g ∙ sym e in
         let t : eqb (a .source) (c .state .0) ≡ true = eq-eqb (a .source) (c .state .0) (s ∙ n) in
-        let k : followedAs used r ≡ automata.follow (pairsIn p) (configAs used c) a = f .meaning (p .counts .tapes) (p .limit) a (ex .named) (arc-reads p states arcs (length w) ex j a g) in
+        let k : followedAs used r ≡ automata.follow (pairsIn p) (configAs used c) a = f .meaning (p .counts .tapes) a (ex .named) (arc-reads p states arcs (length w) ex j a g) in
         ap (offerTo (pairsIn p) (viableIn p states arcs)) k
         ∙ sym (ap (λ (b : Bool). if b (offerTo (pairsIn p) (viableIn p states arcs) (automata.follow (pairsIn p) (configAs used c) a)) nothing) t)
 
@@ -173,7 +173,7 @@ module _ (p : Plan) (c : Config) (arcs : List ℕ) (j : ℕ) (w : List ℕ) (o :
           let a = some-arc .0 in
           let g = some-arc .1 in
           let k : followedAs used r ≡ automata.follow (pairsIn p) (configAs used c) a =
-          f .meaning (p .counts .tapes) (p .limit) a (ex .named) (arc-reads p (o .states) arcs (length w) ex j a g) in
+          f .meaning (p .counts .tapes) a (ex .named) (arc-reads p (o .states) arcs (length w) ex j a g) in
           let s : r .config .state .0 ≡ a .target = followed-state (configAs used (r .config)) (a .target) (automata.advanceAll (pairsIn p) (configAs used c .leftovers) a)
           (sym (followed-some (o .states) a ex g) ∙ k) in
           let t = arc-target-fits p (o .states) arcs (length w) ex j a g in
@@ -187,7 +187,7 @@ module _ (p : Plan) (c : Config) (arcs : List ℕ) (j : ℕ) (w : List ℕ) (o :
         tested : (states : List ℕ) → Explorable p states arcs (length w) → HoldsClosing (tablesIn p states arcs) (p .room .delays) (p .counts .states) w
             → b ≡ viableIn p states arcs (configAs used (r .config))
         tested states ex hc = t (tablesIn p states arcs) (p .counts .states) hc (ex .delays-fit) state-fits
-            (length-closings (lent (p .counts) states arcs) (p .limit) (p .pairs) (omega (arith, ex .named .used-fit, ex .four-pairs)))
+            (length-closings (lent (p .counts) states arcs) (p .pairs) (omega (arith, ex .named .used-fit, ex .four-pairs)))
 
         -- nothing, where it is not viable
         pub offers-blocked : not b ≡ true → Offers p c arcs j w (record { kind = Nothing; config = r .config })
@@ -206,12 +206,9 @@ module _ (p : Plan) (c : Config) (arcs : List ℕ) (j : ℕ) (w : List ℕ) (o :
             go x true h = absurd (let z : _≡_ {A = ℕ} 0 1 = cc in omega arith)
             go x false h = refl
 
-        module _ (q : not b ≡ false) (l : Bool) (u : TellsLong used (p .limit) (r .config) l) where
+        module _ (q : not b ≡ false) (l : Bool) (long-is : l ≡ automata.tooLong (pairsIn p) (configAs used (r .config) .leftovers)) where
           count-pairs : length (pairsAs (p .pairs)) ≡ used
           count-pairs = length-map (take used (p .pairs .pairs)) pairAs ∙ length-take-le used (p .pairs .pairs) (omega (arith, used-four, o .explorable .four-pairs))
-
-          long-is : l ≡ automata.tooLong (pairsIn p) (configAs used (r .config) .leftovers)
-          long-is = u (pairsAs (p .pairs)) count-pairs
 
           -- what is offered, by whether it is too long
           offered-by : (states : List ℕ) (a : Arc ℕ) → Explorable p states arcs (length w) → HoldsClosing (tablesIn p states arcs) (p .room .delays) (p .counts .states) w
@@ -241,7 +238,7 @@ module _ (p : Plan) (c : Config) (arcs : List ℕ) (j : ℕ) (w : List ℕ) (o :
           pub offers-to : l ≡ false → Offers p c arcs j w (record { kind = To; config = r .config })
           offers-to z = record {
             good = f .good;
-            stored = λ k. stored-form used (p .limit) (p .counts .states) (r .config) used-four (f .good) state-fits
-                (not-long used (p .limit) (pairsAs (p .pairs)) (r .config) used-four (f .good) count-pairs (sym long-is ∙ z));
+            stored = λ k. stored-form used (p .counts .states) (r .config) used-four (f .good) state-fits
+                (not-long used (pairsIn p) (r .config) used-four (f .good) count-pairs (o .explorable .limits-fit) (sym long-is ∙ z));
             meaning = λ states a ex hc g. ap (λ (y : Bool). if y late (to (configAs used (r .config)))) (sym z) ∙ offered-by states a ex hc g;
           }

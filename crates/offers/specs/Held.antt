@@ -3,6 +3,7 @@ use mathlib.Core.Path.{_≡_}
 use mathlib.Core.List.{List, _++_, map}
 use Prim.Native.Nat.{ℕ, _-_, _≤_, _<_}
 use lib.ListN.{length, getD, replicate}
+use Rattle.automata.specs.Limits.{maxDelay}
 use Rattle.automata.specs.Config as automata
 use Rattle.chains.specs.Chain.{fronts}
 use Rattle.configuration.specs.Leftovers.{leftoverOf, blank, outside}
@@ -23,10 +24,10 @@ rowOf c = configBytes (configOf c)
 abbrev pub HoldsConfigs : List automata.Config → List ℕ → Type 0
 HoldsConfigs cs w = fronts 0 320 298 (length cs) w ≡ map rowOf cs
 
--- What holds of every configuration that is stored: its state is one of n, and by value it is in its one form for so many pairs, stands for
--- the same configuration, and has no leftover longer than the limit.
-pub record Stored (used limit n : ℕ) (c : automata.Config) : Type 0 where
+-- What holds of every configuration that is stored: its state is one of n, and by value it is in its one form for so
+-- many pairs, stands for the same configuration, and has no leftover longer than the greatest limit.
+pub record Stored (used n : ℕ) (c : automata.Config) : Type 0 where
   pub state-fits : c .state < n
   pub form : GoodConfig used (configOf c)
   pub meaning : configAs used (configOf c) ≡ c
-  pub short : (h : ℕ) → h < used → getD (configOf c .leftovers) h outside .len ≤ limit
+  pub short : (h : ℕ) → h < used → getD (configOf c .leftovers) h outside .len ≤ maxDelay

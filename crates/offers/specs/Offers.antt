@@ -5,6 +5,7 @@ use mathlib.Core.Option.{some}
 use mathlib.Core.List.{List}
 use Prim.Native.Nat.{ℕ, _+_, _*_, _≤_, _<_}
 use lib.ListN.{length, getD, getElem?}
+use Rattle.automata.specs.Limits.{maxDelay}
 use Rattle.automata.specs.Automaton.{Arc}
 use Rattle.automata.specs.Config as automata
 use Rattle.automata.specs.Closing.{ClosingTables, viable}
@@ -41,7 +42,7 @@ pub record Offerable (p : Plan) (c : Config) (arcs : List ℕ) (j : ℕ) (w : Li
   pub states : List ℕ
   pub explorable : Explorable p states arcs (length w)
   pub good : GoodConfig (p .pairs .used) c
-  pub short : (h : ℕ) → h < p .pairs .used → getD (c .leftovers) h outside .len ≤ p .limit
+  pub short : (h : ℕ) → h < p .pairs .used → getD (c .leftovers) h outside .len ≤ maxDelay
   pub arc-fits : j < p .counts .arcs
 
 -- r is what the arc with number j offers c, where the work space w holds the closing tables; a successor is one that may be stored

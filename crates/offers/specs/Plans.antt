@@ -1,11 +1,11 @@
 -- What a search over configurations reads: a table in memory, pairs of its tapes, and a work space in parts.
 use mathlib.Core.Path.{_≡_}
-use mathlib.Core.Bool.{Bool}
+use mathlib.Core.Bool.{Bool, true}
 use mathlib.Core.List.{List}
 use Prim.Native.Nat.{ℕ, _+_, _*_, _≤_}
 use lib.ListN.{length}
 use Rattle.automata.specs.Automaton.{Automaton}
-use Rattle.automata.specs.TapePair.{TapePair, limited}
+use Rattle.automata.specs.TapePair.{TapePair, limitsFit}
 use Rattle.automata.specs.Config as automata
 use Rattle.automata.specs.Memory.{Sound, tableOf}
 use Rattle.automata.specs.Closing.{ClosingTables, closingTables, viable}
@@ -18,9 +18,9 @@ use Rattle.offers.specs.Held.{Stored}
 abbrev pub tableIn : Plan → List ℕ → List ℕ → Automaton ℕ
 tableIn p states arcs = tableOf (lent (p .counts) states arcs)
 
--- the pairs of tapes, with their limit
+-- the pairs of tapes, with their limits
 abbrev pub pairsIn : Plan → List TapePair
-pairsIn p = limited (p .limit) (pairsAs (p .pairs))
+pairsIn p = pairsAs (p .pairs)
 
 -- its closing tables, and the test for viable configurations
 abbrev pub tablesIn : Plan → List ℕ → List ℕ → ClosingTables
@@ -31,14 +31,14 @@ viableIn p states arcs = viable (tablesIn p states arcs)
 
 -- what holds of every configuration that the search stores
 abbrev pub StoredIn : Plan → automata.Config → Type 0
-StoredIn p = Stored (p .pairs .used) (p .limit) (p .counts .states)
+StoredIn p = Stored (p .pairs .used) (p .counts .states)
 
 -- the bytes hold a table, the pairs name its tapes, and the work space of so many bytes has room for all parts
 pub record Explorable (p : Plan) (states arcs : List ℕ) (size : ℕ) : Type 0 where
   pub sound : Sound (lent (p .counts) states arcs)
   pub named : Named (p .counts .tapes) (p .pairs)
   pub four-pairs : length (p .pairs .pairs) ≡ 4
-  pub limit-fits : p .limit ≤ 64
+  pub limits-fit : limitsFit (pairsIn p) ≡ true
   pub configs-fit : 320 * p .room .states ≤ p .room .edges
   pub edges-fit : p .room .edges + 16 * p .room .arcs ≤ p .room .delays
   pub delays-fit : p .room .delays + 64 * p .counts .states ≤ size

@@ -50,8 +50,7 @@ pub fn offer(plan: Plan, own: &[u8], arcs: &[u8], j: usize, work: &[u8], row: &m
     if !viable_config(plan, row, work) {
         return Kind::Nothing;
     }
-    let limit = plan.limit;
-    if too_long(row, pairs.used, limit) {
+    if too_long(row, pairs) {
         return Kind::Late;
     }
     Kind::To

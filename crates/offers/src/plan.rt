@@ -3,10 +3,9 @@ use memory::answer::Counts;
 use memory::pair::PairList;
 use workspace::room::Room;
 
-// The counts of the table read, the pairs of tapes that are to agree, the longest leftover allowed, and the parts of the work space.
+// The counts of the table read, the pairs of tapes that are to agree, with their limits, and the parts of work space.
 pub struct Plan {
     pub counts: Counts,
     pub pairs: PairList,
-    pub limit: u8,
     pub room: Room,
 }

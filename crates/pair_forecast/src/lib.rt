@@ -3,16 +3,17 @@ use forecast::call::forecast_judged;
 use forecast_records::ForecastAnswer;
 use memory::answer::Counts;
 use memory::pair::Pair;
-use pair_records::judge_records;
+use pair_records::judge_record_tapes;
 ghost use mathlib.Core.Path.{_≡_};
 ghost use mathlib.Core.List.{map};
+ghost use Rattle.automata.specs.TapePair.{tapesOf};
 ghost use Rattle.automata.specs.Calls.Forecast.{foretoldOf, forecastOutcome};
 ghost use Rattle.memory.specs.Answers.{lent};
 ghost use Rattle.memory.specs.Pairs.{pairAs};
 ghost use Rattle.forecast_records.specs.Values.{answerAs};
 
 // Space known beforehand: for each pair of tapes what a build of the table in `states` and `arcs` on it can need, in
-// list order. No build is run. Work space is zero afterwards.
+// list order. No build is run, and no limit is read. Work space is zero afterwards.
 pub fn forecast(
     counts: Counts,
     states: &[u8],
@@ -20,8 +21,8 @@ pub fn forecast(
     pairs: &[Pair],
     work: &mut [u8],
 ) -> ForecastAnswer
-    ensures { λ r. ⌜ foretoldOf (answerAs r) (now (work .exit)) ≡ forecastOutcome (lent counts (now (states .entry)) (now (arcs .entry))) (map pairAs (now (pairs .entry))) (now (work .entry)) ⌝ }
+    ensures { λ r. ⌜ foretoldOf (answerAs r) (now (work .exit)) ≡ forecastOutcome (lent counts (now (states .entry)) (now (arcs .entry))) (tapesOf (map pairAs (now (pairs .entry)))) (now (work .entry)) ⌝ }
 {
-    let listed = judge_records(pairs, counts.tapes, 0);
+    let listed = judge_record_tapes(pairs, counts.tapes);
     forecast_judged(counts, states, arcs, listed, true, work)
 }

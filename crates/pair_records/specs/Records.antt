@@ -12,7 +12,7 @@ use Rattle.memory.specs.declared.pair.Pair.{Pair}
 use Rattle.memory.specs.declared.pair.PairList.{PairList}
 use Rattle.memory.specs.Pairs.{pairAs, noPair}
 use Rattle.pairs.specs.declared.PairsJudged.{PairsJudged}
-use Rattle.pairs.specs.Judgement.{KeepJudged, JoinJudged}
+use Rattle.pairs.specs.Judgement.{KeepJudged, JoinJudged, TapesJudged}
 
 -- four pairs by value, and the number of pairs of the list that they are the first of
 abbrev pub fourOf : ℕ → Pair → Pair → Pair → Pair → PairList
@@ -26,12 +26,19 @@ readOf ps = fourOf (length ps) (getD ps 0 noPair) (getD ps 1 noPair) (getD ps 2 
 abbrev pub sidesOnce : List automata.Pair → Bool
 sidesOnce ps = and (distinct (map (λ p. p .first) ps)) (distinct (map (λ p. p .second) ps))
 
--- The first four pairs of a list, with whether all of its pairs are within, settle what an auto-intersection asks of the whole list.
-abbrev pub KeepSettles : PairList → Bool → ℕ → PairsJudged → Type 0
-KeepSettles list inside limit r =
-    (ps : List Pair) (tapes : ℕ) → list ≡ readOf ps → inside ≡ within tapes tapes (map pairAs ps) → KeepJudged (map pairAs ps) tapes limit r
+-- The first four pairs of a list, with whether all of its pairs are within, settle what an auto-intersection asks of
+-- the whole list.
+abbrev pub KeepSettles : PairList → Bool → PairsJudged → Type 0
+KeepSettles list inside r =
+    (ps : List Pair) (tapes : ℕ) → list ≡ readOf ps → inside ≡ within tapes tapes (automata.tapesOf (map pairAs ps)) → KeepJudged (map pairAs ps) tapes r
 
 -- The same for a join.
-abbrev pub JoinSettles : PairList → Bool → ℕ → PairsJudged → Type 0
-JoinSettles list inside limit r =
-    (ps : List Pair) (n m : ℕ) → list ≡ readOf ps → inside ≡ within n m (map pairAs ps) → JoinJudged (map pairAs ps) n m limit r
+abbrev pub JoinSettles : PairList → Bool → PairsJudged → Type 0
+JoinSettles list inside r =
+    (ps : List Pair) (n m : ℕ) → list ≡ readOf ps → inside ≡ within n m (automata.tapesOf (map pairAs ps)) → JoinJudged (map pairAs ps) n m r
+
+-- The same for a forecast, which asks nothing of the limits.
+abbrev pub TapesSettle : PairList → Bool → PairsJudged → Type 0
+TapesSettle list inside r =
+    (ps : List Pair) (tapes : ℕ) → list ≡ readOf ps → inside ≡ within tapes tapes (automata.tapesOf (map pairAs ps))
+    → TapesJudged (automata.tapesOf (map pairAs ps)) tapes r

@@ -1,6 +1,7 @@
 // Lists of pairs of tapes lent as records: each pair looked at, the first four read by value, and the list judged.
 use memory::answer::Judged;
 use memory::answer::Refusal;
+use memory::pair::MAX_LIMIT;
 use memory::pair::Pair;
 use memory::pair::PairList;
 use pairs::PairsJudged;
@@ -16,12 +17,13 @@ ghost use lib.Dec.{leb};
 ghost use lib.ListN.{getD};
 ghost use Rattle.automata.specs.Limits.{maxPairs};
 ghost use Rattle.automata.specs.Lists.{and};
+ghost use Rattle.automata.specs.TapePair.{tapesOf, limitsFit};
 ghost use Rattle.automata.specs.IntersectCall.{distinct, named};
 ghost use Rattle.automata.specs.Projection.{isTape};
 ghost use Rattle.automata.specs.Join.{within};
 ghost use Rattle.memory.specs.Pairs.{pairAs, pairsAs, noPair};
-ghost use Rattle.pairs.specs.Judgement.{Settled, KeepJudged, JoinJudged};
-ghost use Rattle.pair_records.specs.Records.{fourOf, readOf, sidesOnce, KeepSettles, JoinSettles};
+ghost use Rattle.pairs.specs.Judgement.{Settled, KeepJudged, JoinJudged, TapesJudged};
+ghost use Rattle.pair_records.specs.Records.{fourOf, readOf, sidesOnce, KeepSettles, JoinSettles, TapesSettle};
 
 // The pair at a place, or a pair of zeros past the end.
 fn pair_or(pairs: &[Pair], i: usize) -> Pair
@@ -33,6 +35,7 @@ fn pair_or(pairs: &[Pair], i: usize) -> Pair
     Pair {
         first: 0,
         second: 0,
+        limit: 0,
     }
 }
 
@@ -73,7 +76,7 @@ fn still_within(fine: bool, p: Pair, n: usize, m: usize) -> bool
 
 // Whether every pair of the list has its first tape among n and its second among m.
 fn all_records_within(pairs: &[Pair], n: usize, m: usize) -> bool
-    ensures { λ r. ⌜ r ≡ within n m (map pairAs (now (pairs .entry))) ⌝ }
+    ensures { λ r. ⌜ r ≡ within n m (tapesOf (map pairAs (now (pairs .entry)))) ⌝ }
 {
     let mut i = 0;
     let mut fine = true;
@@ -87,7 +90,7 @@ fn all_records_within(pairs: &[Pair], n: usize, m: usize) -> bool
 
 // Test 6 of an auto-intersection: at most four pairs, and no tape named twice.
 fn keep_once(list: PairList) -> bool
-    ensures { λ r. ⌜ r ≡ and (leb (list .used) maxPairs) (distinct (named (pairsAs list))) ⌝ }
+    ensures { λ r. ⌜ r ≡ and (leb (list .used) maxPairs) (distinct (named (tapesOf (pairsAs list)))) ⌝ }
 {
     if 4 < list.used {
         return false;
@@ -97,7 +100,7 @@ fn keep_once(list: PairList) -> bool
 
 // Test 6 of a join: at most four pairs, and no tape twice on one side.
 fn join_once(pairs: PairList) -> bool
-    ensures { λ r. ⌜ r ≡ and (leb (pairs .used) maxPairs) (sidesOnce (pairsAs pairs)) ⌝ }
+    ensures { λ r. ⌜ r ≡ and (leb (pairs .used) maxPairs) (sidesOnce (tapesOf (pairsAs pairs))) ⌝ }
 {
     if 4 < pairs.used {
         return false;
@@ -105,10 +108,29 @@ fn join_once(pairs: PairList) -> bool
     sides_once(pairs)
 }
 
-// The tests in their order: 5 where a tape is not there, 6 where a tape stands twice or there are too many pairs, 7 by the limit.
-fn settled(list: PairList, inside: bool, once: bool, limit: usize) -> PairsJudged
+// Test 7 on the first four pairs: none that is used has a limit above 64.
+fn limits_fit(list: PairList) -> bool
+    ensures { λ r. ⌜ r ≡ limitsFit (pairsAs list) ⌝ }
+{
+    let mut h = 0;
+    while h < 4 {
+        if list.used <= h {
+            return true;
+        }
+        let p = list.pairs[h];
+        if MAX_LIMIT < p.limit {
+            return false;
+        }
+        h += 1;
+    }
+    true
+}
+
+// The tests in their order: 5 where a tape is not there, 6 where a tape stands twice or there are too many pairs, 7 by
+// the limits.
+fn settled(list: PairList, inside: bool, once: bool, fit: bool) -> PairsJudged
     requires { ⌜ (once ≡ true → list .used ≤ 4) ⌝ }
-    ensures { λ r. ⌜ Settled (pairsAs list) inside once limit r ⌝ }
+    ensures { λ r. ⌜ Settled (pairsAs list) inside once fit r ⌝ }
 {
     if !inside {
         return refused(Refusal::Tape);
@@ -116,7 +138,7 @@ fn settled(list: PairList, inside: bool, once: bool, limit: usize) -> PairsJudge
     if !once {
         return refused(Refusal::Pairs);
     }
-    if 64 < limit {
+    if !fit {
         return refused(Refusal::Limit);
     }
     PairsJudged {
@@ -126,35 +148,54 @@ fn settled(list: PairList, inside: bool, once: bool, limit: usize) -> PairsJudge
 }
 
 // The tests of an auto-intersection, on pairs by value.
-fn keep_settled(list: PairList, inside: bool, limit: usize) -> PairsJudged
-    ensures { λ r. ⌜ KeepSettles list inside limit r ⌝ }
+fn keep_settled(list: PairList, inside: bool) -> PairsJudged
+    ensures { λ r. ⌜ KeepSettles list inside r ⌝ }
 {
     let once = keep_once(list);
-    settled(list, inside, once, limit)
+    let fit = limits_fit(list);
+    settled(list, inside, once, fit)
 }
 
 // The tests of a join, on pairs by value.
-fn join_settled(list: PairList, inside: bool, limit: usize) -> PairsJudged
-    ensures { λ r. ⌜ JoinSettles list inside limit r ⌝ }
+fn join_settled(list: PairList, inside: bool) -> PairsJudged
+    ensures { λ r. ⌜ JoinSettles list inside r ⌝ }
 {
     let once = join_once(list);
-    settled(list, inside, once, limit)
+    let fit = limits_fit(list);
+    settled(list, inside, once, fit)
+}
+
+// The tests of a forecast, on pairs by value. No limit is read.
+fn tapes_settled(list: PairList, inside: bool) -> PairsJudged
+    ensures { λ r. ⌜ TapesSettle list inside r ⌝ }
+{
+    let once = keep_once(list);
+    settled(list, inside, once, true)
 }
 
 // The pairs of an auto-intersection of a table: 5 over the whole list, then 6, then 7.
-pub fn judge_records(pairs: &[Pair], tapes: usize, limit: usize) -> PairsJudged
-    ensures { λ r. ⌜ KeepJudged (map pairAs (now (pairs .entry))) tapes limit r ⌝ }
+pub fn judge_records(pairs: &[Pair], tapes: usize) -> PairsJudged
+    ensures { λ r. ⌜ KeepJudged (map pairAs (now (pairs .entry))) tapes r ⌝ }
 {
     let inside = all_records_within(pairs, tapes, tapes);
     let list = read_records(pairs);
-    keep_settled(list, inside, limit)
+    keep_settled(list, inside)
 }
 
 // The pairs of a join of tables with n and m tapes: 5 over the whole list, then 6, then 7.
-pub fn judge_join_records(pairs: &[Pair], n: usize, m: usize, limit: usize) -> PairsJudged
-    ensures { λ r. ⌜ JoinJudged (map pairAs (now (pairs .entry))) n m limit r ⌝ }
+pub fn judge_join_records(pairs: &[Pair], n: usize, m: usize) -> PairsJudged
+    ensures { λ r. ⌜ JoinJudged (map pairAs (now (pairs .entry))) n m r ⌝ }
 {
     let inside = all_records_within(pairs, n, m);
     let list = read_records(pairs);
-    join_settled(list, inside, limit)
+    join_settled(list, inside)
+}
+
+// The pairs of a forecast of a table: 5 over the whole list, then 6. No limit is read.
+pub fn judge_record_tapes(pairs: &[Pair], tapes: usize) -> PairsJudged
+    ensures { λ r. ⌜ TapesJudged (tapesOf (map pairAs (now (pairs .entry)))) tapes r ⌝ }
+{
+    let inside = all_records_within(pairs, tapes, tapes);
+    let list = read_records(pairs);
+    tapes_settled(list, inside)
 }

@@ -1,7 +1,10 @@
-// Lists of pairs of tapes as they are lent, two bytes a pair: judged over the whole list, and read into an array of four by value.
+// Lists of pairs of tapes as they are lent, three bytes a pair: judged over the whole list, and read into an array of
+// four by value.
 use memory::answer::Judged;
 use memory::answer::Refusal;
 use memory::bytes::copy_into;
+use memory::pair::MAX_LIMIT;
+use memory::pair::PAIR;
 use memory::pair::Pair;
 use memory::pair::PairList;
 ghost use mathlib.Core.Path.{_≡_};
@@ -12,6 +15,7 @@ ghost use lib.Dec.{eqb, leb};
 ghost use lib.ListN.{length, getD, take};
 ghost use Rattle.automata.specs.Limits.{maxPairs};
 ghost use Rattle.automata.specs.Lists.{and, any};
+ghost use Rattle.automata.specs.TapePair.{tapesOf, limitsFit};
 ghost use Rattle.automata.specs.IntersectCall.{distinct, named};
 ghost use Rattle.automata.specs.Projection.{isTape};
 ghost use Rattle.automata.specs.Join.{within, separate};
@@ -19,8 +23,8 @@ ghost use Rattle.memory.specs.declared.answer.Judged.the-variants as judged;
 ghost use Rattle.memory.specs.Answers.{judgedAs};
 ghost use Rattle.memory.specs.Pairs.{pairsAs};
 ghost use Rattle.pairs.specs.PairTests.{inTurn};
-ghost use Rattle.pairs.specs.PairBytes.{pairsOf, pairAt};
-ghost use Rattle.pairs.specs.Judgement.{Settled, KeepJudged, JoinJudged, Movable, Moved, movedAt};
+ghost use Rattle.pairs.specs.PairBytes.{pairSize, pairsOf, pairAt};
+ghost use Rattle.pairs.specs.Judgement.{Settled, KeepJudged, JoinJudged, TapesJudged, Movable, Moved, movedAt};
 
 // Whether a number stands in a list.
 fn occurs(numbers: &[u8], k: u8) -> bool
@@ -61,17 +65,31 @@ pub fn is_tape(n: usize, j: u8) -> bool
 
 // Whether every pair of the list has its first tape among n and its second among m.
 fn all_within(bytes: &[u8], n: usize, m: usize) -> bool
-    ensures { λ r. ⌜ r ≡ within n m (pairsOf (now (bytes .entry))) ⌝ }
+    ensures { λ r. ⌜ r ≡ within n m (tapesOf (pairsOf (now (bytes .entry)))) ⌝ }
 {
     let mut at = 0;
-    while 2 <= bytes.len() - at {
+    while PAIR <= bytes.len() - at {
         if !is_tape(n, bytes[at]) {
             return false;
         }
         if !is_tape(m, bytes[at + 1]) {
             return false;
         }
-        at += 2;
+        at += PAIR;
+    }
+    true
+}
+
+// Whether every pair of the list has a limit of at most 64.
+fn limits_fit(bytes: &[u8]) -> bool
+    ensures { λ r. ⌜ r ≡ limitsFit (pairsOf (now (bytes .entry))) ⌝ }
+{
+    let mut at = 0;
+    while PAIR <= bytes.len() - at {
+        if MAX_LIMIT < bytes[at + 2] {
+            return false;
+        }
+        at += PAIR;
     }
     true
 }
@@ -86,35 +104,36 @@ fn byte_at(bytes: &[u8], at: usize) -> u8
     0
 }
 
-// The pair in the two bytes at a place.
+// The pair in the three bytes at a place.
 fn pair_at(bytes: &[u8], at: usize) -> Pair
-    requires { ⌜ at < 8 ⌝ }
+    requires { ⌜ at < 12 ⌝ }
     ensures { λ r. ⌜ r ≡ pairAt (now (bytes .entry)) at ⌝ }
 {
     Pair {
         first: byte_at(bytes, at),
         second: byte_at(bytes, at + 1),
+        limit: byte_at(bytes, at + 2),
     }
 }
 
 // At most four pairs by value.
 fn read_pairs(bytes: &[u8]) -> PairList
-    requires { ⌜ length (now bytes) / 2 ≤ 4 ⌝ }
-    ensures { λ r. ⌜ (pairsAs r ≡ pairsOf (now (bytes .entry))) × (r .used ≡ length (now (bytes .entry)) / 2) ⌝ }
+    requires { ⌜ length (now bytes) / pairSize ≤ 4 ⌝ }
+    ensures { λ r. ⌜ (pairsAs r ≡ pairsOf (now (bytes .entry))) × (r .used ≡ length (now (bytes .entry)) / pairSize) ⌝ }
 {
     let a = pair_at(bytes, 0);
-    let b = pair_at(bytes, 2);
-    let c = pair_at(bytes, 4);
-    let d = pair_at(bytes, 6);
+    let b = pair_at(bytes, PAIR);
+    let c = pair_at(bytes, 2 * PAIR);
+    let d = pair_at(bytes, 3 * PAIR);
     PairList {
         pairs: [a, b, c, d],
-        used: bytes.len() / 2,
+        used: bytes.len() / PAIR,
     }
 }
 
 // The first tapes.
 fn firsts_of(pairs: PairList) -> [u8; 4]
-    ensures { λ r. ⌜ take (pairs .used) r ≡ map (λ p. p .first) (pairsAs pairs) ⌝ }
+    ensures { λ r. ⌜ take (pairs .used) r ≡ map (λ p. p .first) (tapesOf (pairsAs pairs)) ⌝ }
 {
     let list = pairs.pairs;
     let a = list[0];
@@ -126,7 +145,7 @@ fn firsts_of(pairs: PairList) -> [u8; 4]
 
 // The second tapes.
 fn seconds_of(pairs: PairList) -> [u8; 4]
-    ensures { λ r. ⌜ take (pairs .used) r ≡ map (λ p. p .second) (pairsAs pairs) ⌝ }
+    ensures { λ r. ⌜ take (pairs .used) r ≡ map (λ p. p .second) (tapesOf (pairsAs pairs)) ⌝ }
 {
     let list = pairs.pairs;
     let a = list[0];
@@ -139,7 +158,7 @@ fn seconds_of(pairs: PairList) -> [u8; 4]
 // Whether all tapes that the pairs name differ.
 pub fn named_once(pairs: PairList) -> bool
     requires { ⌜ pairs .used ≤ 4 ⌝ }
-    ensures { λ r. ⌜ r ≡ distinct (named (pairsAs pairs)) ⌝ }
+    ensures { λ r. ⌜ r ≡ distinct (named (tapesOf (pairsAs pairs))) ⌝ }
 {
     let used = pairs.used;
     let firsts = firsts_of(pairs);
@@ -154,7 +173,7 @@ pub fn named_once(pairs: PairList) -> bool
 // Whether the first tapes differ and the second tapes differ.
 pub fn sides_once(pairs: PairList) -> bool
     requires { ⌜ pairs .used ≤ 4 ⌝ }
-    ensures { λ r. ⌜ r ≡ and (distinct (map (λ p. p .first) (pairsAs pairs))) (distinct (map (λ p. p .second) (pairsAs pairs))) ⌝ }
+    ensures { λ r. ⌜ r ≡ and (distinct (map (λ p. p .first) (tapesOf (pairsAs pairs)))) (distinct (map (λ p. p .second) (tapesOf (pairsAs pairs)))) ⌝ }
 {
     let used = pairs.used;
     let firsts = firsts_of(pairs);
@@ -167,9 +186,9 @@ pub fn sides_once(pairs: PairList) -> bool
 
 // Test 6 of an auto-intersection: at most four pairs, and no tape named twice.
 fn keep_once(bytes: &[u8]) -> bool
-    ensures { λ r. ⌜ r ≡ and (leb (length (pairsOf (now (bytes .entry)))) maxPairs) (distinct (named (pairsOf (now (bytes .entry))))) ⌝ }
+    ensures { λ r. ⌜ r ≡ and (leb (length (pairsOf (now (bytes .entry)))) maxPairs) (distinct (named (tapesOf (pairsOf (now (bytes .entry)))))) ⌝ }
 {
-    let count = bytes.len() / 2;
+    let count = bytes.len() / PAIR;
     if 4 < count {
         return false;
     }
@@ -179,9 +198,9 @@ fn keep_once(bytes: &[u8]) -> bool
 
 // Test 6 of a join: at most four pairs, and no tape twice on one side.
 fn join_once(bytes: &[u8]) -> bool
-    ensures { λ r. ⌜ r ≡ separate (pairsOf (now (bytes .entry))) ⌝ }
+    ensures { λ r. ⌜ r ≡ separate (tapesOf (pairsOf (now (bytes .entry)))) ⌝ }
 {
-    let number = bytes.len() / 2;
+    let number = bytes.len() / PAIR;
     if 4 < number {
         return false;
     }
@@ -202,6 +221,7 @@ pub fn refused(why: Refusal) -> PairsJudged
     let none = Pair {
         first: 0,
         second: 0,
+        limit: 0,
     };
     let pairs = PairList {
         pairs: [none; 4],
@@ -213,10 +233,11 @@ pub fn refused(why: Refusal) -> PairsJudged
     }
 }
 
-// The tests in their order: 5 where a tape is not there, 6 where a tape stands twice or there are too many pairs, 7 by the limit.
-fn settled(bytes: &[u8], inside: bool, once: bool, limit: usize) -> PairsJudged
-    requires { ⌜ (once ≡ true → length (now bytes) / 2 ≤ 4) ⌝ }
-    ensures { λ r. ⌜ Settled (pairsOf (now (bytes .entry))) inside once limit r ⌝ }
+// The tests in their order: 5 where a tape is not there, 6 where a tape stands twice or there are too many pairs, 7 by
+// the limits.
+fn settled(bytes: &[u8], inside: bool, once: bool, fit: bool) -> PairsJudged
+    requires { ⌜ (once ≡ true → length (now bytes) / pairSize ≤ 4) ⌝ }
+    ensures { λ r. ⌜ Settled (pairsOf (now (bytes .entry))) inside once fit r ⌝ }
 {
     if !inside {
         return refused(Refusal::Tape);
@@ -224,7 +245,7 @@ fn settled(bytes: &[u8], inside: bool, once: bool, limit: usize) -> PairsJudged
     if !once {
         return refused(Refusal::Pairs);
     }
-    if 64 < limit {
+    if !fit {
         return refused(Refusal::Limit);
     }
     let pairs = read_pairs(bytes);
@@ -235,24 +256,35 @@ fn settled(bytes: &[u8], inside: bool, once: bool, limit: usize) -> PairsJudged
 }
 
 // The pairs of an auto-intersection of a table: 5 over the whole list, then 6, then 7.
-pub fn judge_pairs(bytes: &[u8], tapes: usize, limit: usize) -> PairsJudged
-    ensures { λ r. ⌜ KeepJudged (pairsOf (now (bytes .entry))) tapes limit r ⌝ }
+pub fn judge_pairs(bytes: &[u8], tapes: usize) -> PairsJudged
+    ensures { λ r. ⌜ KeepJudged (pairsOf (now (bytes .entry))) tapes r ⌝ }
 {
     let inside = all_within(bytes, tapes, tapes);
     let once = keep_once(bytes);
-    settled(bytes, inside, once, limit)
+    let fit = limits_fit(bytes);
+    settled(bytes, inside, once, fit)
 }
 
 // The pairs of a join of tables with n and m tapes: 5 over the whole list, then 6, then 7.
-pub fn judge_join_pairs(bytes: &[u8], n: usize, m: usize, limit: usize) -> PairsJudged
-    ensures { λ r. ⌜ JoinJudged (pairsOf (now (bytes .entry))) n m limit r ⌝ }
+pub fn judge_join_pairs(bytes: &[u8], n: usize, m: usize) -> PairsJudged
+    ensures { λ r. ⌜ JoinJudged (pairsOf (now (bytes .entry))) n m r ⌝ }
 {
     let inside = all_within(bytes, n, m);
     let once = join_once(bytes);
-    settled(bytes, inside, once, limit)
+    let fit = limits_fit(bytes);
+    settled(bytes, inside, once, fit)
 }
 
-// The first refusal of a table, of the pairs and their limit, or of the work space.
+// The pairs of a forecast of a table: 5 over the whole list, then 6. No limit is read.
+pub fn judge_tapes(bytes: &[u8], tapes: usize) -> PairsJudged
+    ensures { λ r. ⌜ TapesJudged (tapesOf (pairsOf (now (bytes .entry)))) tapes r ⌝ }
+{
+    let inside = all_within(bytes, tapes, tapes);
+    let once = keep_once(bytes);
+    settled(bytes, inside, once, true)
+}
+
+// The first refusal of a table, of the pairs and their limits, or of the work space.
 pub fn in_turn(table: Judged, pairs: Judged, enough: bool) -> Judged
     ensures { λ r. ⌜ judgedAs r ≡ inTurn (judgedAs table) (judgedAs pairs) enough ⌝ }
 {
@@ -280,6 +312,7 @@ fn moved_pair(pairs: PairList, at: usize, by: usize) -> Pair
         return Pair {
             first: p.first,
             second: second as u8,
+            limit: p.limit,
         };
     }
     p

@@ -1,6 +1,8 @@
--- `pair_records::all_records_within` meets its contract: a walk of its MIR, by hand. A turn of the loop calls `pair_or` at the place i and `still_within` on what it gave.
--- At the loop's head the result so far is whether the first i pairs are within, so the invariant is what lies in the locals at i, and what falls is the number of pairs that are left.
--- The slice reference is Copy: what it owns is had twice before each call of `pair_or`, one copy goes to the callee, beside the lifetime's token, which comes back.
+-- `pair_records::all_records_within` meets its contract: a walk of its MIR, by hand. A turn of the loop calls `pair_or`
+-- at the place i and `still_within` on what it gave. At the loop's head the result so far is whether the first i pairs
+-- are within, so the invariant is what lies in the locals at i, and what falls is the number of pairs that are left.
+-- The slice reference is Copy: what it owns is had twice before each call of `pair_or`, one copy goes to the callee,
+-- beside the lifetime's token, which comes back.
 -- Assumes nothing.
 use mathlib.Core.Path.{_≡_, refl, ap, _∙_}
 use mathlib.Core.Bool.{Bool, true, false}
@@ -48,6 +50,7 @@ use denote.Triple.Walked.{says, Stays, stay-none-slice, stay-none, walkOf, goes-
 use denote.Triple.Clauses.{ensured, lasts}
 use denote.Exit.{yes}
 use Rattle.automata.specs.Lists.{and}
+use Rattle.automata.specs.TapePair.{tapesOf}
 use Rattle.automata.specs.Join.{within}
 use Rattle.memory.specs.declared.pair.Pair.{Pair}
 use Rattle.memory.specs.Pairs.{pairAs, noPair}
@@ -104,7 +107,7 @@ module _ {M : Type 1} (𝓤 : URA M) (H : Heap 𝓤) (A : Atoms 𝓤) (W : Given
 
   -- whether the first i pairs are within
   abbrev fine : ℕ → Bool
-  fine i = within n m (map pairAs (take i ys))
+  fine i = within n m (tapesOf (map pairAs (take i ys)))
 
   -- ---- a call of `pair_or` at place k
   abbrev passed : ℕ → Vals por.signature (κ, tt)
@@ -142,7 +145,7 @@ module _ {M : Type 1} (𝓤 : URA M) (H : Heap 𝓤) (A : Atoms 𝓤) (W : Given
     said-still : (r : Bool) → ent 𝓤 (ensured 𝓤 H A still.ended (still.clauses 𝓤 H A mem run) tt (f, (p, (n, (m, tt)))) tt r) (fact 𝓤 (r ≡ and f (one n m p)))
     said-still r = exE 𝓤 _ (λ ws. snd∗ 𝓤 (sem 𝓤 H A (lasts still.ended tt (f, (p, (n, (m, tt)))) ws)) (fact 𝓤 (r ≡ and f (one n m p))))
 
-  exits : (r : Bool) → r ≡ within n m (map pairAs ys) → ent 𝓤 (⋆ 𝓤 H A ((‵ (flft κ q) ⊛ ‵ ftrue) ∷ ‵ Own ∷ [])) (Post (vbool r))
+  exits : (r : Bool) → r ≡ within n m (tapesOf (map pairAs ys)) → ent 𝓤 (⋆ 𝓤 H A ((‵ (flft κ q) ⊛ ‵ ftrue) ∷ ‵ Own ∷ [])) (Post (vbool r))
   exits r e =
       qed W ((‵ (flft κ q) ⊛ ‵ ftrue) ∷ ‵ Own ∷ []) ∵
       suffices ! _ (ends-at 𝓤 H A fun.ended stayed (fun.clauses 𝓤 H A mem run) W (((κ, tt), (q, tt), tt, (s, (n, (m, tt))), vals), tt) (vbool r) r (tt, (tt, (tt, tt))) (tt, (tt, (tt, tt)))) $ says ! e $
@@ -164,7 +167,8 @@ module _ {M : Type 1} (𝓤 : URA M) (H : Heap 𝓤) (A : Atoms 𝓤) (W : Given
       abbrev En : Env 𝓤 H
       En = (tyBool, l₀) ∷ (slice, l₁) ∷ (tyInt w64, l₂) ∷ (tyInt w64, l₃) ∷ (tyInt w64, l₄) ∷ (tyBool, l₅) ∷ (T′.mir, l₆) ∷ (tyInt w64, l₇) ∷ (tyBool, l₈) ∷ []
 
-      -- what is had at the loop's head: [the token; what pairs owns; room for _8; …; _7; …; _6; …; _5; …; _4; …; _3; …; _2; …; _1; …; room for _0; …]
+      -- what is had at the loop's head: [the token; what pairs owns; room for _8; …; _7; …; _6; …; _5; …; _4; …; _3; …;
+      -- _2; …; _1; …; room for _0; …]
       abbrev At : ℕ → List (Item 𝓤)
       At i = (‵ (flft κ q) ⊛ ‵ ftrue) ∷ ‵ Own ∷ ‵ (froom tyBool l₈ 0) ∷ ‵ (fdies tyBool l₈) ∷ ‵ (froom (tyInt w64) l₇ 0) ∷ ‵ (fdies (tyInt w64) l₇) ∷ ‵ (froom T′.mir l₆ 0) ∷ ‵ (fdies T′.mir l₆)
           ∷ ‵ (fat fullShare tyBool l₅ 0 (vbool (fine i))) ∷ ‵ (fdies tyBool l₅) ∷ ‵ (fat fullShare (tyInt w64) l₄ 0 (vint w64 i)) ∷ ‵ (fdies (tyInt w64) l₄)

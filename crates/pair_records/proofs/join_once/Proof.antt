@@ -1,5 +1,6 @@
 -- `pair_records::join_once` meets its contract. Assumes nothing.
 use Rattle.pair_records.specs.Records.{sidesOnce}
+use Rattle.automata.specs.TapePair.{tapesOf}
 use Rattle.memory.specs.Pairs.{pairsAs}
 use mathlib.Core.Path.{sym, _∙_}
 use Rattle.pair_records.proofs.RecordLaws.{many, few}
@@ -11,13 +12,13 @@ use Rattle.pair_records.proofs.join_once.Lts as lts
 use Rattle.pairs.proofs.sides_once.Reads as sides-once-reads
 
 returns : tie.Need-returns
-returns c = let s = c .before .before in sym (many (s .args .pairs) (sidesOnce (pairsAs (s .args .pairs))) (c .if1 .taken))
+returns c = let s = c .before .before in sym (many (s .args .pairs) (sidesOnce (tapesOf (pairsAs (s .args .pairs)))) (c .if1 .taken))
 
 sides-once-requires : tie.Need-sides-once-requires
 sides-once-requires c κs = search needs
 
 returns-2 : tie.Need-returns-2
-returns-2 c = let s = c .before .before .before in c .sides-once .ensures ∙ sym (few (s .args .pairs) (sidesOnce (pairsAs (s .args .pairs))) (c .before .if1 .left))
+returns-2 c = let s = c .before .before .before in c .sides-once .ensures ∙ sym (few (s .args .pairs) (sidesOnce (tapesOf (pairsAs (s .args .pairs)))) (c .before .if1 .left))
 
 pub join-once-spec : {M : Type 1} → statement M
 join-once-spec = tie.close (tie.spec returns sides-once-requires returns-2)

@@ -1,5 +1,7 @@
--- `pair_records::judge_join_records` meets its contract: a walk of its MIR, by hand. `all_records_within` looks at the whole list, `read_records` gives its first four pairs by value, and `join_settled` settles the tests. All that the proof knows of the three is that they meet their contracts.
--- The slice reference is Copy: what it owns is had twice before each of the first two calls, one copy goes to the callee, beside the lifetime's token, which comes back.
+-- `pair_records::judge_join_records` meets its contract: a walk of its MIR, by hand. `all_records_within` looks at the
+-- whole list, `read_records` gives its first four pairs by value, and `join_settled` settles the tests. All that the
+-- proof knows of the three is that they meet their contracts. The slice reference is Copy: what it owns is had twice
+-- before each of the first two calls, one copy goes to the callee, beside the lifetime's token, which comes back.
 -- Assumes nothing.
 use mathlib.Core.Path.{_≡_, refl}
 use mathlib.Core.Bool.{Bool}
@@ -37,6 +39,7 @@ use denote.Triple.Table.{entered, cited}
 use denote.Triple.Walked.{says, Stays, stay-none-slice, stay-none, walkOf, goes-none-slice, goes-none, Walks, ends-at, walked, walk-meets}
 use denote.Triple.Clauses.{ensured, lasts}
 use denote.Exit.{yes}
+use Rattle.automata.specs.TapePair.{tapesOf}
 use Rattle.automata.specs.Join.{within}
 use Rattle.memory.specs.declared.pair.Pair.{Pair}
 use Rattle.memory.specs.declared.pair.PairList.{PairList}
@@ -67,7 +70,7 @@ use Rattle.pair_records.proofs.judge_join_records.Statement as stated
 use Rattle.pair_records.proofs.judge_join_records.Code as code
 
 abbrev stayed : Stays (fun.ended .signature .params) (fun.ended .kept)
-stayed = (stay-none-slice (0 ∷ []) tt (plain (λ _. T.the-row)) yes, (stay-none (λ _. usize) yes, (stay-none (λ _. usize) yes, (stay-none (λ _. usize) yes, tt))))
+stayed = (stay-none-slice (0 ∷ []) tt (plain (λ _. T.the-row)) yes, (stay-none (λ _. usize) yes, (stay-none (λ _. usize) yes, tt)))
 
 module _ {M : Type 1} (𝓤 : URA M) (H : Heap 𝓤) (A : Atoms 𝓤) (mem : Memory → SProp 𝓤) (run : Routine → Fun 𝓤) where
   -- the contracts that the proof cites
@@ -80,7 +83,7 @@ module _ {M : Type 1} (𝓤 : URA M) (H : Heap 𝓤) (A : Atoms 𝓤) (mem : Mem
   abbrev Settle : Contract 𝓤
   Settle = tripleOf 𝓤 H A set.signature (set.spec 𝓤 H A mem run)
 
-module _ {M : Type 1} (𝓤 : URA M) (H : Heap 𝓤) (A : Atoms 𝓤) (W : Given 𝓤 H A) (mem : Memory → SProp 𝓤) (run : Routine → Fun 𝓤) (κ : Lft) (q : Share) (b o : ℕ) (γ : GName) (ys : List Pair) (n m limit : ℕ) (n-fits : n < 2 ^ 64) (m-fits : m < 2 ^ 64) (limit-fits : limit < 2 ^ 64) where
+module _ {M : Type 1} (𝓤 : URA M) (H : Heap 𝓤) (A : Atoms 𝓤) (W : Given 𝓤 H A) (mem : Memory → SProp 𝓤) (run : Routine → Fun 𝓤) (κ : Lft) (q : Share) (b o : ℕ) (γ : GName) (ys : List Pair) (n m : ℕ) (n-fits : n < 2 ^ 64) (m-fits : m < 2 ^ 64) where
   abbrev s : RefT (List Pair)
   s = record { ptr = (b, o); name = γ; now = ys }
 
@@ -88,13 +91,13 @@ module _ {M : Type 1} (𝓤 : URA M) (H : Heap 𝓤) (A : Atoms 𝓤) (W : Given
   v = sliceVal (b, o) (length ys)
 
   abbrev vals : Vals fun.signature (κ, tt)
-  vals = (v ∷ [], (vint w64 n ∷ [], (vint w64 m ∷ [], (vint w64 limit ∷ [], tt))))
+  vals = (v ∷ [], (vint w64 n ∷ [], (vint w64 m ∷ [], tt)))
 
   abbrev Own : Fml
   Own = ShrSlice (named 0) κ T.the-row .own s (v ∷ [])
 
   abbrev Post : Val → SProp 𝓤
-  Post = walkOf 𝓤 H A fun.ended stayed (fun.clauses 𝓤 H A mem run) .post (((κ, tt), (q, tt), tt, (s, (n, (m, (limit, tt)))), vals), tt)
+  Post = walkOf 𝓤 H A fun.ended stayed (fun.clauses 𝓤 H A mem run) .post (((κ, tt), (q, tt), tt, (s, (n, (m, tt))), vals), tt)
 
   -- ---- the call of `all_records_within`
   abbrev looked : Vals win.signature (κ, tt)
@@ -111,8 +114,8 @@ module _ {M : Type 1} (𝓤 : URA M) (H : Heap 𝓤) (A : Atoms 𝓤) (W : Given
       move ! (1 ∷ 0 ∷ []) $ fjoin ! $ move ! (2 ∷ 0 ∷ []) $ use2 W (raw (Inside 𝓤 H A mem run .pre to-look))
       (qed W ((‵ (flft κ q) ⊛ ‵ ftrue) ∷ ‵ (owns (ShrSlice (named 0) κ T.the-row ∷ usize ∷ usize ∷ []) (s, (n, (m, tt))) looked) ∷ []) ∵ join ! $ frame ! $ done !) $ frame ! $ done !
 
-  said-look : (r : Bool) → ent 𝓤 (ensured 𝓤 H A win.ended (win.clauses 𝓤 H A mem run) (κ, tt) (s, (n, (m, tt))) tt r) (fact 𝓤 (r ≡ within n m (map pairAs ys)))
-  said-look r = exE 𝓤 _ (λ ws. snd∗ 𝓤 (sem 𝓤 H A (lasts win.ended (κ, tt) (s, (n, (m, tt))) ws)) (fact 𝓤 (r ≡ within n m (map pairAs ys))))
+  said-look : (r : Bool) → ent 𝓤 (ensured 𝓤 H A win.ended (win.clauses 𝓤 H A mem run) (κ, tt) (s, (n, (m, tt))) tt r) (fact 𝓤 (r ≡ within n m (tapesOf (map pairAs ys))))
+  said-look r = exE 𝓤 _ (λ ws. snd∗ 𝓤 (sem 𝓤 H A (lasts win.ended (κ, tt) (s, (n, (m, tt))) ws)) (fact 𝓤 (r ≡ within n m (tapesOf (map pairAs ys)))))
 
   -- ---- the call of `read_records`
   abbrev to-read : Read 𝓤 H A mem run .Ghost
@@ -131,71 +134,71 @@ module _ {M : Type 1} (𝓤 : URA M) (H : Heap 𝓤) (A : Atoms 𝓤) (W : Given
   -- ---- the call of `join_settled`, on the pairs l by value and whether all are within
   module _ (l : PairList) (i : Bool) (w u : Val) where
     abbrev given : Vals set.signature tt
-    given = (w ∷ [], (u ∷ [], (vint w64 limit ∷ [], tt)))
+    given = (w ∷ [], (u ∷ [], tt))
 
     abbrev to-settle : Settle 𝓤 H A mem run .Ghost
-    to-settle = ((tt, tt, tt, (l, (i, (limit, tt))), given), tt)
+    to-settle = ((tt, tt, tt, (l, (i, tt)), given), tt)
 
     asked-settle : Is S.the-row l (w ∷ []) → Is bool i (u ∷ []) → ent 𝓤 (emp 𝓤) (Settle 𝓤 H A mem run .pre to-settle)
     asked-settle il ii =
         qed W [] ∵ nothing ! $
-        owned ! usize (Is usize) (uint-makes 𝓤 H A W w64) limit _ (refl, limit-fits) $ fjoin ! $ owned ! bool (Is bool) (bool-makes 𝓤 H A W) i _ ii $ fjoin ! $
+        owned ! bool (Is bool) (bool-makes 𝓤 H A W) i _ ii $ fjoin ! $
         owned ! S.the-row (Is S.the-row) (LL.makes S.the-type S′.the-plain 𝓤 H A) l _ il $ fjoin ! $ nothing ! $ join ! $ frame ! $ done !
 
-    said-settle : (r : PairsJudged) → ent 𝓤 (ensured 𝓤 H A set.ended (set.clauses 𝓤 H A mem run) tt (l, (i, (limit, tt))) tt r) (fact 𝓤 (JoinSettles l i limit r))
-    said-settle r = exE 𝓤 _ (λ ws. snd∗ 𝓤 (sem 𝓤 H A (lasts set.ended tt (l, (i, (limit, tt))) ws)) (fact 𝓤 (JoinSettles l i limit r)))
+    said-settle : (r : PairsJudged) → ent 𝓤 (ensured 𝓤 H A set.ended (set.clauses 𝓤 H A mem run) tt (l, (i, tt)) tt r) (fact 𝓤 (JoinSettles l i r))
+    said-settle r = exE 𝓤 _ (λ ws. snd∗ 𝓤 (sem 𝓤 H A (lasts set.ended tt (l, (i, tt)) ws)) (fact 𝓤 (JoinSettles l i r)))
 
-  exits : (r : PairsJudged) (z : Val) → JoinJudged (map pairAs ys) n m limit r → ent 𝓤 (⋆ 𝓤 H A (‵ (J.the-row .own r (z ∷ [])) ∷ (‵ (flft κ q) ⊛ ‵ ftrue) ∷ ‵ Own ∷ [])) (Post z)
+  exits : (r : PairsJudged) (z : Val) → JoinJudged (map pairAs ys) n m r → ent 𝓤 (⋆ 𝓤 H A (‵ (J.the-row .own r (z ∷ [])) ∷ (‵ (flft κ q) ⊛ ‵ ftrue) ∷ ‵ Own ∷ [])) (Post z)
   exits r z e =
       qed W (‵ (J.the-row .own r (z ∷ [])) ∷ (‵ (flft κ q) ⊛ ‵ ftrue) ∷ ‵ Own ∷ []) ∵
-      suffices ! _ (ends-at 𝓤 H A fun.ended stayed (fun.clauses 𝓤 H A mem run) W (((κ, tt), (q, tt), tt, (s, (n, (m, (limit, tt)))), vals), tt) z r (tt, (tt, (tt, (tt, tt)))) (tt, (tt, (tt, (tt, tt))))) $ says ! e $
-      move ! (1 ∷ []) $ frame ! $ nothing ! $ owned ! usize (Is usize) (uint-makes 𝓤 H A W w64) limit _ (refl, limit-fits) $ fjoin ! $ owned ! usize (Is usize) (uint-makes 𝓤 H A W w64) m _ (refl, m-fits) $ fjoin ! $ owned ! usize (Is usize) (uint-makes 𝓤 H A W w64) n _ (refl, n-fits) $ fjoin ! $
+      suffices ! _ (ends-at 𝓤 H A fun.ended stayed (fun.clauses 𝓤 H A mem run) W (((κ, tt), (q, tt), tt, (s, (n, (m, tt))), vals), tt) z r (tt, (tt, (tt, tt))) (tt, (tt, (tt, tt)))) $ says ! e $
+      move ! (1 ∷ []) $ frame ! $ nothing ! $ owned ! usize (Is usize) (uint-makes 𝓤 H A W w64) m _ (refl, m-fits) $ fjoin ! $ owned ! usize (Is usize) (uint-makes 𝓤 H A W w64) n _ (refl, n-fits) $ fjoin ! $
       move ! (2 ∷ 0 ∷ []) $ fjoin ! $ frame ! $ done !
 
   module _ (C : Calls 𝓤 H) (Λ : Loops 𝓤 H) (fm : FmC 𝓤 H (W .laws) C) (known-look : Triple 𝓤 (C #pair-records·all-records-within) (Inside 𝓤 H A mem run)) (known-read : Triple 𝓤 (C #pair-records·read-records) (Read 𝓤 H A mem run))
       (known-settle : Triple 𝓤 (C #pair-records·join-settled) (Settle 𝓤 H A mem run)) where
-    walk : Room T.the-row (length ys) → ent 𝓤 (onEntry 𝓤 H A fun.signature (κ, tt) (q, tt) (s, (n, (m, (limit, tt)))) vals) (WpFn 𝓤 H C Λ code.function (v ∷ vint w64 n ∷ vint w64 m ∷ vint w64 limit ∷ []) Post)
+    walk : Room T.the-row (length ys) → ent 𝓤 (onEntry 𝓤 H A fun.signature (κ, tt) (q, tt) (s, (n, (m, tt))) vals) (WpFn 𝓤 H C Λ code.function (v ∷ vint w64 n ∷ vint w64 m ∷ []) Post)
     walk gn =
-        qed W ((‵ (flft κ q) ⊛ ‵ ftrue) ∷ ‵ (owns (ShrSlice (named 0) κ T.the-row ∷ usize ∷ usize ∷ usize ∷ []) (s, (n, (m, (limit, tt)))) vals) ∷ []) ∵ enter ! C Λ code.function (v ∷ vint w64 n ∷ vint w64 m ∷ vint w64 limit ∷ []) _ $
-        alloc1 ! (λ l₀. alloc1 ! (λ l₁. alloc1 ! (λ l₂. alloc1 ! (λ l₃. alloc1 ! (λ l₄. alloc1 ! (λ l₅. alloc1 ! (λ l₆. alloc0 ! $ params1 ! $ pass1 ! (init ! 10 refl (tt, (tt, (record { fits = gn .0 }, tt)))) $ pass1 ! (init ! 8 refl (tt, record { fits = n-fits })) $ pass1 ! (init ! 6 refl (tt, record { fits = m-fits })) $ pass1 ! (init ! 4 refl (tt, record { fits = limit-fits })) $ pass0 ! $
-        move ! (15 ∷ []) $ fsplit ! $ move ! (1 ∷ []) $ drop ! $ move ! (15 ∷ 0 ∷ []) $
+        qed W ((‵ (flft κ q) ⊛ ‵ ftrue) ∷ ‵ (owns (ShrSlice (named 0) κ T.the-row ∷ usize ∷ usize ∷ []) (s, (n, (m, tt))) vals) ∷ []) ∵ enter ! C Λ code.function (v ∷ vint w64 n ∷ vint w64 m ∷ []) _ $
+        alloc1 ! (λ l₀. alloc1 ! (λ l₁. alloc1 ! (λ l₂. alloc1 ! (λ l₃. alloc1 ! (λ l₄. alloc1 ! (λ l₅. alloc0 ! $ params1 ! $ pass1 ! (init ! 8 refl (tt, (tt, (record { fits = gn .0 }, tt)))) $ pass1 ! (init ! 6 refl (tt, record { fits = n-fits })) $ pass1 ! (init ! 4 refl (tt, record { fits = m-fits })) $ pass0 ! $
+        move ! (13 ∷ []) $ fsplit ! $ move ! (1 ∷ []) $ drop ! $ move ! (13 ∷ 0 ∷ []) $
         -- [the token; what pairs owns; the locals from the last; …]
         use2 W (raw (Inside 𝓤 H A mem run .pre to-look) ⊛ ‵ Own) asked-look $ split ! $
-        calls-at ! fm (Inside 𝓤 H A mem run) known-look to-look (and-then ! (load ! (from ! (stop !)) (look ! 12 refl)) (and-then ! (load ! (from ! (stop !)) (look ! 10 refl)) (and-then ! (load ! (from ! (stop !)) (look ! 8 refl)) (no-more !)))) (λ u.
+        calls-at ! fm (Inside 𝓤 H A mem run) known-look to-look (and-then ! (load ! (from ! (stop !)) (look ! 10 refl)) (and-then ! (load ! (from ! (stop !)) (look ! 8 refl)) (and-then ! (load ! (from ! (stop !)) (look ! 6 refl)) (no-more !)))) (λ u.
         use1 W (later (some (λ (r : Bool). ((‵ (flft κ q) ⊛ ‵ ftrue) ⊛ ‵ (bool .own r (u ∷ []))) ⊛ raw (ensured 𝓤 H A win.ended (win.clauses 𝓤 H A mem run) (κ, tt) (s, (n, (m, tt))) tt r)))) (id⊢ 𝓤 _) $ await ! tt $ pick ! (λ i.
-        split ! $ move ! (1 ∷ []) $ use1 W (raw (fact 𝓤 (i ≡ within n m (map pairAs ys)))) (said-look i) $ heard ! (i ≡ within n m (map pairAs ys)) (λ e. split ! $ move ! (1 ∷ []) $
+        split ! $ move ! (1 ∷ []) $ use1 W (raw (fact 𝓤 (i ≡ within n m (tapesOf (map pairAs ys))))) (said-look i) $ heard ! (i ≡ within n m (tapesOf (map pairAs ys))) (λ e. split ! $ move ! (1 ∷ []) $
         peeks ! bool (Is bool) (shows 𝓤 H A bool) i (u ∷ []) (λ ii. drop ! $
         land ! (from ! (stop !)) (init ! 4 refl (bool-lawful 𝓤 H A W .typed i _ ii .0)) $
         use2 W (raw (Read 𝓤 H A mem run .pre to-read) ⊛ ‵ Own) asked-read $ split ! $
-        calls-at ! fm (Read 𝓤 H A mem run) known-read to-read (and-then ! (load ! (from ! (stop !)) (look ! 12 refl)) (no-more !)) (λ w.
+        calls-at ! fm (Read 𝓤 H A mem run) known-read to-read (and-then ! (load ! (from ! (stop !)) (look ! 10 refl)) (no-more !)) (λ w.
         use1 W (later (some (λ (r : PairList). ((‵ (flft κ q) ⊛ ‵ ftrue) ⊛ ‵ (S.the-row .own r (w ∷ []))) ⊛ raw (ensured 𝓤 H A rd.ended (rd.clauses 𝓤 H A mem run) (κ, tt) (s, tt) tt r)))) (id⊢ 𝓤 _) $ await ! tt $ pick ! (λ l.
         split ! $ move ! (1 ∷ []) $ use1 W (raw (fact 𝓤 (l ≡ readOf ys))) (said-read l) $ heard ! (l ≡ readOf ys) (λ f. split ! $ move ! (1 ∷ []) $
         peeks ! S.the-row (Is S.the-row) (shows 𝓤 H A S.the-row) l (w ∷ []) (λ il. drop ! $
         land ! (from ! (stop !)) (init ! 2 refl (LL.lawful S.the-type S′.the-laws 𝓤 H A W .typed l _ il .0)) $
         use0 W (raw (Settle 𝓤 H A mem run .pre (to-settle l i w u))) (asked-settle l i w u il ii) $
         -- [what join_settled asks; the token; what pairs owns; the locals from the last; …]
-        calls-at ! fm (Settle 𝓤 H A mem run) known-settle (to-settle l i w u) (and-then ! (load ! (from ! (stop !)) (look ! 3 refl)) (and-then ! (load ! (from ! (stop !)) (look ! 5 refl)) (and-then ! (load ! (from ! (stop !)) (look ! 7 refl)) (no-more !)))) (λ z.
-        use1 W (later (some (λ (r : PairsJudged). (‵ ftrue ⊛ ‵ (J.the-row .own r (z ∷ []))) ⊛ raw (ensured 𝓤 H A set.ended (set.clauses 𝓤 H A mem run) tt (l, (i, (limit, tt))) tt r)))) (id⊢ 𝓤 _) $ await ! tt $ pick ! (λ r.
-        split ! $ move ! (1 ∷ []) $ use1 W (raw (fact 𝓤 (JoinSettles l i limit r))) (said-settle l i w u r) $ heard ! (JoinSettles l i limit r) (λ g. split ! $ drop ! $
+        calls-at ! fm (Settle 𝓤 H A mem run) known-settle (to-settle l i w u) (and-then ! (load ! (from ! (stop !)) (look ! 3 refl)) (and-then ! (load ! (from ! (stop !)) (look ! 5 refl)) (no-more !))) (λ z.
+        use1 W (later (some (λ (r : PairsJudged). (‵ ftrue ⊛ ‵ (J.the-row .own r (z ∷ []))) ⊛ raw (ensured 𝓤 H A set.ended (set.clauses 𝓤 H A mem run) tt (l, (i, tt)) tt r)))) (id⊢ 𝓤 _) $ await ! tt $ pick ! (λ r.
+        split ! $ move ! (1 ∷ []) $ use1 W (raw (fact 𝓤 (JoinSettles l i r))) (said-settle l i w u r) $ heard ! (JoinSettles l i r) (λ g. split ! $ drop ! $
         -- [the result; the token; what pairs owns; the locals from the last; …]
         peeks ! J.the-row (Is J.the-row) (shows 𝓤 H A J.the-row) r (z ∷ []) (λ ir.
-        land ! (from ! (stop !)) (init ! 15 refl (LL.lawful J.the-type J′.the-laws 𝓤 H A W .typed r _ ir .0)) $
-        returns ! (look ! 15 refl) $ forget ! 3 refl $ forget ! 5 refl $ forget ! 7 refl $ forget ! 9 refl $ forget ! 11 refl $ forget ! 13 refl $ forget ! 15 refl $
-        move ! (15 ∷ 16 ∷ []) $ free1 ! $ move ! (13 ∷ 14 ∷ []) $ free1 ! $ move ! (11 ∷ 12 ∷ []) $ free1 ! $ move ! (9 ∷ 10 ∷ []) $ free1 ! $ move ! (7 ∷ 8 ∷ []) $ free1 ! $ move ! (5 ∷ 6 ∷ []) $ free1 ! $ move ! (3 ∷ 4 ∷ []) $ free1 ! $ free0 ! $
-        by ! (exits r z (g ys n m f e)))))))))))))))))))))
+        land ! (from ! (stop !)) (init ! 13 refl (LL.lawful J.the-type J′.the-laws 𝓤 H A W .typed r _ ir .0)) $
+        returns ! (look ! 13 refl) $ forget ! 3 refl $ forget ! 5 refl $ forget ! 7 refl $ forget ! 9 refl $ forget ! 11 refl $ forget ! 13 refl $
+        move ! (13 ∷ 14 ∷ []) $ free1 ! $ move ! (11 ∷ 12 ∷ []) $ free1 ! $ move ! (9 ∷ 10 ∷ []) $ free1 ! $ move ! (7 ∷ 8 ∷ []) $ free1 ! $ move ! (5 ∷ 6 ∷ []) $ free1 ! $ move ! (3 ∷ 4 ∷ []) $ free1 ! $ free0 ! $
+        by ! (exits r z (g ys n m f e))))))))))))))))))))
 
 module _ {M : Type 1} (𝓤 : URA M) (H : Heap 𝓤) (A : Atoms 𝓤) (W : Given 𝓤 H A) (mem : Memory → SProp 𝓤) (run : Routine → Fun 𝓤) where
   walks : (C : Calls 𝓤 H) (Λ : Loops 𝓤 H) → FmC 𝓤 H (W .laws) C → Triple 𝓤 (C #pair-records·all-records-within) (Inside 𝓤 H A mem run) → Triple 𝓤 (C #pair-records·read-records) (Read 𝓤 H A mem run)
       → Triple 𝓤 (C #pair-records·join-settled) (Settle 𝓤 H A mem run) → Walks 𝓤 H A fun.ended stayed (WpFn 𝓤 H C Λ code.function) (fun.clauses 𝓤 H A mem run)
   walks C Λ fm known-look known-read known-settle = walked 𝓤 H A fun.ended stayed (fun.clauses 𝓤 H A mem run) (WpFn 𝓤 H C Λ code.function)
-      (λ κs. (slice-vals, (uint-vals w64, (uint-vals w64, (uint-vals w64, tt))))) (λ κs. (shr-slice-tells (named 0) (κs .0) T.the-row, (uint-tells w64, (uint-tells w64, (uint-tells w64, tt)))))
-      (λ κs qs bounds a g are. via 𝓤 _ (fst∗ 𝓤 _ (emp 𝓤)) (walk 𝓤 H A W mem run (κs .0) (qs .0) (a .0 .ptr .0) (a .0 .ptr .1) (a .0 .name) (a .0 .now) (a .1 .0) (a .1 .1 .0) (a .1 .1 .1 .0) (are .1 .0 .1) (are .1 .1 .0 .1) (are .1 .1 .1 .0 .1) C Λ fm known-look known-read known-settle (are .0 .0 .1)))
+      (λ κs. (slice-vals, (uint-vals w64, (uint-vals w64, tt)))) (λ κs. (shr-slice-tells (named 0) (κs .0) T.the-row, (uint-tells w64, (uint-tells w64, tt))))
+      (λ κs qs bounds a g are. via 𝓤 _ (fst∗ 𝓤 _ (emp 𝓤)) (walk 𝓤 H A W mem run (κs .0) (qs .0) (a .0 .ptr .0) (a .0 .ptr .1) (a .0 .name) (a .0 .now) (a .1 .0) (a .1 .1 .0) (are .1 .0 .1) (are .1 .1 .0 .1) C Λ fm known-look known-read known-settle (are .0 .0 .1)))
 
 meets : {M : Type 1} (𝓤 : URA M) (H : Heap 𝓤) (A : Atoms 𝓤) (W : Given 𝓤 H A) (mem : Memory → SProp 𝓤) (run : Routine → Fun 𝓤) (𝓣 : Tables 𝓤 H)
     → Triple 𝓤 (𝓣 .C #pair-records·all-records-within) (Inside 𝓤 H A mem run) → Triple 𝓤 (𝓣 .C #pair-records·read-records) (Read 𝓤 H A mem run) → Triple 𝓤 (𝓣 .C #pair-records·join-settled) (Settle 𝓤 H A mem run)
     → Meets 𝓤 H A fun.signature (WpFn 𝓤 H (𝓣 .C) (𝓣 .Λ) code.function) (fun.spec 𝓤 H A mem run)
 meets 𝓤 H A W mem run 𝓣 known-look known-read known-settle =
-    walk-meets 𝓤 H A fun.ended stayed W (goes-none-slice 𝓤 H A W 1 (0 ∷ []) tt (plain (λ _. T.the-row)) yes, (goes-none 𝓤 H A W 1 (λ _. usize) yes (λ κs x f. refl), (goes-none 𝓤 H A W 1 (λ _. usize) yes (λ κs x f. refl), (goes-none 𝓤 H A W 1 (λ _. usize) yes (λ κs x f. refl), tt))))
+    walk-meets 𝓤 H A fun.ended stayed W (goes-none-slice 𝓤 H A W 1 (0 ∷ []) tt (plain (λ _. T.the-row)) yes, (goes-none 𝓤 H A W 1 (λ _. usize) yes (λ κs x f. refl), (goes-none 𝓤 H A W 1 (λ _. usize) yes (λ κs x f. refl), tt)))
     (fun.clauses 𝓤 H A mem run) (WpFn 𝓤 H (𝓣 .C) (𝓣 .Λ) code.function) (WpFn-mono 𝓤 H (W .laws) 𝓣 code.function)
     (walks 𝓤 H A W mem run (𝓣 .C) (𝓣 .Λ) (fmOf 𝓤 H (W .laws) 𝓣) known-look known-read known-settle)
 

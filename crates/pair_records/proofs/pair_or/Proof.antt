@@ -1,5 +1,6 @@
--- `pair_records::pair_or` meets its contract: a walk of its MIR, by hand. The place of `pairs[i]` is i times the struct's size past the pointer that the slice reference holds, and the struct is read there.
--- A branch asks whether there is such a place. A pair is Copy: what it owns is had anew from its values.
+-- `pair_records::pair_or` meets its contract: a walk of its MIR, by hand. The place of `pairs[i]` is i times the
+-- struct's size past the pointer that the slice reference holds, and the struct is read there. A branch asks whether
+-- there is such a place. A pair is Copy: what it owns is had anew from its values.
 -- Assumes nothing.
 use mathlib.Core.Path.{_≡_, refl, sym}
 use Prim.Native.Nat.{ℕ, _*_, _<_, _^_}
@@ -82,14 +83,14 @@ module _ {M : Type 1} (𝓤 : URA M) (H : Heap 𝓤) (A : Atoms 𝓤) (W : Given
   En l₀ l₁ l₂ l₃ l₄ l₅ l₆ l₇ = (T′.mir, l₀) ∷ (slice, l₁) ∷ (tyInt w64, l₂) ∷ (tyInt w64, l₃) ∷ (tyBool, l₄) ∷ (tyInt w64, l₅) ∷ (tyPtr, l₆) ∷ (T′.mir, l₇) ∷ []
 
   abbrev rest : Body
-  rest = seq (assign (place 0 []) (aggregate (int w8 0 ∷ int w8 0 ∷ []))) return
+  rest = seq (assign (place 0 []) (aggregate (int w8 0 ∷ int w8 0 ∷ int w8 0 ∷ []))) return
 
   -- past the end
   ends : getD ys i noPair ≡ noPair → ent 𝓤 (⋆ 𝓤 H A ((‵ (flft κ q) ⊛ ‵ ftrue) ∷ ‵ (owns (ShrSlice (named 0) κ T.the-row ∷ usize ∷ []) x at) ∷ [])) (Post (T′.lowered noPair))
   ends e =
       qed W ((‵ (flft κ q) ⊛ ‵ ftrue) ∷ ‵ (owns (ShrSlice (named 0) κ T.the-row ∷ usize ∷ []) x at) ∷ []) ∵
       suffices ! _ (ends-at 𝓤 H A fun.ended stayed (fun.clauses 𝓤 H A mem run) W (((κ, tt), (q, tt), tt, x, at), tt) (T′.lowered noPair) noPair (tt, (tt, tt)) (tt, (tt, tt))) $ says ! (sym e) $
-      frame ! $ frame ! $ owned ! T.the-row (Is T.the-row) (LL.makes T.the-type T′.the-plain 𝓤 H A) noPair _ (LL.owes T.the-type T′.the-laws noPair ((refl, lit< tt), ((refl, lit< tt), tt))) $ done !
+      frame ! $ frame ! $ owned ! T.the-row (Is T.the-row) (LL.makes T.the-type T′.the-plain 𝓤 H A) noPair _ (LL.owes T.the-type T′.the-laws noPair ((refl, lit< tt), ((refl, lit< tt), ((refl, lit< tt), tt)))) $ done !
 
   module _ (C : Calls 𝓤 H) (Λ : Loops 𝓤 H) where
     walk : Room T.the-row (length ys) → i < 2 ^ 64 → ent 𝓤 (onEntry 𝓤 H A fun.signature (κ, tt) (q, tt) x at)
@@ -104,13 +105,14 @@ module _ {M : Type 1} (𝓤 : URA M) (H : Heap 𝓤) (A : Atoms 𝓤) (W : Given
         first ! $ branches ! (load ! (from ! (stop !)) (look ! 6 refl))
         (λ yes.
         let l : i < length ys = ltb→lt i (length ys) yes in
-        let twice : i * 2 < 2 ^ 64 = omega (arith, gn .1) in
-        assigns ! (bin ! (load ! (from ! (stop !)) (look ! 10 refl)) (lit ! tt) (record { fits = twice })) (from ! (stop !)) (init ! 4 refl (tt, record { fits = twice })) $
+        let offset-fits : i * 3 < 2 ^ 64 = omega (arith, gn .1) in
+        assigns ! (bin ! (load ! (from ! (stop !)) (look ! 10 refl)) (lit ! tt) (record { fits = offset-fits })) (from ! (stop !)) (init ! 4 refl (tt, record { fits = offset-fits })) $
         assigns ! (bin ! (load ! (from ! (fld ! refl (stop !))) (look-in ! 12 (sub ! 0 refl (whole !)))) (load ! (from ! (stop !)) (look ! 4 refl)) tt) (from ! (stop !)) (init ! 2 refl (tt, tt)) $
-        rewrite ! 2 (λ (p : ℕ). ‵ (fat fullShare tyPtr l₆ 0 (vptr b p))) (sym (place-is 2 o i)) refl $
+        rewrite ! 2 (λ (p : ℕ). ‵ (fat fullShare tyPtr l₆ 0 (vptr b p))) (sym (place-is 3 o i)) refl $
         move ! (17 ∷ []) $ fsplit ! $ fsplit ! $ move ! (1 ∷ []) $ fsplit ! $ move ! (20 ∷ []) $ split ! $ move ! (3 ∷ 0 ∷ []) $
         looks-slice ! tt T.the-row (Is T.the-row) (shows 𝓤 H A T.the-row) (LL.vals T.the-type T′.the-laws) (LL.tells T.the-type T′.the-laws) (LL.copy T.the-type T′.the-copy 𝓤 H A W) ys b o (λ q′. elem-out ! T.the-row (Is T.the-row) (shows 𝓤 H A T.the-row) (LL.vals T.the-type T′.the-laws) (LL.tells T.the-type T′.the-laws) q′ ys i noPair b o l (λ g.
-        -- [pairs[i]; what it owns; the others; what shuts; the fractured borrow; true; res; pairs's fact; i's; _7; …; _6; …; .. _1; …; _0; …]
+        -- [pairs[i]; what it owns; the others; what shuts; the fractured borrow; true; res; pairs's fact; i's; _7; …;
+        -- _6; …; .. _1; …; _0; …]
         assigns ! (of-opd ! (load ! (from ! (hop ! (look ! 11 refl) (stop !))) (look-raw ! 0 refl))) (from ! (stop !)) (init ! 9 refl (LL.lawful T.the-type T′.the-laws 𝓤 H A W .typed elem _ g .0)) $
         assigns ! (of-opd ! (load ! (from ! (stop !)) (look ! 9 refl))) (from ! (stop !)) (init ! 23 refl (LL.lawful T.the-type T′.the-laws 𝓤 H A W .typed elem _ g .0)) $
         elem-back ! T.the-row q′ ys i noPair (mach ∷ []) b o l $ shuts-slice ! tt T.the-row q′ ys b o $
@@ -118,7 +120,7 @@ module _ {M : Type 1} (𝓤 : URA M) (H : Heap 𝓤) (A : Atoms 𝓤) (W : Given
         move ! (20 ∷ 21 ∷ []) $ free1 ! $ move ! (18 ∷ 19 ∷ []) $ free1 ! $ move ! (16 ∷ 17 ∷ []) $ free1 ! $ move ! (14 ∷ 15 ∷ []) $ free1 ! $ move ! (12 ∷ 13 ∷ []) $ free1 ! $ move ! (10 ∷ 11 ∷ []) $ free1 ! $ move ! (8 ∷ 9 ∷ []) $ free1 ! $ move ! (6 ∷ 7 ∷ []) $ free1 ! $ free0 ! $
         move ! (3 ∷ 1 ∷ []) $ fjoin ! $ move ! (3 ∷ 0 ∷ []) $ fjoin ! $ move ! (3 ∷ []) $ fsplit ! $ keep ! (3 ∷ 2 ∷ 0 ∷ []) $ by ! (exits g))))
         (λ no. skips ! $ exec ! C Λ (En l₀ l₁ l₂ l₃ l₄ l₅ l₆ l₇) rest (atRet (En l₀ l₁ l₂ l₃ l₄ l₅ l₆ l₇) Post) $
-        assigns ! (agg ! (and-then ! (lit ! tt) (and-then ! (lit ! tt) (no-more !)))) (from ! (stop !)) (init ! 14 refl (tt, (record { fits = lit< tt }, (record { fits = lit< tt }, tt)))) $
+        assigns ! (agg ! (and-then ! (lit ! tt) (and-then ! (lit ! tt) (and-then ! (lit ! tt) (no-more !))))) (from ! (stop !)) (init ! 14 refl (tt, (record { fits = lit< tt }, (record { fits = lit< tt }, (record { fits = lit< tt }, tt))))) $
         returns ! (look ! 14 refl) $ forget ! 6 refl $ forget ! 8 refl $ forget ! 10 refl $ forget ! 12 refl $ forget ! 14 refl $
         move ! (14 ∷ 15 ∷ []) $ free1 ! $ move ! (12 ∷ 13 ∷ []) $ free1 ! $ move ! (10 ∷ 11 ∷ []) $ free1 ! $ move ! (8 ∷ 9 ∷ []) $ free1 ! $ move ! (6 ∷ 7 ∷ []) $ free1 ! $ move ! (4 ∷ 5 ∷ []) $ free1 ! $ move ! (2 ∷ 3 ∷ []) $ free1 ! $ free1 ! $ free0 ! $
         by ! (ends (List·getD-eq-default ys noPair (nltb→le i (length ys) no))))))))))))

@@ -26,10 +26,10 @@ refused-requires-3 : tie.Need-refused-requires-3
 refused-requires-3 c κs = search needs
 
 returns-3 : tie.Need-returns-3
-returns-3 c = settled-limit _ _ _ _ _ (not-false _ (c .before .before .before .if1 .left)) (not-false _ (c .before .before .if2 .left)) (c .before .if3 .taken) (c .refused3 .ensures)
+returns-3 c = settled-limit _ _ _ _ _ (not-false _ (c .before .before .before .if1 .left)) (not-false _ (c .before .before .if2 .left)) (not-true _ (c .before .if3 .taken)) (c .refused3 .ensures)
 
 returns-4 : tie.Need-returns-4
-returns-4 c = let s = c .before .before .before in settled-fine _ _ _ _ _ (not-false _ (c .before .before .if1 .left)) (not-false _ (c .before .if2 .left)) (c .if3 .left) refl refl (s .pre (not-false _ (c .before .if2 .left))) (search (needs, length-made))
+returns-4 c = let s = c .before .before .before in settled-fine _ _ _ _ _ (not-false _ (c .before .before .if1 .left)) (not-false _ (c .before .if2 .left)) (not-false _ (c .if3 .left)) refl refl (s .pre (not-false _ (c .before .if2 .left))) (search (needs, length-made))
 
 pub settled-spec : {M : Type 1} → statement M
 settled-spec =

@@ -1,10 +1,10 @@
 -- `pairs::all_within` meets its contract. Assumes nothing.
 use mathlib.Core.Path.{_≡_, refl, sym, _∙_}
 use denote.Ref.{now}
-use denote.Ref.{now}
 use Prim.Native.Nat.{_≤_, _-_}
 use lib.ListN.{length, drop}
 use Rattle.automata.specs.Join.{within}
+use Rattle.automata.specs.TapePair.{tapesOf}
 use Rattle.pairs.specs.PairBytes.{pairsOf}
 use Rattle.pairs.proofs.PairLaws.{within-first, within-second, within-next, within-end}
 use borrow.Author.Tests.{not-true, not-false}
@@ -17,7 +17,7 @@ use Rattle.pairs.proofs.is_tape.Reads as is-tape-reads
 
 -- the pairs that are left say what the whole list says
 abbrev Inv-loop : tie.InvT-loop
-Inv-loop bytes n m at₀ at = (at ≤ length bytes) × (within n m (pairsOf (drop at bytes)) ≡ within n m (pairsOf bytes))
+Inv-loop bytes n m at₀ at = (at ≤ length bytes) × (within n m (tapesOf (pairsOf (drop at bytes))) ≡ within n m (tapesOf (pairsOf bytes)))
 
 abbrev μ-loop : tie.MeasureT-loop
 μ-loop bytes n m at₀ at = length bytes - at

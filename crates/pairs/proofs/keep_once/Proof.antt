@@ -3,7 +3,7 @@ use mathlib.Core.Path.{sym, ap, _∙_}
 use mathlib.Core.Bool.{Bool}
 use mathlib.Core.List.{List}
 use denote.Ref.{now}
-use Rattle.automata.specs.TapePair.{Pair}
+use Rattle.automata.specs.TapePair.{TapePair, tapesOf}
 use Rattle.automata.specs.IntersectCall.{distinct, named}
 use Rattle.pairs.specs.PairBytes.{pairsOf}
 use Rattle.pairs.proofs.TestLaws.{many, few}
@@ -16,8 +16,8 @@ use Rattle.pairs.proofs.named_once.Reads as named-once-reads
 use Rattle.pairs.proofs.read_pairs.Reads as read-pairs-reads
 
 -- no tape is named twice
-abbrev once : List Pair → Bool
-once ps = distinct (named ps)
+abbrev once : List TapePair → Bool
+once ps = distinct (named (tapesOf ps))
 
 returns : tie.Need-returns
 returns c = let s = c .before .before in sym (many (now (s .args .bytes)) (once (pairsOf (now (s .args .bytes)))) (c .if1 .taken))

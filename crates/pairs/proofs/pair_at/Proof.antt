@@ -15,8 +15,22 @@ add-byte-at c = search needs
 byte-at-requires-2 : tie.Need-byte-at-requires-2
 byte-at-requires-2 c κs = search needs
 
+add-byte-at-2 : tie.Need-add-byte-at-2
+add-byte-at-2 c = search needs
+
+byte-at-requires-3 : tie.Need-byte-at-requires-3
+byte-at-requires-3 c κs = search needs
+
 returns : tie.Need-returns
-returns c = λ i. record { first = c .before .byte-at .ensures i; second = c .byte-at2 .ensures i }
+returns c = λ i. record { first = c .before .before .byte-at .ensures i; second = c .before .byte-at2 .ensures i; limit = c .byte-at3 .ensures i }
 
 pub pair-at-spec : {M : Type 1} → statement M
-pair-at-spec = tie.close (tie.spec byte-at-requires add-byte-at byte-at-requires-2 returns)
+pair-at-spec =
+    tie.close
+    (tie.spec
+    byte-at-requires
+    add-byte-at
+    byte-at-requires-2
+    add-byte-at-2
+    byte-at-requires-3
+    returns)

@@ -14,8 +14,14 @@ pair-at-requires c κs = search needs
 pair-at-requires-2 : tie.Need-pair-at-requires-2
 pair-at-requires-2 c κs = search needs
 
+mul-pair-at : tie.Need-mul-pair-at
+mul-pair-at c = search needs
+
 pair-at-requires-3 : tie.Need-pair-at-requires-3
 pair-at-requires-3 c κs = search needs
+
+mul-pair-at-2 : tie.Need-mul-pair-at-2
+mul-pair-at-2 c = search needs
 
 pair-at-requires-4 : tie.Need-pair-at-requires-4
 pair-at-requires-4 c κs = search needs
@@ -26,4 +32,4 @@ returns c = let s = c .before .before .before .before .before in (read-list _ _ 
 pub read-pairs-spec : {M : Type 1} → statement M
 read-pairs-spec =
     tie.close
-    (tie.spec pair-at-requires pair-at-requires-2 pair-at-requires-3 pair-at-requires-4 returns)
+    (tie.spec pair-at-requires pair-at-requires-2 mul-pair-at pair-at-requires-3 mul-pair-at-2 pair-at-requires-4 returns)

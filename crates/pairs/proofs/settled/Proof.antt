@@ -28,13 +28,18 @@ refused-requires-3 : tie.Need-refused-requires-3
 refused-requires-3 c κs = search needs
 
 returns-3 : tie.Need-returns-3
-returns-3 c = settled-limit _ _ _ _ _ (not-false _ (c .before .before .before .if1 .left)) (not-false _ (c .before .before .if2 .left)) (c .before .if3 .taken) (c .refused3 .ensures)
+returns-3 c = settled-limit _ _ _ _ _ (not-false _ (c .before .before .before .if1 .left)) (not-false _ (c .before .before .if2 .left)) (not-true _ (c .before .if3 .taken)) (c .refused3 .ensures)
 
 read-pairs-requires : tie.Need-read-pairs-requires
 read-pairs-requires c κs = let s = c .before .before .before .before in s .pre (not-false _ (c .before .if2 .left))
 
 returns-4 : tie.Need-returns-4
-returns-4 c = let s = c .before .before .before .before .before in let few = s .pre (not-false _ (c .before .before .if2 .left)) in let u = c .read-pairs .ensures .1 in settled-fine _ _ _ _ _ (not-false _ (c .before .before .before .if1 .left)) (not-false _ (c .before .before .if2 .left)) (c .before .if3 .left) refl (c .read-pairs .ensures .0) (omega (arith, few, u)) (search (needs, length-made))
+returns-4 c =
+    let s = c .before .before .before .before .before in
+    let few = s .pre (not-false _ (c .before .before .if2 .left)) in
+    let u = c .read-pairs .ensures .1 in
+    settled-fine _ _ _ _ _ (not-false _ (c .before .before .before .if1 .left)) (not-false _ (c .before .before .if2 .left)) (not-false _ (c .before .if3 .left)) refl
+    (c .read-pairs .ensures .0) (omega (arith, few, u)) (search (needs, length-made))
 
 pub settled-spec : {M : Type 1} → statement M
 settled-spec =

@@ -1,12 +1,11 @@
 -- `configuration::config::too_long` meets its contract. Assumes nothing.
 use Prim.Native.Nat.{_≤_, _-_}
-use mathlib.Core.Bool.{true, false}
 use mathlib.Core.Path.{_≡_, refl, sym, _∙_}
 use native.Mathlib.Omega.{arith}
 use denote.Ref.{now}
-use lib.ListN.{take, drop}
+use lib.ListN.{take}
 use Rattle.configuration.specs.Configs.{configAt}
-use Rattle.configuration.proofs.TestLaws.{anyLonger, tells-long, longer-found, longer-next, longer-none}
+use Rattle.configuration.proofs.TestLaws.{longFrom, long-all, long-found, long-next, long-none}
 use Rattle.configuration.proofs.RowLaws.{len-in-slot}
 use borrow.Author.Needs.{needs}
 use Rattle.configuration.proofs.config.too_long.Statement.{statement}
@@ -15,13 +14,21 @@ use Rattle.configuration.proofs.config.too_long.Reads as reads
 use Rattle.configuration.proofs.config.too_long.Lts as lts
 
 abbrev Inv-loop : tie.InvT-loop
-Inv-loop row used limit i₀ i = (i ≤ used) × (anyLonger limit (drop i (take used (configAt 0 row .leftovers))) ≡ anyLonger limit (take used (configAt 0 row .leftovers)))
+Inv-loop row pairs i₀ i =
+    let ls = configAt 0 row .leftovers in
+    (i ≤ pairs .used) × (longFrom i (take (pairs .used) (pairs .pairs)) (take (pairs .used) ls) ≡ longFrom 0 (take (pairs .used) (pairs .pairs)) (take (pairs .used) ls))
 
 abbrev μ-loop : tie.MeasureT-loop
-μ-loop row used limit i₀ i = used - i
+μ-loop row pairs i₀ i = pairs .used - i
 
 loop-holds : tie.Need-loop-holds Inv-loop μ-loop
 loop-holds c = (search needs, refl)
+
+mul-p : tie.Need-mul-p Inv-loop μ-loop
+mul-p c = search needs
+
+element-copy-out-p : tie.Need-element-copy-out-p Inv-loop μ-loop
+element-copy-out-p c = search needs
 
 mul-if1 : tie.Need-mul-if1 Inv-loop μ-loop
 mul-if1 c = search needs
@@ -34,10 +41,10 @@ shared-slice-read-if1 c = search needs
 
 returns : tie.Need-returns Inv-loop μ-loop
 returns c =
-    let s = c .before .before .before .before in
-    let l = c .before .before .before .loop in
-    tells-long _ _ _ (s .pre .0) (s .pre .1) true
-    (sym (longer-found _ _ _ (s .pre .0) (s .pre .1) _ (c .before .before .loop-test .taken) (rw (len-in-slot (l .i) (now (s .args .row)) (omega (arith, s .pre .1))) at (c .if1 .taken))) ∙ l .inv .1)
+    let s = c .before .before .before .before .before .before in
+    let l = c .before .before .before .before .before .loop in
+    let e = len-in-slot (l .i) (now (s .args .row)) (omega (arith, s .pre .1)) in
+    sym (long-found _ _ (s .pre .0) (s .pre .1) (s .pre .2) _ (c .before .before .before .before .loop-test .taken) (rw e at (c .if1 .taken))) ∙ l .inv .1 ∙ long-all _ _ (s .pre .0) (s .pre .1)
 
 add-i : tie.Need-add-i Inv-loop μ-loop
 add-i c = search needs
@@ -47,14 +54,15 @@ loop-less c = search needs
 
 loop-again : tie.Need-loop-again Inv-loop μ-loop
 loop-again c =
-    let s = c .before .before .before .before in
-    let l = c .before .before .before .loop in (
-      search needs,
-      sym (longer-next _ _ _ (s .pre .0) (s .pre .1) _ (c .before .before .loop-test .taken) (rw (len-in-slot (l .i) (now (s .args .row)) (omega (arith, s .pre .1))) at (c .if1 .left))) ∙ l .inv .1,
-    )
+    let s = c .before .before .before .before .before .before in
+    let l = c .before .before .before .before .before .loop in
+    let e = len-in-slot (l .i) (now (s .args .row)) (omega (arith, s .pre .1)) in
+    (search needs, sym (long-next _ _ (s .pre .0) (s .pre .1) (s .pre .2) _ (c .before .before .before .before .loop-test .taken) (rw e at (c .if1 .left))) ∙ l .inv .1)
 
 returns-2 : tie.Need-returns-2 Inv-loop μ-loop
-returns-2 c = let s = c .before .before in tells-long _ _ _ (s .pre .0) (s .pre .1) false (sym (longer-none _ _ _ (s .pre .0) (s .pre .1) _ (c .loop-test .left)) ∙ c .before .loop .inv .1)
+returns-2 c =
+    let s = c .before .before in
+    sym (long-none _ _ (s .pre .0) (s .pre .1) _ (c .loop-test .left)) ∙ c .before .loop .inv .1 ∙ long-all _ _ (s .pre .0) (s .pre .1)
 
 pub too-long-spec : {M : Type 1} → statement M
 too-long-spec =
@@ -63,6 +71,8 @@ too-long-spec =
     Inv-loop
     μ-loop
     loop-holds
+    mul-p
+    element-copy-out-p
     mul-if1
     add-if1
     shared-slice-read-if1

@@ -4,6 +4,7 @@ use mathlib.Core.Path.{_≡_, refl, sym, _∙_}
 use mathlib.Core.List.{map}
 use native.Mathlib.Omega.{arith}
 use lib.ListN.{length, take, length-map, length-set}
+use Rattle.automata.specs.TapePair.{tapesOf}
 use Rattle.automata.specs.Memory.{tableOf}
 use Rattle.automata.specs.ForecastCall.{forecastOf}
 use Rattle.memory.specs.Answers.{lent}
@@ -21,7 +22,7 @@ use Rattle.forecast_records.proofs.no_forecasts.Reads as no-forecasts-reads
 
 abbrev Inv-loop : tie.InvT-loop
 Inv-loop counts states arcs order found work₀ used list forecasts₀ h₀ work forecasts h =
-    (h ≤ used) × (length forecasts ≡ 4) × (map forecastAs (take h forecasts) ≡ map (forecastOf (tableOf (lent counts states arcs))) (map pairAs (take h list)))
+    (h ≤ used) × (length forecasts ≡ 4) × (map forecastAs (take h forecasts) ≡ map (forecastOf (tableOf (lent counts states arcs))) (tapesOf (map pairAs (take h list))))
     × Marked (lent counts states arcs) work × (length work ≡ length work₀)
 
 abbrev μ-loop : tie.MeasureT-loop

@@ -1,6 +1,4 @@
 -- `intersect::call::build` meets its contract. Assumes nothing.
-use mathlib.Core.Path.{refl}
-use native.Mathlib.Omega.{arith}
 use denote.Ref.{now}
 use Rattle.memory.specs.Answers.{lent}
 use Rattle.intersect.proofs.SearchLaws.{explorable}
@@ -22,22 +20,17 @@ enum-known-judged c = search needs
 enum-told : tie.Need-enum-told
 enum-told c = search needs
 
-cast-t21 : tie.Need-cast-t21
-cast-t21 c =
-    let s = c .before .before .before .before .before .before .before .before .before .before in
-    omega (arith, c .before .before .before .before .prepare .ensures (s .pre .pairs) (s .args .limit) (s .pre .judged) .limit-fits (c .before .before .enum-told .given .1))
-
 reach-requires : tie.Need-reach-requires
 reach-requires c κs =
     let s = c .before .before .before .before .before .before .before .before .before .before .before .before .before in
-    let p = c .before .before .before .before .before .before .before .prepare .ensures (s .pre .pairs) (s .args .limit) (s .pre .judged) in
+    let p = c .before .before .before .before .before .before .before .prepare .ensures (s .pre .pairs) (s .pre .judged) in
     let e = c .before .before .before .before .before .enum-told .given .1 in
-    (explorable _ _ _ _ _ _ _ _ _ p e, p .divides e)
+    (explorable _ _ _ _ _ _ _ _ p e, p .divides e)
 
 returns : tie.Need-returns
 returns c =
     let s = c .before .before .before .before .before .before .before .before .before in
-    λ ps k. call-refused (lent (s .args .counts) (now (s .args .states)) (now (s .args .arcs))) ps _ (now (s .args .out-states)) (now (s .args .out-arcs)) (now (s .args .work)) _ (c .before .before .before .prepare .ensures ps (s .args .limit) k) _ (c .before .judged .given .1)
+    λ ps k. call-refused (lent (s .args .counts) (now (s .args .states)) (now (s .args .arcs))) ps (now (s .args .out-states)) (now (s .args .out-arcs)) (now (s .args .work)) _ (c .before .before .before .prepare .ensures ps k) _ (c .before .judged .given .1)
 
 same-length : tie.Need-same-length
 same-length c = search needs
@@ -51,7 +44,7 @@ same-length-3 c = search needs
 returns-2 : tie.Need-returns-2
 returns-2 c =
     let s = c .before .before .before .before .before .before .before .before .before .before .before .before .before .before .before .before .before .before .before .before in
-    λ ps k. call-settled (lent (s .args .counts) (now (s .args .states)) (now (s .args .arcs))) ps _ (now (s .args .out-states)) (now (s .args .out-arcs)) (now (s .args .work)) _ (c .before .before .before .before .before .before .before .before .before .before .before .before .before .before .prepare .ensures ps (s .args .limit) k) _ refl (c .before .before .before .before .before .before .before .before .before .before .before .before .enum-told .given .1) _ _ _ (c .before .before .before .before .before .before .reach .ensures)
+    λ ps k. call-settled (lent (s .args .counts) (now (s .args .states)) (now (s .args .arcs))) ps (now (s .args .out-states)) (now (s .args .out-arcs)) (now (s .args .work)) _ (c .before .before .before .before .before .before .before .before .before .before .before .before .before .before .prepare .ensures ps k) (c .before .before .before .before .before .before .before .before .before .before .before .before .enum-told .given .1) _ _ _ (c .before .before .before .before .before .before .reach .ensures)
 
 pub build-spec : {M : Type 1} → statement M
 build-spec =
@@ -60,7 +53,6 @@ build-spec =
     prepare-requires
     enum-known-judged
     enum-told
-    cast-t21
     reach-requires
     returns
     same-length

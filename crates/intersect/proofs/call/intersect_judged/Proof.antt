@@ -25,7 +25,7 @@ same-length-3 c = search needs
 
 returns : tie.Need-returns
 returns c =
-    λ ps k. call-cleared _ ps _ _ _ _ _ _ _ _ (c .before .before .before .before .before .before .before .before .before .before .build .ensures ps k) (c .before .before .before .before .before .before .before .before .before .before .build .kept .1 .1 .1 .1 .1 .1 .1 .0) (c .before .before .zero .ensures)
+    λ ps k. call-cleared _ ps _ _ _ _ _ _ _ (c .before .before .before .before .before .before .before .before .before .before .build .ensures ps k) (c .before .before .before .before .before .before .before .before .before .before .build .kept .1 .1 .1 .1 .1 .1 .0) (c .before .before .zero .ensures)
 
 pub intersect-judged-spec : {M : Type 1} → statement M
 intersect-judged-spec =

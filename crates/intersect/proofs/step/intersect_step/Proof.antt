@@ -13,13 +13,10 @@ use Rattle.workspace.proofs.room.room_for.Reads as room-for-reads
 room-for-requires : tie.Need-room-for-requires
 room-for-requires c κs = search needs
 
-cast-t17 : tie.Need-cast-t17
-cast-t17 c = search needs
-
 reach-requires : tie.Need-reach-requires
 reach-requires c κs =
     let s = c .before .before .before .before .before .before .before .before .before .before in
-    step-ready _ _ _ _ _ _ _ _ (s .pre) _ (c .before .before .before .before .room-for .ensures)
+    step-ready _ _ _ _ _ _ _ (s .pre) _ (c .before .before .before .before .room-for .ensures)
 
 same-length : tie.Need-same-length
 same-length c = search needs
@@ -33,14 +30,13 @@ same-length-3 c = search needs
 returns : tie.Need-returns
 returns c =
     let s = c .before .before .before .before .before .before .before .before .before .before .before .before .before .before .before .before .before in
-    step-settled (lent (s .args .counts) (now (s .args .states)) (now (s .args .arcs))) (s .pre .sound) _ _ _ _ _ _ (c .before .before .before .before .before .before .reach .ensures)
+    step-settled (lent (s .args .counts) (now (s .args .states)) (now (s .args .arcs))) (s .pre .sound) _ _ _ _ _ (c .before .before .before .before .before .before .reach .ensures)
 
 pub intersect-step-spec : {M : Type 1} → statement M
 intersect-step-spec =
     tie.close
     (tie.spec
     room-for-requires
-    cast-t17
     reach-requires
     same-length
     same-length-2

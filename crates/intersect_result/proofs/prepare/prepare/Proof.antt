@@ -23,7 +23,7 @@ in-turn-requires c κs = search needs
 returns : tie.Need-returns
 returns c =
     let s = c .before .before .before .before .before .before .before in
-    λ ps D k. prepared (lent (s .args .counts) (now (s .args .states)) (now (s .args .arcs))) ps D _ _ _ (c .before .before .before .before .judge .result) _ _ _ (c .before .before .before .before .judge .ensures) k (c .before .before .before .room-for .ensures) (c .in-turn .ensures)
+    λ ps k. prepared (lent (s .args .counts) (now (s .args .states)) (now (s .args .arcs))) ps _ _ _ (c .before .before .before .before .judge .result) _ _ _ (c .before .before .before .before .judge .ensures) k (c .before .before .before .room-for .ensures) (c .in-turn .ensures)
 
 pub prepare-spec : {M : Type 1} → statement M
 prepare-spec = tie.close (tie.spec judge-requires room-for-requires in-turn-requires returns)

@@ -30,7 +30,7 @@ in-turn-requires c κs = search needs
 returns : tie.Need-returns
 returns c =
     let s = c .before .before .before .before .before .before .before .before .before in
-    λ ps D k. prepared (lent (s .args .first) (now (s .args .first-states)) (now (s .args .first-arcs))) (lent (s .args .second) (now (s .args .second-states)) (now (s .args .second-arcs))) ps D _ _ _ (c .before .before .before .before .judge .result) (c .before .before .before .judge2 .result) _ _ _ _ (c .before .before .before .before .judge .ensures) (c .before .before .before .judge2 .ensures) (c .before .before .width-fits .ensures) k (c .before .work-enough .ensures) (c .in-turn .ensures)
+    λ ps k. prepared (lent (s .args .first) (now (s .args .first-states)) (now (s .args .first-arcs))) (lent (s .args .second) (now (s .args .second-states)) (now (s .args .second-arcs))) ps _ _ _ (c .before .before .before .before .judge .result) (c .before .before .before .judge2 .result) _ _ _ _ (c .before .before .before .before .judge .ensures) (c .before .before .before .judge2 .ensures) (c .before .before .width-fits .ensures) k (c .before .work-enough .ensures) (c .in-turn .ensures)
 
 pub judge-join-spec : {M : Type 1} → statement M
 judge-join-spec =

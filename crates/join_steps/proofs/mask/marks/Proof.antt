@@ -1,6 +1,7 @@
 -- `join_steps::mask::marks` meets its contract. Assumes nothing.
 use native.Mathlib.Omega.{arith}
 use Rattle.automata.specs.Tapes.{seconds}
+use Rattle.automata.specs.TapePair.{tapesOf}
 use Rattle.memory.specs.Pairs.{pairsAs}
 use Rattle.join_steps.proofs.MaskLaws.{four-bits}
 use borrow.Author.Needs.{needs}
@@ -56,7 +57,7 @@ returns c =
     let n = c .before .before .mark2 .ensures in
     let o = c .before .mark3 .ensures in
     let p = c .mark4 .ensures in
-    (four-bits (seconds (pairsAs (s .args .pairs))) _ _ _ _ _ (m .0) (n .0) (o .0) (p .0), omega (arith, m .1, n .1, o .1, p .1))
+    (four-bits (seconds (tapesOf (pairsAs (s .args .pairs)))) _ _ _ _ _ (m .0) (n .0) (o .0) (p .0), omega (arith, m .1, n .1, o .1, p .1))
 
 pub marks-spec : {M : Type 1} → statement M
 marks-spec =

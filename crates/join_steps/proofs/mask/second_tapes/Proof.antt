@@ -1,5 +1,6 @@
 -- `join_steps::mask::second_tapes` meets its contract. Assumes nothing.
 use Rattle.automata.specs.Tapes.{seconds}
+use Rattle.automata.specs.TapePair.{tapesOf}
 use Rattle.memory.specs.Pairs.{pairsAs}
 use Rattle.join_steps.proofs.MaskLaws.{eight-bits}
 use borrow.Author.Needs.{needs}
@@ -22,7 +23,7 @@ add-result : tie.Need-add-result
 add-result c = search needs
 
 returns : tie.Need-returns
-returns c = eight-bits (seconds (pairsAs (c .before .before .args .pairs))) _ _ (c .before .marks .ensures .0) (c .marks2 .ensures .0)
+returns c = eight-bits (seconds (tapesOf (pairsAs (c .before .before .args .pairs)))) _ _ (c .before .marks .ensures .0) (c .marks2 .ensures .0)
 
 pub second-tapes-spec : {M : Type 1} → statement M
 second-tapes-spec =

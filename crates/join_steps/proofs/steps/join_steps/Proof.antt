@@ -18,7 +18,7 @@ use Rattle.product.proofs.call.product_step.Reads as product-step-reads
 use Rattle.pairs.proofs.moved_pairs.Reads as moved-pairs-reads
 
 product-step-requires : tie.Need-product-step-requires
-product-step-requires c κs = product-ready _ _ _ _ _ _ _ _ _ (c .before .before .before .before .before .before .before .before .before .before .before .before .pre)
+product-step-requires c κs = product-ready _ _ _ _ _ _ _ _ (c .before .before .before .before .before .before .before .before .before .before .before .before .pre)
 
 enum-known-answer : tie.Need-enum-known-answer
 enum-known-answer c = search needs
@@ -38,7 +38,7 @@ same-length-3 c = search needs
 returns : tie.Need-returns
 returns c =
     let s = c .before .before .before .before .before .before .before .before .before .before .before .before .before .before .before .before .before .before .before .before .before in
-    product-refused (lent (s .args .first) (now (s .args .first-states)) (now (s .args .first-arcs))) (lent (s .args .second) (now (s .args .second-states)) (now (s .args .second-arcs))) (s .args .pairs) (s .args .limit) (slicesOf (now (s .args .product-states)) (now (s .args .product-arcs))) (slicesOf (now (s .args .out-states)) (now (s .args .out-arcs))) _ _ _ _ (c .enum-told .given .1) (c .before .before .before .before .before .before .before .before .product-step .ensures)
+    product-refused (lent (s .args .first) (now (s .args .first-states)) (now (s .args .first-arcs))) (lent (s .args .second) (now (s .args .second-states)) (now (s .args .second-arcs))) (s .args .pairs) (slicesOf (now (s .args .product-states)) (now (s .args .product-arcs))) (slicesOf (now (s .args .out-states)) (now (s .args .out-arcs))) _ _ _ _ (c .enum-told .given .1) (c .before .before .before .before .before .before .before .before .product-step .ensures)
 
 moved-pairs-requires : tie.Need-moved-pairs-requires
 moved-pairs-requires c κs = let s = c .before .before .before .before .before .before .before .before .before .before .before .before .before .before .before .before .before .before .before .before .before .before in movable _ _ _ (s .pre .sided) (omega (arith, s .pre .narrow))
@@ -52,7 +52,7 @@ four-pairs c = search (needs, length-made)
 keep-firsts-requires : tie.Need-keep-firsts-requires
 keep-firsts-requires c κs =
     let s = c .before .before .before .before .before .before .before .before .before .before .before .before .before .before .before .before .before .before .before .before .before .before .before .before .before .before .before .before in
-    product-keepable (lent (s .args .first) (now (s .args .first-states)) (now (s .args .first-arcs))) (lent (s .args .second) (now (s .args .second-states)) (now (s .args .second-arcs))) _ _ (slicesOf (now (s .args .product-states)) (now (s .args .product-arcs))) (slicesOf (now (s .args .out-states)) (now (s .args .out-arcs))) _ _ (s .pre) (c .before .before .before .before .before .before .before .before .before .before .before .before .before .before .before .product-step .kept .1 .1 .1 .1 .1 .1 .1 .1 .0) _ _ _ _ _ (c .before .before .before .before .before .before .before .answer .given .1) (c .before .before .before .before .before .before .before .before .before .before .before .before .before .before .before .product-step .ensures) (c .before .before .before .before .before .moved-pairs .ensures) (four-pairs (c .before .before .before .before .before))
+    product-keepable (lent (s .args .first) (now (s .args .first-states)) (now (s .args .first-arcs))) (lent (s .args .second) (now (s .args .second-states)) (now (s .args .second-arcs))) _ (slicesOf (now (s .args .product-states)) (now (s .args .product-arcs))) (slicesOf (now (s .args .out-states)) (now (s .args .out-arcs))) _ _ (s .pre) (c .before .before .before .before .before .before .before .before .before .before .before .before .before .before .before .product-step .kept .1 .1 .1 .1 .1 .1 .1 .1 .0) _ _ _ _ _ (c .before .before .before .before .before .before .before .answer .given .1) (c .before .before .before .before .before .before .before .before .before .before .before .before .before .before .before .product-step .ensures) (c .before .before .before .before .before .moved-pairs .ensures) (four-pairs (c .before .before .before .before .before))
 
 same-length-4 : tie.Need-same-length-4
 same-length-4 c = search needs
@@ -72,7 +72,7 @@ same-length-8 c = search needs
 returns-2 : tie.Need-returns-2
 returns-2 c =
     let s = c .before .before .before .before .before .before .before .before .before .before .before .before .before .before .before .before .before .before .before .before .before .before .before .before .before .before .before .before .before .before .before .before .before .before .before in
-    product-given (lent (s .args .first) (now (s .args .first-states)) (now (s .args .first-arcs))) (lent (s .args .second) (now (s .args .second-states)) (now (s .args .second-arcs))) _ _ (slicesOf (now (s .args .product-states)) (now (s .args .product-arcs))) (slicesOf (now (s .args .out-states)) (now (s .args .out-arcs))) (s .pre .first) _ _ _ _ _ _ (c .before .before .before .before .before .before .before .before .before .before .before .before .before .before .answer .given .1) (c .before .before .before .before .before .before .before .before .before .before .before .before .before .before .before .before .before .before .before .before .before .before .product-step .ensures) (c .before .before .before .before .before .before .before .before .before .before .before .before .moved-pairs .ensures) (c .before .before .before .before .before .before .keep-firsts .ensures)
+    product-given (lent (s .args .first) (now (s .args .first-states)) (now (s .args .first-arcs))) (lent (s .args .second) (now (s .args .second-states)) (now (s .args .second-arcs))) _ (slicesOf (now (s .args .product-states)) (now (s .args .product-arcs))) (slicesOf (now (s .args .out-states)) (now (s .args .out-arcs))) (s .pre .first) _ _ _ _ _ _ (c .before .before .before .before .before .before .before .before .before .before .before .before .before .before .answer .given .1) (c .before .before .before .before .before .before .before .before .before .before .before .before .before .before .before .before .before .before .before .before .before .before .product-step .ensures) (c .before .before .before .before .before .before .before .before .before .before .before .before .moved-pairs .ensures) (c .before .before .before .before .before .before .keep-firsts .ensures)
 
 pub join-steps-spec : {M : Type 1} → statement M
 join-steps-spec =

@@ -64,7 +64,7 @@ too-long-requires : tie.Need-too-long-requires
 too-long-requires c κs =
     let s = c .before .before .before .before .before .before .before .before .before .before .before .before .before .before .before .before .before in
     let v = viable-fits _ _ _ _ _ (s .pre .0) _ (c .before .before .before .before .before .before .before .before .before .before .before .before .get16 .ensures) ((c .before .before .before .before .before .before .before .before .before .before .if1 .left) ∙ state-read _ _ (c .before .before .before .before .before .before .before .before .before .before .before .get162 .ensures)) _ (c .before .before .before .before .before .before .before .follow .ensures .step) (c .before .before .before .before .if2 .left) in
-    (v .1, v .0, row-length _ _ (v .1) (c .before .before .before .before .before .before .before .follow .ensures .bytes))
+    (v .1, v .0, s .pre .0 .explorable .four-pairs, row-length _ _ (v .1) (c .before .before .before .before .before .before .before .follow .ensures .bytes))
 
 same-length-3 : tie.Need-same-length-3
 same-length-3 c = search needs
