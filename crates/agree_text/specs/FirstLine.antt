@@ -1,4 +1,4 @@
--- The first line of an input, as it is told: the limit, the bytes of the pairs, and where the table begins.
+-- The first line of an input, as it is told: the bytes of the pairs, and where the table begins.
 use mathlib.Core.Path.{_≡_}
 use mathlib.Core.List.{List}
 use Prim.Native.Nat.{ℕ, _*_, _≤_}
@@ -10,14 +10,14 @@ use Rattle.pair_line.specs.declared.line.PairLine.{PairLine}
 use Rattle.pair_line.specs.declared.line.PairLine.the-variants as line
 use Rattle.pair_line.specs.PairBytes.{pairBytes}
 
--- the limit, the bytes of the pairs and the rest of the input, as they are told, or the refusal
-abbrev pub lineAs : List ℕ → List ℕ → PairLine → Answer ((ℕ × List ℕ) × List ℕ)
-lineAs input bytes (line.Line p) = ok ((p .limit, take (2 * p .count) bytes), drop (p .next) input)
+-- the bytes of the pairs and the rest of the input, as they are told, or the refusal
+abbrev pub lineAs : List ℕ → List ℕ → PairLine → Answer (List ℕ × List ℕ)
+lineAs input bytes (line.Line p) = ok (take (3 * p .count) bytes, drop (p .next) input)
 lineAs input bytes (line.Refused k) = refused (refusalNumber k)
 
 -- the same, of the pairs that are read
-unfoldable pub lineBytes : List ℕ → Answer ((ℕ × List ℕ) × List ℕ)
-lineBytes input = readPairs input >>= λ p. ok ((p .0 .0, pairBytes (p .0 .1)), p .1)
+unfoldable pub lineBytes : List ℕ → Answer (List ℕ × List ℕ)
+lineBytes input = readPairs input >>= λ p. ok (pairBytes (p .0), p .1)
 
 -- how many pairs are told, and where the table begins; 0 where the line is refused
 abbrev pub countOf : PairLine → ℕ
@@ -32,5 +32,5 @@ nextOf (line.Refused k) = 0
 pub record FirstLine (input bytes : List ℕ) (r : PairLine) : Type 0 where
   pub answer : lineAs input bytes r ≡ lineBytes input
   pub count-fits : countOf r ≤ 999
-  pub bytes-fit : 2 * countOf r ≤ length bytes
+  pub bytes-fit : 3 * countOf r ≤ length bytes
   pub next-fits : nextOf r ≤ length input

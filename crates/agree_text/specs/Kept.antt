@@ -5,7 +5,7 @@ use Prim.Native.Nat.{ℕ}
 use Rattle.automata.specs.Answer.{_>>=_, Answer}
 use Rattle.automata.specs.Space.{Space}
 use Rattle.automata.specs.Automaton.{Automaton}
-use Rattle.automata.specs.TapePair.{Pair}
+use Rattle.automata.specs.TapePair.{TapePair}
 use Rattle.automata.specs.Memory.{Memory, decodeTable}
 use Rattle.automata.specs.TableText.{readTable}
 use Rattle.automata.specs.IntersectCall.{intersectCall}
@@ -16,9 +16,9 @@ abbrev pub room : Space
 room = record { states = stateSpace; arcs = arcSpace }
 
 -- what is kept of a table in memory
-unfoldable pub keptOf : Memory → List Pair → ℕ → Answer (Automaton ℕ)
-keptOf m ps D = decodeTable m >>= λ A. intersectCall D true room ps A
+unfoldable pub keptOf : Memory → List TapePair → Answer (Automaton ℕ)
+keptOf m ps = decodeTable m >>= λ A. intersectCall true room ps A
 
 -- what is kept of the table that a text describes
-unfoldable pub keptText : List ℕ → List Pair → ℕ → Answer (Automaton ℕ)
-keptText text ps D = readTable stateSpace arcSpace text >>= λ A. intersectCall D true room ps A
+unfoldable pub keptText : List ℕ → List TapePair → Answer (Automaton ℕ)
+keptText text ps = readTable stateSpace arcSpace text >>= λ A. intersectCall true room ps A

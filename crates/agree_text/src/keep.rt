@@ -28,16 +28,9 @@ pub fn print_table(counts: Counts, states: &[u8], arcs: &[u8], output: &mut [u8]
 }
 
 // The text of what is kept of a table in the space that the program lends.
-fn keep_table(
-    counts: Counts,
-    states: &[u8],
-    arcs: &[u8],
-    pairs: &[u8],
-    limit: usize,
-    output: &mut [u8],
-) -> usize
+fn keep_table(counts: Counts, states: &[u8], arcs: &[u8], pairs: &[u8], output: &mut [u8]) -> usize
     requires { ⌜ (length (now states) ≤ 640) × (50000 ≤ length (now output)) ⌝ }
-    ensures { λ n. ⌜ Wrote (writeOutput (keptOf (lent counts (now (states .entry)) (now (arcs .entry))) (pairsOf (now (pairs .entry))) limit)) (now (output .entry)) (now (output .exit)) n ⌝ }
+    ensures { λ n. ⌜ Wrote (writeOutput (keptOf (lent counts (now (states .entry)) (now (arcs .entry))) (pairsOf (now (pairs .entry))))) (now (output .entry)) (now (output .exit)) n ⌝ }
 {
     let mut kept_states = [0u8; 640];
     let mut kept_arcs = [0u8; 40960];
@@ -47,7 +40,6 @@ fn keep_table(
         states,
         arcs,
         pairs,
-        limit,
         &mut kept_states,
         &mut kept_arcs,
         &mut work,
@@ -59,15 +51,15 @@ fn keep_table(
 }
 
 // The text of what is kept of the table that a text describes.
-pub fn keep_text(text: &[u8], pairs: &[u8], limit: usize, output: &mut [u8]) -> usize
+pub fn keep_text(text: &[u8], pairs: &[u8], output: &mut [u8]) -> usize
     requires { ⌜ 50000 ≤ length (now output) ⌝ }
-    ensures { λ n. ⌜ Wrote (writeOutput (keptText (now (text .entry)) (pairsOf (now (pairs .entry))) limit)) (now (output .entry)) (now (output .exit)) n ⌝ }
+    ensures { λ n. ⌜ Wrote (writeOutput (keptText (now (text .entry)) (pairsOf (now (pairs .entry))))) (now (output .entry)) (now (output .exit)) n ⌝ }
 {
     let mut states = [0u8; 640];
     let mut arcs = [0u8; 40960];
     let table = read(text, &mut states, &mut arcs);
     match table {
-        TableAnswer::Table(c) => keep_table(c, &states, &arcs, pairs, limit, output),
+        TableAnswer::Table(c) => keep_table(c, &states, &arcs, pairs, output),
         TableAnswer::Refused(k) => write_refusal(output, k),
     }
 }

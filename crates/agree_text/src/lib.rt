@@ -5,6 +5,7 @@ use crate::keep::keep_text;
 use memory::answer::Refusal;
 use memory::answer::refusal_number;
 use memory::bytes::copy_into;
+use memory::pair::PAIR;
 use pair_line::line::PairLine;
 use pair_line::line::read_line;
 use pair_line::pair::store_pairs;
@@ -18,8 +19,8 @@ ghost use Rattle.memory.specs.Answers.{refusalNumber};
 ghost use Rattle.agree_text.specs.FirstLine.{FirstLine};
 ghost use Rattle.agree_text.specs.Wrote.{Wrote};
 
-// The first line of the input: the delay limit and where the line ends, and the pairs of tapes, two bytes a pair.
-pub fn read_pair_line(input: &[u8], pairs: &mut [u8; 1998]) -> PairLine
+// The first line of the input: where it ends, and the pairs of tapes with their limits, three bytes a pair.
+pub fn read_pair_line(input: &[u8], pairs: &mut [u8; 2997]) -> PairLine
     ensures { λ r. ⌜ FirstLine (now (input .entry)) (now (pairs .exit)) r ⌝ }
 {
     let line = read_line(input);
@@ -27,7 +28,7 @@ pub fn read_pair_line(input: &[u8], pairs: &mut [u8; 1998]) -> PairLine
         return line;
     };
     let next = p.next;
-    store_pairs(&input[6..next], p.count, pairs);
+    store_pairs(&input[3..next], p.count, pairs);
     line
 }
 
@@ -47,14 +48,14 @@ pub fn write_refusal(output: &mut [u8], r: Refusal) -> usize
 pub fn agree_text(input: &[u8], output: &mut [u8; 50000]) -> usize
     ensures { λ r. ⌜ Wrote (agree (now (input .entry))) (now (output .entry)) (now (output .exit)) r ⌝ }
 {
-    let mut pairs = [0u8; 1998];
+    let mut pairs = [0u8; 2997];
     let line = read_pair_line(input, &mut pairs);
     match line {
         PairLine::Refused(k) => write_refusal(output, k),
         PairLine::Line(p) => {
             let next = p.next;
-            let used = 2 * p.count;
-            keep_text(&input[next..], &pairs[..used], p.limit, output)
+            let used = PAIR * p.count;
+            keep_text(&input[next..], &pairs[..used], output)
         }
     }
 }

@@ -1,11 +1,10 @@
-// The first line of the input of `agree`: the number of pairs, the delay limit, the pairs.
+// The first line of the input of `agree`: the number of pairs, then for each its two tapes and its limit.
+use crate::pair::PAIR_COLUMNS;
 use crate::pair::judge_pairs;
 use memory::answer::Judged;
 use memory::answer::Refusal;
 use memory::answer::both;
 use text_columns::decimal::Number;
-use text_columns::decimal::judge_number;
-use text_columns::decimal::number_of;
 use text_columns::decimal::read_decimal;
 use text_columns::label::line_end;
 ghost use mathlib.Core.Path.{_≡_};
@@ -16,10 +15,9 @@ ghost use Rattle.memory.specs.Answers.{judgedAs};
 ghost use Rattle.text_columns.specs.Columns.{numberAs};
 ghost use Rattle.pair_line.specs.LineParts.{countRead, lineRead, restRead, partsRead, partsAs};
 
-// The number of pairs, the delay limit, and the place behind the line.
+// The number of pairs and the place behind the line.
 pub struct LineParts {
     pub count: usize,
-    pub limit: usize,
     pub next: usize,
 }
 
@@ -36,42 +34,35 @@ fn count_pairs(input: &[u8]) -> Number
     if 65536 < input.len() {
         return Number::Refused(Refusal::Size);
     }
-    if input.len() < 7 {
+    if input.len() < 4 {
         return Number::Refused(Refusal::Short);
     }
     read_decimal(&input[0..3])
 }
 
-// The line behind the number of pairs: the limit, the pairs, the end of the line.
+// The line behind the number of pairs: the pairs, the end of the line.
 fn judge_line(line: &[u8], count: usize) -> Judged
-    requires { ⌜ (count < 1000) × (length (now line) ≡ 4 + count * 6) ⌝ }
+    requires { ⌜ (count < 1000) × (length (now line) ≡ 1 + count * 9) ⌝ }
     ensures { λ r. ⌜ judgedAs r ≡ forget (lineRead count (now (line .entry))) ⌝ }
 {
-    let limit = read_decimal(&line[0..3]);
-    let end = 3 + count * 6;
-    let pairs = judge_pairs(&line[3..end], count);
-    let columns = both(judge_number(limit), pairs);
-    both(columns, line_end(line[end]))
+    let end = count * PAIR_COLUMNS;
+    let pairs = judge_pairs(&line[0..end], count);
+    both(pairs, line_end(line[end]))
 }
 
 // The rest of a line of so many pairs.
 fn read_rest(input: &[u8], count: usize) -> PairLine
-    requires { ⌜ (count < 1000) × (7 ≤ length (now input)) ⌝ }
+    requires { ⌜ (count < 1000) × (4 ≤ length (now input)) ⌝ }
     ensures { λ r. ⌜ partsAs r ≡ restRead count (now (input .entry)) ⌝ }
 {
-    let next = 7 + count * 6;
+    let next = 4 + count * PAIR_COLUMNS;
     if input.len() < next {
         return PairLine::Refused(Refusal::Short);
     }
-    let limit = read_decimal(&input[3..6]);
     let judged = judge_line(&input[3..next], count);
     match judged {
         Judged::Refused(k) => PairLine::Refused(k),
-        Judged::Fine => PairLine::Line(LineParts {
-            count,
-            limit: number_of(limit),
-            next,
-        }),
+        Judged::Fine => PairLine::Line(LineParts { count, next }),
     }
 }
 

@@ -51,7 +51,7 @@ returns : tie.Need-returns
 returns c = let s = c .before .before .before .before .before .before .before .before .before .before .before .before .before .before .before .before .before .before .before .before in
     let i = c .before .before .before .before .before .before .before .before .before .before .before .before .intersect in
     let m = lent (s .args .counts) (now (s .args .states)) (now (s .args .arcs)) in
-    wrote-as _ _ _ _ _ (ap writeOutput (kept-table m (s .pre .0) (pairsOf (now (s .args .pairs))) (s .args .limit) lentSlices lentWork room-lent work-lent (i .result) _ _ _ (i .ensures) _ (c .before .before .before .before .before .before .before .kept .given .1))) (c .before .before .print-table .ensures)
+    wrote-as _ _ _ _ _ (ap writeOutput (kept-table m (s .pre .0) (pairsOf (now (s .args .pairs))) lentSlices lentWork room-lent work-lent (i .result) _ _ _ (i .ensures) _ (c .before .before .before .before .before .before .before .kept .given .1))) (c .before .before .print-table .ensures)
 
 same-length-2 : tie.Need-same-length-2
 same-length-2 c = search needs
@@ -60,7 +60,7 @@ returns-2 : tie.Need-returns-2
 returns-2 c = let s = c .before .before .before .before .before .before .before .before .before .before .before .before .before .before .before .before .before .before in
     let i = c .before .before .before .before .before .before .before .before .before .before .intersect in
     let m = lent (s .args .counts) (now (s .args .states)) (now (s .args .arcs)) in
-    wrote-as _ _ _ _ _ (ap writeOutput (kept-refused m (s .pre .0) (pairsOf (now (s .args .pairs))) (s .args .limit) lentSlices lentWork room-lent work-lent (i .result) _ _ _ (i .ensures) _ (c .before .before .before .before .before .kept2 .given .1))) (c .before .before .write-refusal .ensures)
+    wrote-as _ _ _ _ _ (ap writeOutput (kept-refused m (s .pre .0) (pairsOf (now (s .args .pairs))) lentSlices lentWork room-lent work-lent (i .result) _ _ _ (i .ensures) _ (c .before .before .before .before .before .kept2 .given .1))) (c .before .before .write-refusal .ensures)
 
 pub keep-table-spec : {M : Type 1} → statement M
 keep-table-spec =

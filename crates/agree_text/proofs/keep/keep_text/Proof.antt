@@ -46,7 +46,7 @@ same-length c = search needs
 returns : tie.Need-returns
 returns c = let s = c .before .before .before .before .before .before .before .before .before .before .before .before .before .before .before .before .before in
     let rd = c .before .before .before .before .before .before .before .before .before .before .before .read in
-    wrote-as _ _ _ _ _ (ap writeOutput (text-table (now (s .args .text)) lentSlices room-lent (rd .result) _ _ (rd .ensures) (pairsOf (now (s .args .pairs))) (s .args .limit) _ (c .before .before .before .before .before .before .before .table .given .1))) (c .before .before .keep-table .ensures)
+    wrote-as _ _ _ _ _ (ap writeOutput (text-table (now (s .args .text)) lentSlices room-lent (rd .result) _ _ (rd .ensures) (pairsOf (now (s .args .pairs))) _ (c .before .before .before .before .before .before .before .table .given .1))) (c .before .before .keep-table .ensures)
 
 same-length-2 : tie.Need-same-length-2
 same-length-2 c = search needs
@@ -54,7 +54,7 @@ same-length-2 c = search needs
 returns-2 : tie.Need-returns-2
 returns-2 c = let s = c .before .before .before .before .before .before .before .before .before .before .before .before .before .before .before in
     let rd = c .before .before .before .before .before .before .before .before .before .read in
-    wrote-as _ _ _ _ _ (ap writeOutput (text-refused (now (s .args .text)) lentSlices room-lent (rd .result) _ _ (rd .ensures) (pairsOf (now (s .args .pairs))) (s .args .limit) _ (c .before .before .before .before .before .table2 .given .1))) (c .before .before .write-refusal .ensures)
+    wrote-as _ _ _ _ _ (ap writeOutput (text-refused (now (s .args .text)) lentSlices room-lent (rd .result) _ _ (rd .ensures) (pairsOf (now (s .args .pairs))) _ (c .before .before .before .before .before .table2 .given .1))) (c .before .before .write-refusal .ensures)
 
 pub keep-text-spec : {M : Type 1} → statement M
 keep-text-spec =

@@ -5,9 +5,9 @@ use Rattle.pair_line.proofs.pair.judge_pair.Statement.{statement}
 use Rattle.pair_line.proofs.pair.judge_pair.Tie as tie
 use Rattle.pair_line.proofs.pair.judge_pair.Reads as reads
 use Rattle.pair_line.proofs.pair.judge_pair.Lts as lts
+use Rattle.memory.proofs.answer.both.Reads as both-reads
 use Rattle.text_columns.proofs.decimal.judge_number.Reads as judge-number-reads
 use Rattle.text_columns.proofs.decimal.read_decimal.Reads as read-decimal-reads
-use Rattle.memory.proofs.answer.both.Reads as both-reads
 
 sub-read-decimal : tie.Need-sub-read-decimal
 sub-read-decimal c = search needs
@@ -33,6 +33,18 @@ part-read-decimal-end-2 c = search needs
 read-decimal-requires-2 : tie.Need-read-decimal-requires-2
 read-decimal-requires-2 c κs = search needs
 
+sub-read-decimal-3 : tie.Need-sub-read-decimal-3
+sub-read-decimal-3 c = search needs
+
+part-read-decimal-start-3 : tie.Need-part-read-decimal-start-3
+part-read-decimal-start-3 c = search needs
+
+part-read-decimal-end-3 : tie.Need-part-read-decimal-end-3
+part-read-decimal-end-3 c = search needs
+
+read-decimal-requires-3 : tie.Need-read-decimal-requires-3
+read-decimal-requires-3 c κs = search needs
+
 judge-number-requires : tie.Need-judge-number-requires
 judge-number-requires c κs = search needs
 
@@ -42,8 +54,19 @@ judge-number-requires-2 c κs = search needs
 both-requires : tie.Need-both-requires
 both-requires c κs = search needs
 
+judge-number-requires-3 : tie.Need-judge-number-requires-3
+judge-number-requires-3 c κs = search needs
+
+both-requires-2 : tie.Need-both-requires-2
+both-requires-2 c κs = search needs
+
 returns : tie.Need-returns
-returns c = let s = c .before .before .before .before .before .before .before .before in pair-judged _ (s .pre) (c .before .before .before .before .before .read-decimal .result) (c .before .before .before .read-decimal2 .result) (c .before .before .judge-number .result) (c .before .judge-number2 .result) (c .both .result) (c .before .before .before .before .before .read-decimal .ensures) (c .before .before .before .read-decimal2 .ensures) (c .before .before .judge-number .ensures) (c .before .judge-number2 .ensures) (c .both .ensures)
+returns c = let b = c .before .before in
+    let n = b .before in
+    let l = n .before .before in
+    let s = l .before .before in
+    let f = s .before .before in
+    pair-judged _ (f .before .before .before .pre) (f .read-decimal .result) (s .read-decimal2 .result) (l .read-decimal3 .result) (c .before .judge-number3 .result) (n .before .judge-number .result) (n .judge-number2 .result) (b .both .result) (c .both2 .result) (f .read-decimal .ensures) (s .read-decimal2 .ensures) (l .read-decimal3 .ensures) (c .before .judge-number3 .ensures) (n .before .judge-number .ensures) (n .judge-number2 .ensures) (b .both .ensures) (c .both2 .ensures)
 
 pub judge-pair-spec : {M : Type 1} → statement M
 judge-pair-spec =
@@ -57,7 +80,13 @@ judge-pair-spec =
     part-read-decimal-start-2
     part-read-decimal-end-2
     read-decimal-requires-2
+    sub-read-decimal-3
+    part-read-decimal-start-3
+    part-read-decimal-end-3
+    read-decimal-requires-3
     judge-number-requires
     judge-number-requires-2
     both-requires
+    judge-number-requires-3
+    both-requires-2
     returns)

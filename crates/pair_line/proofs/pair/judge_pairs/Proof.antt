@@ -16,7 +16,7 @@ use Rattle.pair_line.proofs.pair.judge_pair.Reads as judge-pair-reads
 use Rattle.memory.proofs.answer.both.Reads as both-reads
 
 abbrev Inv-loop : tie.InvT-loop
-Inv-loop columns count judged₀ left₀ at₀ judged left at = (at + left * 6 ≡ length columns) × (forget (beside (judgedAs judged) (pairsRead left (drop at columns))) ≡ forget (pairsRead count columns))
+Inv-loop columns count judged₀ left₀ at₀ judged left at = (at + left * 9 ≡ length columns) × (forget (beside (judgedAs judged) (pairsRead left (drop at columns))) ≡ forget (pairsRead count columns))
 
 abbrev μ-loop : tie.MeasureT-loop
 μ-loop columns count judged₀ left₀ at₀ judged left at = left
