@@ -24,7 +24,7 @@
  *   - Work space, and the product space of a join, are zero afterwards, refused or not.
  *   - Space for a result is counted in whole records; more than 1,024 states and 8,192 arcs are never used.
  *   - The numbers of result states and the order of result arcs are fixed: the same call gives the same bytes, also
- *     with more space or a higher limit. docs/C-API.md says which order.
+ *     with more space or higher limits. docs/C-API.md says which order.
  */
 #ifndef TOMCHOEN_H
 #define TOMCHOEN_H
@@ -44,10 +44,10 @@ enum tomchoen_refusal {
     TOMCHOEN_STATE = 4,        /* an arc names a state that the table lacks */
     TOMCHOEN_TAPE = 5,         /* a tape that is not there, no tape chosen or left, unequal tape or string counts */
     TOMCHOEN_PAIRS = 6,        /* more than four pairs, or a tape named twice */
-    TOMCHOEN_LIMIT = 7,        /* a delay limit above 64 */
+    TOMCHOEN_LIMIT = 7,        /* a pair's limit above 64 */
     TOMCHOEN_STATES_FULL = 8,  /* more states than the space lent or 1,024 */
     TOMCHOEN_ARCS_FULL = 9,    /* more arcs than the space lent or 8,192 */
-    TOMCHOEN_DELAY = 10,       /* a step that is needed leaves more than the delay limit */
+    TOMCHOEN_DELAY = 10,       /* a step that is needed leaves more than its pair's limit */
     TOMCHOEN_WEIGHT = 11,      /* a summed weight above 999,999,999 in a product */
     TOMCHOEN_WIDTH = 12,       /* more than eight tapes */
     TOMCHOEN_SPACE = 13,       /* work, output or, of a forecast or a path, result space shorter than needed */
@@ -69,6 +69,9 @@ enum tomchoen_refusal {
 /* Bytes of so many records. */
 #define TOMCHOEN_STATE_BYTES(states) ((size_t)10 * (states))
 #define TOMCHOEN_ARC_BYTES(arcs) ((size_t)80 * (arcs))
+
+/* Bytes of so many pairs: first tape, second tape, both counted from 1, and the pair's delay limit, 0 to 64. */
+#define TOMCHOEN_PAIR_BYTES(pairs) ((size_t)3 * (pairs))
 
 /* Bytes of the forecasts of so many pairs. */
 #define TOMCHOEN_FORECAST_BYTES(pairs) ((size_t)6 * (pairs))
@@ -128,21 +131,22 @@ uint64_t tomchoen_write(size_t tapes, size_t states, size_t arcs,
                         const uint8_t *state_bytes, size_t state_bytes_length, const uint8_t *arc_bytes, size_t arc_bytes_length,
                         uint8_t *output, size_t output_length);
 
-/* Keeps the accounts that agree on pairs of tapes, two bytes a pair (first tape, second tape, counted from 1), with
- * one delay limit (0 to 64). A last byte of pairs alone is no pair and does not count. Refusals: 1 to 4 of the
- * table, 5, 6, 7, 13, 8, 9, 10. Tells the counts. */
+/* Keeps the accounts that agree on pairs of tapes, three bytes a pair: first tape, second tape, limit. The limit is the
+ * most symbols that one tape of the pair may be ahead of the other, each pair held to its own. One or two last bytes
+ * alone are no pair and do not count. Refusals: 1 to 4 of the table, then of the whole list 5, 6, 7 (without pairs
+ * there is no 7), then 13, 8, 9, 10. Tells the counts. */
 uint64_t tomchoen_build(size_t tapes, size_t states, size_t arcs,
                         const uint8_t *state_bytes, size_t state_bytes_length, const uint8_t *arc_bytes, size_t arc_bytes_length,
-                        const uint8_t *pairs, size_t pairs_length, size_t limit,
+                        const uint8_t *pairs, size_t pairs_length,
                         uint8_t *out_states, size_t out_states_length, uint8_t *out_arcs, size_t out_arcs_length,
                         uint8_t *work, size_t work_length);
 
-/* Tells what a build on each pair of tapes can need, without a build. Pairs are lent as to tomchoen_build; no limit is
- * read. The result gets a record of 6 bytes for each pair, in list order: three numbers of two bytes, low byte first
- * (what it tells, the delay, the number of states). The delay is (states on successful paths less one, or 0) x the
- * greatest delay of an arc on them, also above 64; the number is all states x (1 + 2(s + s^2 + .. + s^delay)), s the
- * symbols on the pair's two tapes on any arc. Refusals: 1 to 4 of the table, 5, 6, 13 (also where the result is shorter
- * than the records of all pairs). Tells the number of bytes written. */
+/* Tells what a build on each pair of tapes can need, without a build. Pairs are lent as to tomchoen_build, three bytes
+ * a pair, and their limits are not read. The result gets a record of 6 bytes for each pair, in list order: three
+ * numbers of two bytes, low byte first (what it tells, the delay, the number of states). The delay is (states on
+ * successful paths less one, or 0) x the greatest delay of an arc on them, also above 64; the number is all states x
+ * (1 + 2(s + s^2 + .. + s^delay)), s the symbols on the pair's two tapes on any arc. Refusals: 1 to 4 of the table, 5,
+ * 6, 13 (also where the result is shorter than the records of all pairs). Tells the number of bytes written. */
 uint64_t tomchoen_forecast(size_t tapes, size_t states, size_t arcs,
                            const uint8_t *state_bytes, size_t state_bytes_length, const uint8_t *arc_bytes, size_t arc_bytes_length,
                            const uint8_t *pairs, size_t pairs_length,
@@ -159,16 +163,16 @@ uint64_t tomchoen_product(size_t first_tapes, size_t first_states, size_t first_
                           uint8_t *work, size_t work_length);
 
 /* Joins two tables on pairs (a tape of the first, a tape of the second): their product, what agrees of it, without
- * the second tapes. Pairs are lent as to tomchoen_build; a last byte alone is no pair. The product stands in product
- * space of its own. Refusals: 1 to 4 of the first table, then of the second, 12, 5, 6, 7, 13, then 8, 9, 11 of the
- * product in its space, then 8, 9, 10 of the result in its space. Tells the counts. */
+ * the second tapes. Pairs are lent as to tomchoen_build, three bytes a pair, each with its own limit. The product
+ * stands in product space of its own. Refusals: 1 to 4 of the first table, then of the second, 12, 5, 6, 7, 13, then 8,
+ * 9, 11 of the product in its space, then 8, 9, 10 of the result in its space. Tells the counts. */
 uint64_t tomchoen_join(size_t first_tapes, size_t first_states, size_t first_arcs,
                        const uint8_t *first_state_bytes, size_t first_state_bytes_length,
                        const uint8_t *first_arc_bytes, size_t first_arc_bytes_length,
                        size_t second_tapes, size_t second_states, size_t second_arcs,
                        const uint8_t *second_state_bytes, size_t second_state_bytes_length,
                        const uint8_t *second_arc_bytes, size_t second_arc_bytes_length,
-                       const uint8_t *pairs, size_t pairs_length, size_t limit,
+                       const uint8_t *pairs, size_t pairs_length,
                        uint8_t *product_states, size_t product_states_length, uint8_t *product_arcs, size_t product_arcs_length,
                        uint8_t *out_states, size_t out_states_length, uint8_t *out_arcs, size_t out_arcs_length,
                        uint8_t *work, size_t work_length);

@@ -1,6 +1,6 @@
 /*
- * Lends by the forecast: asks for each pair of tapes what a build on it can need, lends that space, and builds.
- * It prints the forecasts, what was lent, and the table built.
+ * Lends by the forecast: asks for each pair of tapes what a build on it can need, lends that space, and builds with the
+ * delay of each pair as its limit. It prints the forecasts, what was lent, and the table built.
  *
  *   lend TABLE FIRST SECOND [FIRST SECOND ..]
  *
@@ -14,15 +14,15 @@
 
 enum { STATES = 1024, ARCS = 8192, LIMIT = 64, PAIRS = 8, TEXT = 1 << 20 };
 
-/* What is lent for a build. */
+/* What is lent for a build, and whether each pair has a delay that can be lent as its limit. */
 struct space {
     uint64_t states, arcs;
-    size_t limit;
+    int limits_fit;
 };
 
 static size_t tapes, states, arcs;
 static uint8_t text[TEXT], state_bytes[TOMCHOEN_STATE_BYTES(STATES)], arc_bytes[TOMCHOEN_ARC_BYTES(ARCS)];
-static uint8_t pairs[2 * PAIRS], records[TOMCHOEN_FORECAST_BYTES(PAIRS)];
+static uint8_t pairs[TOMCHOEN_PAIR_BYTES(PAIRS)], records[TOMCHOEN_FORECAST_BYTES(PAIRS)];
 
 /* Ends the program with a message. */
 static void stop(const char *reason, const char *what) {
@@ -58,16 +58,17 @@ static void read_table(const char *path) {
     arcs = TOMCHOEN_ARCS(answer);
 }
 
-/* Reads the pairs from the command line; how many bytes they take. */
+/* Reads the tapes of the pairs from the command line, each limit 0; how many bytes they take. */
 static size_t read_pairs(int count, char **words) {
     if (count < 2 || count % 2 != 0 || count > 2 * PAIRS) stop("usage: lend TABLE FIRST SECOND [FIRST SECOND ..]", "");
-    for (int i = 0; i < count; i++) {
+    size_t tapes_named = (size_t)count;
+    for (size_t i = 0; i < tapes_named; i++) {
         char *end;
         unsigned long tape = strtoul(words[i], &end, 10);
         if (*words[i] < '0' || *words[i] > '9' || *end != '\0' || tape > 255) stop("no tape: ", words[i]);
-        pairs[i] = (uint8_t)tape;
+        pairs[TOMCHOEN_PAIR_BYTES(i / 2) + i % 2] = (uint8_t)tape;
     }
-    return (size_t)count;
+    return TOMCHOEN_PAIR_BYTES(tapes_named / 2);
 }
 
 /* Asks for the forecasts; how many pairs they tell of. */
@@ -81,15 +82,16 @@ static size_t forecast(size_t pair_bytes) {
     return TOMCHOEN_LENGTH(answer) / TOMCHOEN_FORECAST_BYTES(1);
 }
 
-/* Prints the forecast of a pair and adds it to what is lent: the configurations are at most the states times the leftovers
- * of all pairs, and each has at most the arcs of its state. */
+/* Prints the forecast of a pair, takes its delay as the pair's limit, and adds it to what is lent: the configurations
+ * are at most the states times the leftovers of all pairs, and each has at most the arcs of its state. */
 static struct space with_pair(struct space space, size_t k) {
+    uint8_t *pair = pairs + TOMCHOEN_PAIR_BYTES(k);
     unsigned delay = TOMCHOEN_DELAY_OF(records, k), number = TOMCHOEN_NUMBER_OF(records, k);
-    printf("pair %u %u: ", pairs[2 * k], pairs[2 * k + 1]);
+    printf("pair %u %u: ", pair[0], pair[1]);
     switch (TOMCHOEN_FORECAST(records, k)) {
     case TOMCHOEN_FORECAST_MIXED:
         printf("mixed\n");
-        space.limit = LIMIT + 1;
+        space.limits_fit = 0;
         return space;
     case TOMCHOEN_FORECAST_OVER:
         printf("delay %u, over\n", delay);
@@ -103,7 +105,8 @@ static struct space with_pair(struct space space, size_t k) {
     }
     if (space.states > STATES) space.states = STATES;
     if (space.arcs > ARCS) space.arcs = ARCS;
-    if (delay > space.limit) space.limit = delay;
+    if (delay > LIMIT) space.limits_fit = 0;
+    else pair[2] = (uint8_t)delay;
     return space;
 }
 
@@ -122,10 +125,11 @@ static void build(struct space space, size_t pair_bytes) {
     size_t state_space = TOMCHOEN_STATE_BYTES(space.states), arc_space = TOMCHOEN_ARC_BYTES(space.arcs);
     size_t need = TOMCHOEN_BUILD_WORK(space.states, space.arcs, states);
     uint8_t *out_states = lent(state_space), *out_arcs = lent(arc_space), *work = lent(need);
-    printf("lent: %u states, %u arcs, %zu bytes of work, limit %zu\n", (unsigned)space.states, (unsigned)space.arcs, need,
-           space.limit);
+    printf("lent: %u states, %u arcs, %zu bytes of work, limits", (unsigned)space.states, (unsigned)space.arcs, need);
+    for (size_t at = 0; at < pair_bytes; at += TOMCHOEN_PAIR_BYTES(1)) printf(" %u", pairs[at + 2]);
+    printf("\n");
     uint64_t answer = tomchoen_build(tapes, states, arcs, state_bytes, sizeof state_bytes, arc_bytes, sizeof arc_bytes, pairs,
-                                     pair_bytes, space.limit, out_states, state_space, out_arcs, arc_space, work, need);
+                                     pair_bytes, out_states, state_space, out_arcs, arc_space, work, need);
     if (TOMCHOEN_REFUSAL(answer) == 0) print_built(answer, out_states, state_space, out_arcs, arc_space);
     free(out_states);
     free(out_arcs);
@@ -138,10 +142,10 @@ int main(int count, char **words) {
     size_t pair_bytes = read_pairs(count - 2, words + 2);
     read_table(words[1]);
     size_t told = forecast(pair_bytes);
-    struct space space = {.states = states, .arcs = arcs, .limit = 0};
+    struct space space = {.states = states, .arcs = arcs, .limits_fit = 1};
     for (size_t k = 0; k < told; k++) space = with_pair(space, k);
-    if (space.limit > LIMIT) {
-        printf("no limit up to %d is sure to do\n", LIMIT);
+    if (!space.limits_fit) {
+        printf("no limits up to %d are sure to do\n", LIMIT);
         return 1;
     }
     build(space, pair_bytes);

@@ -61,21 +61,21 @@ static void read_table(const char *path, struct table *table) {
     take_counts(table, answer);
 }
 
-/* A number on the command line. */
-static unsigned long number(const char *word) {
+/* A number of one byte on the command line: a tape or a limit. */
+static uint8_t byte(const char *word) {
     char *end;
     unsigned long value = strtoul(word, &end, 10);
-    if (*word < '0' || *word > '9' || *end != '\0') stop("no number: ", word);
-    return value;
+    if (*word < '0' || *word > '9' || *end != '\0' || value > 255) stop("no number up to 255: ", word);
+    return (uint8_t)value;
 }
 
-/* Joins the two tables on one pair of tapes. */
-static void join(uint8_t first_tape, uint8_t second_tape, size_t limit) {
-    const uint8_t pair[2] = {first_tape, second_tape};
+/* Joins the two tables on one pair of tapes, held to its limit. */
+static void join(uint8_t first_tape, uint8_t second_tape, uint8_t limit) {
+    const uint8_t pair[TOMCHOEN_PAIR_BYTES(1)] = {first_tape, second_tape, limit};
     uint64_t answer = tomchoen_join(
         first.tapes, first.states, first.arcs, first.state_bytes, sizeof first.state_bytes, first.arc_bytes, sizeof first.arc_bytes,
         second.tapes, second.states, second.arcs, second.state_bytes, sizeof second.state_bytes, second.arc_bytes,
-        sizeof second.arc_bytes, pair, sizeof pair, limit, product.state_bytes, sizeof product.state_bytes, product.arc_bytes,
+        sizeof second.arc_bytes, pair, sizeof pair, product.state_bytes, sizeof product.state_bytes, product.arc_bytes,
         sizeof product.arc_bytes, joined.state_bytes, sizeof joined.state_bytes, joined.arc_bytes, sizeof joined.arc_bytes, work,
         sizeof work);
     stop_if_refused("join", answer);
@@ -153,11 +153,10 @@ static void post(const struct tuple *tuple, uint64_t weight) {
 
 int main(int argc, char **argv) {
     if (argc < 6) stop("usage: ", "post FIRST SECOND TAPE-OF-FIRST TAPE-OF-SECOND DELAY-LIMIT STRING..");
-    unsigned long tape = number(argv[3]), other = number(argv[4]);
-    if (tape > 255 || other > 255) stop("no tape: ", tape > 255 ? argv[3] : argv[4]);
+    uint8_t tape = byte(argv[3]), other = byte(argv[4]), limit = byte(argv[5]);
     read_table(argv[1], &first);
     read_table(argv[2], &second);
-    join((uint8_t)tape, (uint8_t)other, number(argv[5]));
+    join(tape, other, limit);
     printf("joined: %zu tapes, %zu states, %zu arcs\n", joined.tapes, joined.states, joined.arcs);
     print_joined();
     struct tuple tuple;

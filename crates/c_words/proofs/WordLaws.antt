@@ -324,10 +324,10 @@ unfolding readOutcome intersectOutcome productOutcome joinOutcome unionOutcome p
 words-tell = record {
   read = λ x s. put-back (readAnswer x (spaceOf s)) s (read-fits x (spaceOf s)) (λ n e. text-listed n (listed-refusals .read x s n e));
   write = λ m output. bytes-back (writeOutcome m output .answer) (listed-refusals .write m output);
-  build = λ m ps D s work. put-back (intersectAnswer m ps D (spaceOf s) work) s (intersect-fits m ps D (spaceOf s) work) (listed-refusals .intersect m ps D s work);
+  build = λ m ps s work. put-back (intersectAnswer m ps (spaceOf s) work) s (intersect-fits m ps (spaceOf s) work) (listed-refusals .intersect m ps s work);
   product = λ a b s work. put-back (productAnswer a b (spaceOf s) work) s (product-fits a b (spaceOf s) work) (listed-refusals .product a b s work);
-  join = λ a b ps D p s work. put-back (joinAnswer a b ps D (spaceOf p) (spaceOf s) work) s (join-fits a b ps D (spaceOf p) (spaceOf s) work)
-      (listed-refusals .join a b ps D p s work);
+  join = λ a b ps p s work. put-back (joinAnswer a b ps (spaceOf p) (spaceOf s) work) s (join-fits a b ps (spaceOf p) (spaceOf s) work)
+      (listed-refusals .join a b ps p s work);
   union = λ a b s. put-back (unionAnswer a b (spaceOf s)) s (union-fits a b (spaceOf s)) (listed-refusals .union a b s);
   project = λ m js s. put-back (projectAnswer m js (spaceOf s)) s (project-fits m js (spaceOf s)) (listed-refusals .project m js s);
   drop = λ m mask s. put-back (dropAnswer m mask (spaceOf s)) s (drop-fits m mask (spaceOf s)) (listed-refusals .dropTapes m mask s);

@@ -8,7 +8,7 @@ use lib.Dec.{eqb}
 use lib.ListN.{length, getD}
 use Rattle.automata.specs.Lists.{if}
 use Rattle.automata.specs.Answer.{Answer, ok, refused}
-use Rattle.automata.specs.TapePair.{Pair}
+use Rattle.automata.specs.TapePair.{Pair, TapePair}
 use Rattle.automata.specs.Memory.{Memory}
 use Rattle.automata.specs.Calls.Outcome.{Slices, TableCounts}
 use Rattle.automata.specs.Calls.Read.{readOutcome}
@@ -109,12 +109,12 @@ pathTold o = orNone (o .word) (accountIn (o .result) (o .list))
 pub record WordsTell : Type 0 where
   pub read : (text : List ℕ) (s : Slices) → tableTold (toldMade (readOutcome text s) .word) ≡ readOutcome text s .answer
   pub write : (m : Memory) (output : List ℕ) → bytesTold (toldWritten (writeOutcome m output) .word) ≡ writeOutcome m output .answer
-  pub build : (m : Memory) (ps : List Pair) (D : ℕ) (s : Slices) (work : List ℕ)
-      → tableTold (toldBuilt (intersectOutcome m ps D s work) .made .word) ≡ intersectOutcome m ps D s work .made .answer
+  pub build : (m : Memory) (ps : List TapePair) (s : Slices) (work : List ℕ)
+      → tableTold (toldBuilt (intersectOutcome m ps s work) .made .word) ≡ intersectOutcome m ps s work .made .answer
   pub product : (a b : Memory) (s : Slices) (work : List ℕ)
       → tableTold (toldBuilt (productOutcome a b s work) .made .word) ≡ productOutcome a b s work .made .answer
-  pub join : (a b : Memory) (ps : List Pair) (D : ℕ) (p s : Slices) (work : List ℕ)
-      → tableTold (toldJoined (joinOutcome a b ps D p s work) .made .word) ≡ joinOutcome a b ps D p s work .made .answer
+  pub join : (a b : Memory) (ps : List TapePair) (p s : Slices) (work : List ℕ)
+      → tableTold (toldJoined (joinOutcome a b ps p s work) .made .word) ≡ joinOutcome a b ps p s work .made .answer
   pub union : (a b : Memory) (s : Slices) → tableTold (toldMade (unionOutcome a b s) .word) ≡ unionOutcome a b s .answer
   pub project : (m : Memory) (js : List ℕ) (s : Slices) → tableTold (toldMade (projectOutcome m js s) .word) ≡ projectOutcome m js s .answer
   pub drop : (m : Memory) (mask : ℕ) (s : Slices) → tableTold (toldMade (dropOutcome m mask s) .word) ≡ dropOutcome m mask s .answer

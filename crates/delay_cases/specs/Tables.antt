@@ -38,9 +38,9 @@ stateBytes fs = finalBytes (getD fs 0 0) ++ (finalBytes (getD fs 1 0) ++ (finalB
 abbrev pub countsOf : List ℕ → Counts
 countsOf n = record { tapes = getD n 0 0; states = getD n 1 0; arcs = getD n 2 0 }
 
--- one pair of tapes
+-- one pair of tapes; its limit is not read
 abbrev pub pairOf : List ℕ → Pair
-pairOf p = record { first = getD p 0 0; second = getD p 1 0 }
+pairOf p = record { first = getD p 0 0; second = getD p 1 0; limit = 0 }
 
 abbrev pub only : List ℕ → PairList
 only p = record { pairs = pairOf p ∷ pairOf p ∷ pairOf p ∷ pairOf p ∷ []; used = 1 }

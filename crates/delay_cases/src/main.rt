@@ -133,6 +133,7 @@ fn show(
     let pair = Pair {
         first: tapes[0],
         second: tapes[1],
+        limit: 0,
     };
     let pairs = PairList {
         pairs: [pair; 4],

@@ -1,4 +1,5 @@
-// One case: a table read from its text, pairs of its tapes forecast, and what is printed of the answer.
+// One case: a table read from its text, pairs of its tapes forecast, each with a limit, and what is printed of the
+// answer.
 use cases::input::bytes;
 use cases::input::lent;
 use cases::input::number;
@@ -82,7 +83,7 @@ fn print_answer(judged: Judged, used: usize, result: &[u8; 60]) {
 fn tell(input: &[u8], at: usize, c: Counts, states: &[u8], arcs: &[u8]) -> Told {
     let mut result = [170u8; 60];
     let mut work = [170u8; 2000];
-    let mut pairs = [0u8; 12];
+    let mut pairs = [0u8; 18];
     let n = bytes(input, at, 4, &mut pairs);
     let result_end = lent(input, at, 2, 1, MOST_RESULT);
     let work_end = lent(input, at, 3, 1, MOST_WORK);

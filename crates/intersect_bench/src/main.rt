@@ -76,13 +76,12 @@ fn run(states: &[u8], arcs: &[u8], size: usize, count: usize) {
         states: size,
         arcs: count,
     };
-    let pairs = [1u8, 2];
+    let pairs = [1u8, 2, 0];
     let answer = intersect(
         counts,
         states,
         arcs,
         &pairs,
-        0,
         &mut out_states,
         &mut out_arcs,
         &mut work,

@@ -16,22 +16,22 @@ struct Built {
     work: [u8; 45000],
 }
 
-// Keeps a table on the pairs at the end of the line, with the limit, and with as many states, arcs and bytes of work lent as the line says.
+// Keeps a table on the pairs at the end of the line, three numbers each, with as many states, arcs and bytes of work
+// lent as the line says.
 fn keep(input: &[u8], at: usize, c: Counts, table_states: &[u8], table_arcs: &[u8]) -> Built {
     let mut states = [170u8; 1300];
     let mut arcs = [170u8; 15440];
     let mut work = [170u8; 45000];
-    let mut pairs = [0u8; 12];
-    let n = bytes(input, at, 6, &mut pairs);
-    let state_end = lent(input, at, 3, 10, 1300);
-    let arc_end = lent(input, at, 4, 80, 15440);
-    let work_end = lent(input, at, 5, 1, 45000);
+    let mut pairs = [0u8; 17];
+    let n = bytes(input, at, 5, &mut pairs);
+    let state_end = lent(input, at, 2, 10, 1300);
+    let arc_end = lent(input, at, 3, 80, 15440);
+    let work_end = lent(input, at, 4, 1, 45000);
     let answer = intersect(
         c,
         table_states,
         table_arcs,
         &pairs[0..n],
-        number(input, at, 2),
         &mut states[0..state_end],
         &mut arcs[0..arc_end],
         &mut work[0..work_end],
@@ -71,5 +71,5 @@ pub fn case(input: &[u8], at: usize) {
     let arcs = made.arcs;
     let work = made.work;
     io::print_decimal(1, number(input, at, 0) as u64);
-    print_space(answer, &states, &arcs, &work, number(input, at, 5));
+    print_space(answer, &states, &arcs, &work, number(input, at, 4));
 }

@@ -104,7 +104,7 @@ fn operand_at(input: &[u8], at: usize, place: usize) -> Operand {
     }
 }
 
-// Joins two tables, of which so many bytes of states are lent, on the pairs at the end of the line.
+// Joins two tables, of which so many bytes of states are lent, on the pairs at the end of the line, three numbers each.
 fn join_in(
     input: &[u8],
     at: usize,
@@ -120,13 +120,13 @@ fn join_in(
     let mut states = [170u8; 600];
     let mut arcs = [170u8; 16000];
     let mut work = [170u8; 31000];
-    let mut pairs = [0u8; 12];
-    let n = bytes(input, at, 10, &mut pairs);
-    let ps = lent(input, at, 5, 10, 600);
-    let pa = lent(input, at, 6, 80, 16000);
-    let rs = lent(input, at, 7, 10, 600);
-    let ra = lent(input, at, 8, 80, 16000);
-    let w = lent(input, at, 9, 1, 31000);
+    let mut pairs = [0u8; 17];
+    let n = bytes(input, at, 9, &mut pairs);
+    let ps = lent(input, at, 4, 10, 600);
+    let pa = lent(input, at, 5, 80, 16000);
+    let rs = lent(input, at, 6, 10, 600);
+    let ra = lent(input, at, 7, 80, 16000);
+    let w = lent(input, at, 8, 1, 31000);
     let answer = join(
         a,
         a_states,
@@ -135,7 +135,6 @@ fn join_in(
         b_states,
         b_arcs,
         &pairs[0..n],
-        number(input, at, 4),
         &mut product_states[0..ps],
         &mut product_arcs[0..pa],
         &mut states[0..rs],
@@ -217,10 +216,10 @@ fn print_all_clear(
     arcs: &[u8; 16000],
     work: &[u8; 31000],
 ) {
-    let ps = lent(input, at, 5, 10, 600);
-    let pa = lent(input, at, 6, 80, 16000);
+    let ps = lent(input, at, 4, 10, 600);
+    let pa = lent(input, at, 5, 80, 16000);
     print_clear(front_clear(states, ps) && front_clear(arcs, pa));
-    print_clear_line(front_clear(work, number(input, at, 9)));
+    print_clear_line(front_clear(work, number(input, at, 8)));
 }
 
 // The case whose line begins at a place: its kind and its number come first.

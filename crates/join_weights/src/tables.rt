@@ -1,6 +1,7 @@
-// Tables by value, and the calls on them. A case has two lines. On the first stand its kind, its number, the names of two tables, a limit, and the
-// pairs that they are joined on. On the second stands, of a join in steps, a mask of tapes and the pairs that are kept afterwards; and of a union,
-// the name of its other part, and the place, 2 or 3, of the table on the first line that is its first part.
+// Tables by value, and the calls on them. A case has two lines. On the first stand its kind, its number, the names of
+// two tables, and the pairs that they are joined on, three numbers each. On the second stands, of a join in steps, a
+// mask of tapes and the pairs that are kept afterwards; and of a union, the name of its other part, and the place, 2 or
+// 3, of the table on the first line that is its first part.
 use cases::input::bytes;
 use cases::input::line_after;
 use cases::input::number;
@@ -98,7 +99,7 @@ fn join_in(
     let mut product_states = [170u8; 600];
     let mut product_arcs = [170u8; 16000];
     let mut work = [170u8; 31000];
-    let n = bytes(input, at, 5, &mut pairs);
+    let n = bytes(input, at, 4, &mut pairs);
     join(
         a,
         a_states,
@@ -107,7 +108,6 @@ fn join_in(
         b_states,
         b_arcs,
         &pairs[0..n],
-        number(input, at, 4),
         &mut product_states,
         &mut product_arcs,
         states,
@@ -161,7 +161,6 @@ fn keep_in(
         states,
         arcs,
         &pairs[0..n],
-        number(input, at, 4),
         out_states,
         out_arcs,
         &mut work,

@@ -1,13 +1,16 @@
-// Lists of pairs, judged for an auto-intersection and for a join: each line is an answer with the pairs by value, for a join also as they are
-// named in the product. The lists stand in the file `stdin`, in the form that the crate `cases` reads.
+// Lists of pairs, judged for an auto-intersection, for a forecast and for a join: each line is an answer with the pairs
+// by value, each with its limit, for a join also as they are named in the product. The lists stand in the file `stdin`,
+// in the form that the crate `cases` reads.
 use cases::input::bytes;
 use cases::input::next;
 use cases::input::number;
 use memory::answer::Judged;
 use memory::answer::refusal_number;
 use memory::pair::PairList;
+use pairs::PairsJudged;
 use pairs::judge_join_pairs;
 use pairs::judge_pairs;
+use pairs::judge_tapes;
 use pairs::moved_pairs;
 ghost use Prim.Native.Nat.{_+_, _≤_, _<_};
 
@@ -25,7 +28,7 @@ fn digit(n: u8) {
     io::write_all(1, &text);
 }
 
-// One of four pairs, if it is used.
+// One of four pairs and its limit, if it is used.
 fn show_pair(pairs: PairList, at: usize)
     requires { ⌜ at < 4 ⌝ }
 {
@@ -35,6 +38,8 @@ fn show_pair(pairs: PairList, at: usize)
         digit(p.first);
         io::write_all(1, b"-");
         digit(p.second);
+        io::write_all(1, b":");
+        io::print_decimal(1, p.limit as u64);
     }
 }
 
@@ -46,9 +51,8 @@ fn show_pairs(pairs: PairList) {
     show_pair(pairs, 3);
 }
 
-// A list for an auto-intersection.
-fn keep(bytes: &[u8], tapes: usize, limit: usize) {
-    let r = judge_pairs(bytes, tapes, limit);
+// A list that was judged for an auto-intersection or for a forecast.
+fn show(r: PairsJudged) {
     let answer = r.judged;
     match answer {
         Judged::Fine => {
@@ -64,10 +68,10 @@ fn keep(bytes: &[u8], tapes: usize, limit: usize) {
 }
 
 // A list for a join of tables with n and m tapes.
-fn join(bytes: &[u8], n: usize, m: usize, limit: usize)
+fn join(bytes: &[u8], n: usize, m: usize)
     requires { ⌜ n + m ≤ 255 ⌝ }
 {
-    let r = judge_join_pairs(bytes, n, m, limit);
+    let r = judge_join_pairs(bytes, n, m);
     let answer = r.judged;
     match answer {
         Judged::Fine => {
@@ -84,23 +88,25 @@ fn join(bytes: &[u8], n: usize, m: usize, limit: usize)
     io::write_all(1, b"\n");
 }
 
-// The case whose line begins at a place: its kind, the numbers of tapes, a limit, and the pairs.
+// The case whose line begins at a place: its kind, the numbers of tapes, and the pairs with their limits.
 fn case(input: &[u8], at: usize) {
-    let mut list = [0u8; 12];
-    let used = bytes(input, at, 4, &mut list);
+    let mut list = [0u8; 18];
+    let used = bytes(input, at, 3, &mut list);
+    let kind = number(input, at, 0);
     let n = number(input, at, 1);
     let m = number(input, at, 2);
-    let limit = number(input, at, 3);
     if 100 < n {
         return;
     }
     if 100 < m {
         return;
     }
-    if number(input, at, 0) == b'K' as usize {
-        keep(&list[0..used], n, limit);
+    if kind == b'K' as usize {
+        show(judge_pairs(&list[0..used], n));
+    } else if kind == b'F' as usize {
+        show(judge_tapes(&list[0..used], n));
     } else {
-        join(&list[0..used], n, m, limit);
+        join(&list[0..used], n, m);
     }
 }
 

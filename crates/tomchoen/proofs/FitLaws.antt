@@ -9,7 +9,7 @@ use Rattle.automata.specs.Answer.{Answer, ok, refused}
 use Rattle.automata.specs.Space.{Space}
 use Rattle.automata.specs.Automaton.{Automaton}
 use Rattle.automata.specs.Table.{WellFormed}
-use Rattle.automata.specs.TapePair.{Pair}
+use Rattle.automata.specs.TapePair.{TapePair}
 use Rattle.automata.specs.TableText.{writeTable}
 use Rattle.automata.specs.Memory.{Memory, decodeTable}
 use Rattle.automata.specs.Calls.Outcome.{Slices, TableCounts, Made, Built, Joined, Written, Found, spaceOf, put, build, conclude, print, madeOf, builtOf, joinedOf, foundOf}
@@ -64,20 +64,20 @@ module _ (a : Answer TableCounts) (states arcs : List ℕ) where
     unfolding build
     built-fits r s w h e = made-fits r s h (ap (λ (o : Built). o .made) e)
 
-    pub intersect-counts : (m : Memory) (ps : List Pair) (D : ℕ) (s : Slices) (w : List ℕ) → builtOf a states arcs work ≡ intersectOutcome m ps D s w → CountsFit a
+    pub intersect-counts : (m : Memory) (ps : List TapePair) (s : Slices) (w : List ℕ) → builtOf a states arcs work ≡ intersectOutcome m ps s w → CountsFit a
     unfolding intersectOutcome
-    intersect-counts m ps D s w e = built-fits (intersectAnswer m ps D (spaceOf s) w) s w (λ A. intersect-fits m ps D (spaceOf s) w A) e
+    intersect-counts m ps s w e = built-fits (intersectAnswer m ps (spaceOf s) w) s w (λ A. intersect-fits m ps (spaceOf s) w A) e
 
     pub product-counts : (m k : Memory) (s : Slices) (w : List ℕ) → builtOf a states arcs work ≡ productOutcome m k s w → CountsFit a
     unfolding productOutcome
     product-counts m k s w e = built-fits (productAnswer m k (spaceOf s) w) s w (λ A. product-fits m k (spaceOf s) w A) e
 
     module _ (productStates productArcs : List ℕ) where
-      pub join-counts : (m k : Memory) (ps : List Pair) (D : ℕ) (p s : Slices) (w : List ℕ)
-          → joinedOf a states arcs productStates productArcs work ≡ joinOutcome m k ps D p s w → CountsFit a
+      pub join-counts : (m k : Memory) (ps : List TapePair) (p s : Slices) (w : List ℕ)
+          → joinedOf a states arcs productStates productArcs work ≡ joinOutcome m k ps p s w → CountsFit a
       unfolding joinOutcome conclude
-      join-counts m k ps D p s w e =
-          made-fits (joinAnswer m k ps D (spaceOf p) (spaceOf s) w) s (λ A. join-fits m k ps D (spaceOf p) (spaceOf s) w A) (ap (λ (o : Joined). o .made) e)
+      join-counts m k ps p s w e =
+          made-fits (joinAnswer m k ps (spaceOf p) (spaceOf s) w) s (λ A. join-fits m k ps (spaceOf p) (spaceOf s) w A) (ap (λ (o : Joined). o .made) e)
 
 -- ---- writing
 

@@ -7,6 +7,7 @@ use c_words::word::weight_word;
 use least_path::record::path_into;
 use memory::answer::Counts;
 ghost use mathlib.Core.Path.{_≡_};
+ghost use Rattle.automata.specs.TapePair.{tapesOf};
 ghost use Rattle.automata.specs.Memory.{memoryOf};
 ghost use Rattle.automata.specs.Calls.Outcome.{slicesOf};
 ghost use Rattle.automata.specs.Calls.Read.{readOutcome};
@@ -53,7 +54,7 @@ pub extern "C" fn tomchoen_write(
     bytes_word(answer)
 }
 
-// Keeps the accounts that agree on pairs of tapes, two bytes a pair.
+// Keeps the accounts that agree on pairs of tapes, three bytes a pair: its tapes and its limit.
 #[no_mangle]
 pub extern "C" fn tomchoen_build(
     tapes: usize,
@@ -62,12 +63,11 @@ pub extern "C" fn tomchoen_build(
     state_bytes: &[u8],
     arc_bytes: &[u8],
     pairs: &[u8],
-    limit: usize,
     out_states: &mut [u8],
     out_arcs: &mut [u8],
     work: &mut [u8],
 ) -> u64
-    ensures { λ r. ⌜ tellsBuilt r (now («out_states» .exit)) (now («out_arcs» .exit)) (now (work .exit)) ≡ toldBuilt (intersectOutcome (memoryOf tapes states arcs (now («state_bytes» .entry)) (now («arc_bytes» .entry))) (pairsOf (now (pairs .entry))) limit (slicesOf (now («out_states» .entry)) (now («out_arcs» .entry))) (now (work .entry))) ⌝ }
+    ensures { λ r. ⌜ tellsBuilt r (now («out_states» .exit)) (now («out_arcs» .exit)) (now (work .exit)) ≡ toldBuilt (intersectOutcome (memoryOf tapes states arcs (now («state_bytes» .entry)) (now («arc_bytes» .entry))) (pairsOf (now (pairs .entry))) (slicesOf (now («out_states» .entry)) (now («out_arcs» .entry))) (now (work .entry))) ⌝ }
 {
     let counts = Counts {
         tapes,
@@ -79,7 +79,6 @@ pub extern "C" fn tomchoen_build(
         state_bytes,
         arc_bytes,
         pairs,
-        limit,
         out_states,
         out_arcs,
         work,
@@ -130,7 +129,7 @@ pub extern "C" fn tomchoen_product(
     table_word(answer)
 }
 
-// Joins two tables on pairs of tapes, two bytes a pair.
+// Joins two tables on pairs of tapes, three bytes a pair: its tapes and its limit.
 #[no_mangle]
 pub extern "C" fn tomchoen_join(
     first_tapes: usize,
@@ -144,14 +143,13 @@ pub extern "C" fn tomchoen_join(
     second_state_bytes: &[u8],
     second_arc_bytes: &[u8],
     pairs: &[u8],
-    limit: usize,
     product_states: &mut [u8],
     product_arcs: &mut [u8],
     out_states: &mut [u8],
     out_arcs: &mut [u8],
     work: &mut [u8],
 ) -> u64
-    ensures { λ r. ⌜ tellsJoined r (now («out_states» .exit)) (now («out_arcs» .exit)) (now («product_states» .exit)) (now («product_arcs» .exit)) (now (work .exit)) ≡ toldJoined (joinOutcome (memoryOf «first_tapes» «first_states» «first_arcs» (now («first_state_bytes» .entry)) (now («first_arc_bytes» .entry))) (memoryOf «second_tapes» «second_states» «second_arcs» (now («second_state_bytes» .entry)) (now («second_arc_bytes» .entry))) (pairsOf (now (pairs .entry))) limit (slicesOf (now («product_states» .entry)) (now («product_arcs» .entry))) (slicesOf (now («out_states» .entry)) (now («out_arcs» .entry))) (now (work .entry))) ⌝ }
+    ensures { λ r. ⌜ tellsJoined r (now («out_states» .exit)) (now («out_arcs» .exit)) (now («product_states» .exit)) (now («product_arcs» .exit)) (now (work .exit)) ≡ toldJoined (joinOutcome (memoryOf «first_tapes» «first_states» «first_arcs» (now («first_state_bytes» .entry)) (now («first_arc_bytes» .entry))) (memoryOf «second_tapes» «second_states» «second_arcs» (now («second_state_bytes» .entry)) (now («second_arc_bytes» .entry))) (pairsOf (now (pairs .entry))) (slicesOf (now («product_states» .entry)) (now («product_arcs» .entry))) (slicesOf (now («out_states» .entry)) (now («out_arcs» .entry))) (now (work .entry))) ⌝ }
 {
     let first = Counts {
         tapes: first_tapes,
@@ -171,7 +169,6 @@ pub extern "C" fn tomchoen_join(
         second_state_bytes,
         second_arc_bytes,
         pairs,
-        limit,
         product_states,
         product_arcs,
         out_states,
@@ -329,7 +326,7 @@ pub extern "C" fn tomchoen_path(
     path_word(answer)
 }
 
-// Tells for pairs of tapes, two bytes a pair, what a build on each can need.
+// Tells for pairs of tapes, three bytes a pair, what a build on each can need. No limit is read.
 #[no_mangle]
 pub extern "C" fn tomchoen_forecast(
     tapes: usize,
@@ -341,7 +338,7 @@ pub extern "C" fn tomchoen_forecast(
     result: &mut [u8],
     work: &mut [u8],
 ) -> u64
-    ensures { λ r. ⌜ tellsRecorded r (now (result .exit)) (now (work .exit)) ≡ toldRecorded (forecastRecorded (memoryOf tapes states arcs (now («state_bytes» .entry)) (now («arc_bytes» .entry))) (pairsOf (now (pairs .entry))) (now (result .entry)) (now (work .entry))) ⌝ }
+    ensures { λ r. ⌜ tellsRecorded r (now (result .exit)) (now (work .exit)) ≡ toldRecorded (forecastRecorded (memoryOf tapes states arcs (now («state_bytes» .entry)) (now («arc_bytes» .entry))) (tapesOf (pairsOf (now (pairs .entry)))) (now (result .entry)) (now (work .entry))) ⌝ }
 {
     let counts = Counts {
         tapes,

@@ -13,7 +13,7 @@ intersect-requires : tie.Need-intersect-requires
 intersect-requires c κs = search needs
 
 table-word-requires : tie.Need-table-word-requires
-table-word-requires c κs = intersect-counts _ _ _ _ _ _ _ _ _ (c .before .before .before .before .before .before .intersect .ensures)
+table-word-requires c κs = intersect-counts _ _ _ _ _ _ _ _ (c .before .before .before .before .before .before .intersect .ensures)
 
 same-length : tie.Need-same-length
 same-length c = search needs

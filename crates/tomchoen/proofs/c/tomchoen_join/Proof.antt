@@ -13,7 +13,7 @@ join-requires : tie.Need-join-requires
 join-requires c κs = search needs
 
 table-word-requires : tie.Need-table-word-requires
-table-word-requires c κs = join-counts _ _ _ _ _ _ _ _ _ _ _ _ _ (c .before .before .before .before .before .before .before .before .before .before .join .ensures)
+table-word-requires c κs = join-counts _ _ _ _ _ _ _ _ _ _ _ _ (c .before .before .before .before .before .before .before .before .before .before .join .ensures)
 
 same-length : tie.Need-same-length
 same-length c = search needs
