@@ -15,10 +15,10 @@ pub const LENT: Room = Room { states: 64, arcs: 512 };
 pub fn agree_table(input: &[u8]) -> Result<Automaton, Refusal> {
     refuse_if(input.len() > MOST_INPUT, Refusal::Size)?;
     let mut reader = Reader::new(input);
-    let (pairs, limit) = read_pair_line(&mut reader)?;
+    let records = read_pair_line(&mut reader)?;
     let automaton = read_rest(&mut reader, LENT)?;
-    let pairs = judge_intersect(&pairs, automaton.tapes, limit)?;
-    intersect(&automaton, &pairs, limit, LENT)
+    let pairs = judge_intersect(&records, automaton.tapes)?;
+    intersect(&automaton, &pairs, LENT)
 }
 
 /// What `agree` writes to standard output.

@@ -11,7 +11,7 @@ use crate::intersect;
 use crate::join;
 use crate::lookup;
 use crate::memory::{encode_arcs, encode_states, judge, LentTable, ARC_BYTES, STATE_BYTES};
-use crate::pairs::{judge_intersect, judge_join, judge_pairs};
+use crate::pairs::{judge_intersect, judge_join, judge_pairs, pair_of, tapes_of, PairRecord};
 use crate::path::{self, Path, PATH_BYTES, PLACE_BYTES};
 use crate::product;
 use crate::refusal::{refuse_if, Refusal};
@@ -181,13 +181,20 @@ fn text_outcome(answer: Result<Vec<u8>, Refusal>, output: &[u8]) -> TextOutcome 
     }
 }
 
+/// The records of a list of pairs lent as bytes, three a pair: first tape, second tape, limit. One or two last bytes
+/// behind the last whole pair are no pair.
+pub fn records_of_bytes(bytes: &[u8]) -> Vec<PairRecord> {
+    let record = |bytes: &[u8]| (u64::from(bytes[0]), u64::from(bytes[1]), u64::from(bytes[2]));
+    bytes.chunks_exact(3).map(record).collect()
+}
+
 /// Keeping.
-pub fn intersect(table: &LentTable, pairs: &[(u64, u64)], limit: u64, result: &ResultSpace, work: &[u8]) -> TableOutcome {
+pub fn intersect(table: &LentTable, pairs: &[u8], result: &ResultSpace, work: &[u8]) -> TableOutcome {
     let built = || {
         let automaton = judge(table)?;
-        let pairs = judge_intersect(pairs, automaton.tapes, limit)?;
+        let pairs = judge_intersect(&records_of_bytes(pairs), automaton.tapes)?;
         judge_space(work.len(), intersect_work(result.room(), automaton.states.len() as u64))?;
-        intersect::intersect(&automaton, &pairs, limit, result.room())
+        intersect::intersect(&automaton, &pairs, result.room())
     };
     outcome(built(), result, work, &no_space())
 }
@@ -206,8 +213,7 @@ pub fn product(first: &LentTable, second: &LentTable, result: &ResultSpace, work
 /// What a join takes besides its two tables.
 #[derive(Clone, Debug, PartialEq, Eq)]
 pub struct JoinRequest {
-    pub pairs: Vec<(u64, u64)>,
-    pub limit: u64,
+    pub pairs: Vec<u8>,
     pub product: ResultSpace,
     pub result: ResultSpace,
     pub work: Vec<u8>,
@@ -219,9 +225,9 @@ pub fn join(first: &LentTable, second: &LentTable, request: &JoinRequest) -> Tab
     let built = || {
         let (first, second) = (judge(first)?, judge(second)?);
         product::judge_width(&first, &second)?;
-        let pairs = judge_join(&request.pairs, first.tapes, second.tapes, request.limit)?;
+        let pairs = judge_join(&records_of_bytes(&request.pairs), first.tapes, second.tapes)?;
         judge_space(request.work.len(), join_work(between, room))?;
-        join::join(&first, &second, &pairs, request.limit, between, room)
+        join::join(&first, &second, &pairs, between, room)
     };
     outcome(built(), &request.result, &request.work, &request.product)
 }
@@ -308,20 +314,16 @@ pub fn path(table: &LentTable, request: &PathRequest) -> PathOutcome {
     PathOutcome { word, result: over(result, &record), list: over(list, &places), work: zeros(work) }
 }
 
-/// The pairs of a list lent as bytes, two a pair; a last byte alone is no pair.
-pub fn pairs_of_bytes(bytes: &[u8]) -> Vec<(u64, u64)> {
-    bytes.chunks_exact(2).map(|pair| (u64::from(pair[0]), u64::from(pair[1]))).collect()
-}
-
-/// Forecast: the table, the whole list of pairs (5, 6), the work and the result (13). A record for each pair, in list order,
-/// over the front of the result.
+/// Forecast: the table, the tapes of the whole list of pairs (5, 6), the work and the result (13). The limits are not
+/// read. A record for each pair, in list order, over the front of the result.
 pub fn forecast(table: &LentTable, pairs: &[u8], result: &[u8], work: &[u8]) -> ForecastOutcome {
     let told = || {
         let automaton = judge(table)?;
-        let pairs = judge_pairs(&pairs_of_bytes(pairs), automaton.tapes)?;
+        let pairs = tapes_of(&records_of_bytes(pairs));
+        judge_pairs(&pairs, automaton.tapes)?;
         judge_space(work.len(), forecast_work(automaton.states.len() as u64))?;
         judge_space(result.len(), (FORECAST_BYTES * pairs.len()) as u128)?;
-        Ok(pairs.iter().flat_map(|&pair| forecast::forecast(&automaton, pair).record()).collect())
+        Ok(pairs.into_iter().flat_map(|tapes| forecast::forecast(&automaton, pair_of(tapes)).record()).collect())
     };
     let TextOutcome { answer, output } = text_outcome(told(), result);
     ForecastOutcome { answer, result: output, work: zeros(work) }

@@ -2,14 +2,14 @@
 
 use crate::agree::MOST_INPUT;
 use crate::automaton::Automaton;
-use crate::generate::Case;
+use crate::generate::{input_of, Case};
 use crate::memory::{encode, LentTable, ARC_BYTES, STATE_BYTES};
 use crate::random::Random;
 use crate::text::{pair_line, write};
 
 /// The widths of the fields of each line of an input.
 fn widths(case: &Case) -> Vec<Vec<usize>> {
-    let mut lines = vec![vec![3; 2 + 2 * case.pairs.len()], vec![3, 6, 6]];
+    let mut lines = vec![vec![3; 1 + 3 * case.pairs.len()], vec![3, 6, 6]];
     lines.extend(case.automaton.states.iter().map(|_| vec![10, 10]));
     let mut arc = vec![6, 6, 10];
     arc.extend(vec![9; case.automaton.tapes]);
@@ -19,7 +19,7 @@ fn widths(case: &Case) -> Vec<Vec<usize>> {
 
 /// The lines of an input without their ends.
 fn lines_of(case: &Case) -> Vec<Vec<u8>> {
-    let text = [pair_line(&case.pairs, case.limit), write(&case.automaton)].concat();
+    let text = input_of(case);
     let mut lines: Vec<Vec<u8>> = text.split(|&byte| byte == 10).map(<[u8]>::to_vec).collect();
     lines.pop();
     lines
@@ -47,7 +47,7 @@ fn edge_number(random: &mut Random, line: usize, width: usize, case: &Case) -> u
     let (states, arcs) = (case.automaton.states.len() as u64, case.automaton.arcs.len() as u64);
     let tapes = case.automaton.tapes as u64;
     match (line, width) {
-        (_, 3) => random.pick(&[0, 1, 4, 5, 8, 9, 10, 63, 64, 65, 99, 100, 999, tapes, tapes + 1]),
+        (_, 3) => random.pick(&[0, 1, 4, 5, 8, 9, 10, 63, 64, 65, 99, 100, 256, 320, 999, tapes, tapes + 1]),
         (1, _) => random.pick(&[
             0,
             1,
@@ -245,13 +245,13 @@ pub fn stray_input(random: &mut Random) -> Vec<u8> {
             let size = random.pick(&[MOST_INPUT - 1, MOST_INPUT, MOST_INPUT + 1]);
             vec![random.pick(b" 0\nA"); size]
         }
-        2 => pair_line(&vec![(1, 2); random.range(0, 999)], random.below(999) as u64),
+        2 => pair_line(&vec![(1, 2, random.below(1_000) as u64); random.range(0, 999)]),
         3..=6 => random
-            .pick(&[&b"abc"[..], b"abcdef", b"abcdefg", b"  0", b"  0  0", b"  0  0\n", b"  1  0\n", b"999999\n", b"\n"])
+            .pick(&[&b"abc"[..], b"abcd", b"  0", b"  0\n", b"  0 ", b"  0  0\n", b"  1\n", b"  1  1  2\n", b"999\n", b"\n"])
             .to_vec(),
         7..=9 => (0..random.below(60)).map(|_| random.below(256) as u8).collect(),
         10..=12 => (0..random.below(60)).map(|_| odd_byte(random)).collect(),
-        13..=15 => [pair_line(&[], 0), write(&Automaton::empty(random.range(1, 8)))].concat(),
+        13..=15 => [pair_line(&[]), write(&Automaton::empty(random.range(1, 8)))].concat(),
         _ => {
             let header = format!(
                 "{:>3}{:>6}{:>6}\n",
@@ -259,7 +259,8 @@ pub fn stray_input(random: &mut Random) -> Vec<u8> {
                 random.pick(&[0, 64, 65, 1_024, 1_025]),
                 random.pick(&[0, 512, 513, 8_192, 8_193])
             );
-            [pair_line(&[], random.below(70) as u64), header.into_bytes()].concat()
+            let records = if random.chance(50) { vec![(1, 2, random.below(70) as u64)] } else { Vec::new() };
+            [pair_line(&records), header.into_bytes()].concat()
         }
     }
 }

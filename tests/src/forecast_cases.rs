@@ -3,7 +3,10 @@
 
 use crate::automaton::{Arc, Automaton, Label, State, MOST_LABEL, MOST_STATES};
 use crate::forecast::{leftovers, MOST_NUMBER};
-use crate::generate::{case, placed, random_pairs, small_case, weight, word, Case, Ends, Subject};
+use crate::generate::{case, placed, small_case, Case, Subject};
+use crate::labels::{weight, word, Ends};
+use crate::pair_lists::random_pairs;
+use crate::pairs::tapes_of;
 use crate::random::Random;
 
 /// Labels of two tapes with a delay, sometimes longer than it asks for.
@@ -222,8 +225,8 @@ fn large_case(random: &mut Random) -> Subject {
 
 /// A table and pairs that another call might be asked of.
 fn other_case(random: &mut Random) -> Subject {
-    let Case { automaton, pairs, .. } = if random.chance(20) { case(random) } else { small_case(random) };
-    let pairs = if random.chance(40) { random_pairs(random, automaton.tapes) } else { pairs };
+    let Case { automaton, pairs } = if random.chance(20) { case(random) } else { small_case(random) };
+    let pairs = if random.chance(40) { random_pairs(random, automaton.tapes) } else { tapes_of(&pairs) };
     (automaton, pairs)
 }
 

@@ -1,74 +1,36 @@
-//! Seeded test inputs: tables of many shapes, pair lists good and bad, limits at their edges, inputs of `agree`.
+//! Seeded test inputs: tables of many shapes with pairs and limits that suit them, inputs of `agree`.
 
-use crate::automaton::{Arc, Automaton, Label, State, MOST_LABEL, MOST_WEIGHT};
+use crate::automaton::{Arc, Automaton, Label, State, MOST_LABEL};
 use crate::damage;
+use crate::labels::{label, optional_weight, pair_labels, weight, word, Ends};
+use crate::pair_lists::{faulty, good_limit, limits, random_pairs};
+use crate::pairs::{pair_of, records_of, Pair, PairRecord, Tapes};
 use crate::random::Random;
 use crate::sample::{p, q, r, s};
 use crate::text::{pair_line, write};
 
-/// A table with pairs and a limit that suit it.
+/// A table with good pairs, each with a good limit.
 #[derive(Clone, Debug)]
 pub struct Case {
     pub automaton: Automaton,
-    pub pairs: Vec<(u64, u64)>,
-    pub limit: u64,
+    pub pairs: Vec<PairRecord>,
 }
 
-/// A table and pairs.
-pub type Subject = (Automaton, Vec<(u64, u64)>);
+/// A table and pairs of its tapes.
+pub type Subject = (Automaton, Vec<Tapes>);
 
-/// The ends of an arc, before it has labels.
-pub type Ends = (usize, usize);
+/// A table, pairs of its tapes, and one limit that suits them.
+struct Shape {
+    automaton: Automaton,
+    pairs: Vec<Tapes>,
+    limit: u64,
+}
 
 /// How many states and arcs a shape may have.
 #[derive(Clone, Copy)]
 struct Size {
     states: usize,
     arcs: usize,
-}
-
-/// Labels of the two tapes of a pair for every arc.
-type PairLabels = Vec<(Label, Label)>;
-
-/// A symbol of a small alphabet; letters and digits both stand in it.
-fn symbol(random: &mut Random, alphabet: usize) -> u8 {
-    b"AB0Z9CYI1O"[random.below(alphabet)]
-}
-
-/// A string of `length` symbols.
-pub fn word(random: &mut Random, alphabet: usize, length: usize) -> Label {
-    (0..length).map(|_| symbol(random, alphabet)).collect()
-}
-
-/// A label: mostly short, sometimes empty, sometimes of all eight symbols.
-fn label(random: &mut Random, alphabet: usize) -> Label {
-    let length = random.pick(&[0, 0, 0, 1, 1, 1, 1, 2, 2, 3, 4, MOST_LABEL]);
-    word(random, alphabet, length)
-}
-
-/// A weight: mostly small, sometimes at an edge of its range.
-pub fn weight(random: &mut Random) -> u64 {
-    match random.below(12) {
-        0 => MOST_WEIGHT,
-        1 => 0,
-        2 => random.below(MOST_WEIGHT as usize + 1) as u64,
-        _ => random.below(20) as u64,
-    }
-}
-
-/// A weight in about `percent` of a hundred cases.
-fn optional_weight(random: &mut Random, percent: usize) -> Option<u64> {
-    random.chance(percent).then(|| weight(random))
-}
-
-/// A delay limit, often at an edge.
-pub fn limit(random: &mut Random) -> u64 {
-    random.pick(&[0, 0, 1, 1, 1, 2, 2, 3, 4, 5, 7, 8, 9, 16, 30, 31, 32, 63, 64, 64, 65, 66, 100, 999])
-}
-
-/// A limit that is not refused for itself.
-fn good_limit(random: &mut Random) -> u64 {
-    random.pick(&[0, 1, 1, 2, 2, 3, 4, 5, 8, 16, 31, 63, 64])
 }
 
 /// A size: mostly small, sometimes near what `agree` lends.
@@ -112,90 +74,6 @@ fn graph(random: &mut Random, size: Size) -> Vec<Ends> {
     ends
 }
 
-/// Random labels over an alphabet of `alphabet` symbols.
-fn random_pair(random: &mut Random, ends: &[Ends], alphabet: usize) -> PairLabels {
-    ends.iter().map(|_| (label(random, alphabet), label(random, alphabet))).collect()
-}
-
-/// Equal labels on both tapes of most arcs.
-fn equal_pair(random: &mut Random, ends: &[Ends]) -> PairLabels {
-    let alphabet = random.range(1, 3);
-    let equal = |random: &mut Random| {
-        let first = label(random, alphabet);
-        let second = if random.chance(90) { first.clone() } else { label(random, alphabet) };
-        (first, second)
-    };
-    ends.iter().map(|_| equal(random)).collect()
-}
-
-/// A factor of an endless repetition of `period`, from one place to another (mod its length), with up to `rounds` more rounds.
-fn factor(random: &mut Random, period: &[u8], from: usize, to: usize, rounds: usize) -> Label {
-    let length = period.len();
-    let mut size = (to + length - from) % length;
-    for _ in 0..rounds {
-        if size + length <= MOST_LABEL && random.chance(30) {
-            size += length;
-        }
-    }
-    (0..size).map(|place| period[(from + place) % length]).collect()
-}
-
-/// Both tapes follow the same repeated word; each state stands at a place of it on each tape, so that strings always agree
-/// as far as both go. Now and then a symbol is altered.
-fn periodic_pair(random: &mut Random, ends: &[Ends], states: usize) -> PairLabels {
-    let length = random.range(1, 4);
-    let period = word(random, 3, length);
-    let place = |random: &mut Random| if random.chance(40) { 0 } else { random.below(length) };
-    let first: Vec<usize> = (0..states).map(|_| place(random)).collect();
-    let second: Vec<usize> = (0..states).map(|state| if random.chance(50) { first[state] } else { place(random) }).collect();
-    let rounds = random.below(3);
-    let noise = random.pick(&[0, 0, 5]);
-    let labels = |random: &mut Random, &(source, target): &Ends| {
-        let mut left = factor(random, &period, first[source], first[target], rounds);
-        let right = factor(random, &period, second[source], second[target], rounds);
-        if !left.is_empty() && random.chance(noise) {
-            let at = random.below(left.len());
-            left[at] = symbol(random, 3);
-        }
-        (left, right)
-    };
-    ends.iter().map(|ends| labels(random, ends)).collect()
-}
-
-/// Each state owes a leftover word (its potential); an arc pays what its source owes and writes what its target owes.
-fn potential_pair(random: &mut Random, ends: &[Ends], states: usize) -> PairLabels {
-    let alphabet = random.range(1, 3);
-    let owes = |random: &mut Random, state: usize| {
-        let length = if state == 0 || state + 1 == states { 0 } else { random.below(4) };
-        word(random, alphabet, length)
-    };
-    let owed: Vec<Label> = (0..states).map(|state| owes(random, state)).collect();
-    let labels = |random: &mut Random, &(source, target): &Ends| {
-        let shared = random.below(3);
-        let middle = word(random, alphabet, shared);
-        let left = [&middle[..], &owed[target]].concat();
-        let right = [&owed[source][..], &middle].concat();
-        (left, right)
-    };
-    ends.iter().map(|ends| labels(random, ends)).collect()
-}
-
-/// Labels of a pair in one of the styles.
-fn pair_labels(random: &mut Random, ends: &[Ends], states: usize) -> PairLabels {
-    let labels = match random.below(8) {
-        0 => random_pair(random, ends, 1),
-        1 => random_pair(random, ends, 2),
-        2 => equal_pair(random, ends),
-        3 | 4 => periodic_pair(random, ends, states.max(1)),
-        _ => potential_pair(random, ends, states),
-    };
-    if random.chance(50) {
-        labels
-    } else {
-        labels.into_iter().map(|(first, second)| (second, first)).collect()
-    }
-}
-
 /// States: the first mostly initial, the last mostly final, others now and then.
 fn states(random: &mut Random, count: usize) -> Vec<State> {
     let spread = random.pick(&[0, 0, 15, 50]);
@@ -208,7 +86,7 @@ fn states(random: &mut Random, count: usize) -> Vec<State> {
 
 /// Arcs with the labels of the columns, the tapes in a random order, some arcs repeated, at most 512; and the pairs, the first two
 /// columns being the first of them, and so on.
-pub fn placed(random: &mut Random, ends: &[Ends], columns: &[Vec<Label>], pair_count: usize) -> (Vec<Arc>, Vec<(u64, u64)>) {
+pub fn placed(random: &mut Random, ends: &[Ends], columns: &[Vec<Label>], pair_count: usize) -> (Vec<Arc>, Vec<Tapes>) {
     let places = random.shuffled(&(0..columns.len()).collect::<Vec<usize>>());
     let pairs = (0..pair_count).map(|pair| (places[2 * pair] as u64 + 1, places[2 * pair + 1] as u64 + 1)).collect();
     let mut arcs: Vec<Arc> = Vec::new();
@@ -227,7 +105,7 @@ pub fn placed(random: &mut Random, ends: &[Ends], columns: &[Vec<Label>], pair_c
 }
 
 /// A table on a graph with one style of labels for each of several pairs, the tapes in a random order; some arcs repeated.
-fn graph_case(random: &mut Random) -> Case {
+fn graph_case(random: &mut Random) -> Shape {
     let size = size(random);
     let ends = graph(random, size);
     let pair_count = random.pick(&[0, 1, 1, 1, 1, 2, 2, 3, 4]);
@@ -243,40 +121,66 @@ fn graph_case(random: &mut Random) -> Case {
         columns.push(ends.iter().map(|_| label(random, alphabet)).collect());
     }
     let (arcs, pairs) = placed(random, &ends, &columns, pair_count);
-    Case {
+    Shape {
         automaton: Automaton { tapes: columns.len(), states: states(random, size.states), arcs },
         pairs,
         limit: good_limit(random),
     }
 }
 
-/// One word cut in two ways along a chain, with loops that repeat a piece on both tapes, and arcs of noise.
-fn chain_case(random: &mut Random) -> Case {
-    let links = random.range(1, 10);
-    let length = random.range(0, 3 * links);
-    let alphabet = random.range(1, 4);
-    let whole = word(random, alphabet, length);
-    let (first, second) = (cuts(random, length, links), cuts(random, length, links));
+/// A word and two ways to cut it along the links of a chain, for the two tapes of a pair.
+struct CutWord {
+    word: Label,
+    first: Vec<usize>,
+    second: Vec<usize>,
+}
+
+impl CutWord {
+    /// A random word of at most so many symbols.
+    fn random(random: &mut Random, alphabet: usize, links: usize, most: usize) -> CutWord {
+        let length = random.range(0, most);
+        let word = word(random, alphabet, length);
+        CutWord { word, first: cuts(random, length, links), second: cuts(random, length, links) }
+    }
+
+    /// What stands on the two tapes of a link.
+    fn pieces(&self, link: usize) -> [Label; 2] {
+        [&self.first, &self.second].map(|cuts| self.word[cuts[link]..cuts[link + 1]].to_vec())
+    }
+
+    /// What one tape has left at the start of a link, as far as a label holds it, for both tapes.
+    fn owed(&self, link: usize) -> [Label; 2] {
+        let (one, two) = (self.first[link].min(self.second[link]), self.first[link].max(self.second[link]));
+        let owed = self.word[one..two.min(one + MOST_LABEL)].to_vec();
+        [owed.clone(), owed]
+    }
+}
+
+/// Words cut in two ways along a chain, one for each pair, with loops that repeat a piece on both tapes, and arcs of
+/// noise.
+fn chain_case(random: &mut Random) -> Shape {
+    let (links, alphabet) = (random.range(1, 10), random.range(1, 4));
+    let pair_count = random.pick(&[1, 1, 1, 2, 2, 3, 4]);
+    let most = if pair_count == 1 { 3 * links } else { links + 5 };
+    let cut: Vec<CutWord> = (0..pair_count).map(|_| CutWord::random(random, alphabet, links, most)).collect();
     let mut arcs = Vec::new();
     for link in 0..links {
-        let piece = |cuts: &[usize]| whole[cuts[link]..cuts[link + 1]].to_vec();
-        let labels = vec![piece(&first), piece(&second)];
+        let labels: Vec<Label> = cut.iter().flat_map(|word| word.pieces(link)).collect();
         if labels.iter().all(|label| label.len() <= MOST_LABEL) {
             arcs.push(Arc { source: link, target: link + 1, weight: weight(random), labels });
         }
         if random.chance(20) {
-            let owed = [&whole[second[link].min(first[link])..first[link]], &whole[first[link].min(second[link])..second[link]]]
-                .concat();
-            let size = owed.len().min(MOST_LABEL);
-            arcs.push(Arc { source: link, target: link, weight: weight(random), labels: vec![owed[..size].to_vec(); 2] });
+            let labels = cut.iter().flat_map(|word| word.owed(link)).collect();
+            arcs.push(Arc { source: link, target: link, weight: weight(random), labels });
         }
         if random.chance(15) {
-            let labels = vec![label(random, alphabet), label(random, alphabet)];
+            let labels = (0..2 * pair_count).map(|_| label(random, alphabet)).collect();
             arcs.push(Arc { source: link, target: random.below(links + 1), weight: weight(random), labels });
         }
     }
     let states = states(random, links + 1);
-    Case { automaton: Automaton { tapes: 2, states, arcs }, pairs: vec![(1, 2)], limit: good_limit(random) }
+    let pairs = (0..pair_count as u64).map(|pair| (2 * pair + 1, 2 * pair + 2)).collect();
+    Shape { automaton: Automaton { tapes: 2 * pair_count, states, arcs }, pairs, limit: good_limit(random) }
 }
 
 /// Rising places that cut `length` symbols into `pieces`, from 0 to `length`.
@@ -290,7 +194,7 @@ pub fn cuts(random: &mut Random, length: usize, pieces: usize) -> Vec<usize> {
 /// Words written on one tape, carried along a corridor of empty arcs, and closed on the other tape. Reached are words x corridor
 /// configurations and two more; the arcs between them are made many by repeating the corridor's arcs and the first opening one.
 /// Aimed at the edges of 8 and 9.
-fn corridor_case(random: &mut Random) -> Case {
+fn corridor_case(random: &mut Random) -> Shape {
     let words = random.range(1, 8);
     let corridor = (random.pick(&[20, 40, 62, 62, 62, 64]) / words).max(1) + random.below(2);
     let links = words * (corridor - 1);
@@ -313,7 +217,7 @@ fn corridor_case(random: &mut Random) -> Case {
     }
     let limit = random.pick(&[1, 2, 2, 2, 3, 64]);
     let pairs = vec![if random.chance(50) { (1, 2) } else { (2, 1) }];
-    Case { automaton: Automaton { tapes: 2, states, arcs }, pairs, limit }
+    Shape { automaton: Automaton { tapes: 2, states, arcs }, pairs, limit }
 }
 
 /// The arcs of a corridor: the words written (the first of them `openings` times), carried, and closed.
@@ -336,7 +240,7 @@ pub fn corridor_arcs(words: usize, corridor: usize, repeats: usize, openings: us
 }
 
 /// Tables whose delay loops grow on one side and shrink on the other, with steps of several sizes: many give 10, some give 8.
-fn growing_case(random: &mut Random) -> Case {
+fn growing_case(random: &mut Random) -> Shape {
     let (rise, fall) = (random.range(1, 4), random.range(1, 4));
     let unary = |length: usize| vec![b'A'; length];
     let mut arcs = vec![
@@ -361,22 +265,22 @@ fn growing_case(random: &mut Random) -> Case {
         State { initial: None, final_weight: Some(0) },
     ];
     let limit = random.pick(&[0, 1, 2, 5, 15, 20, 29, 30, 31, 32, 33, 63, 64]);
-    Case { automaton: Automaton { tapes: 2, states, arcs: random.shuffled(&arcs) }, pairs: vec![(1, 2)], limit }
+    Shape { automaton: Automaton { tapes: 2, states, arcs: random.shuffled(&arcs) }, pairs: vec![(1, 2)], limit }
 }
 
 /// One of document 01's worked tables, sometimes with a few arcs altered.
-fn worked_case(random: &mut Random) -> Case {
+fn worked_case(random: &mut Random) -> Shape {
     let (mut automaton, pair) = random.pick(&[(p(), (1, 3)), (q(), (1, 2)), (r(), (1, 2)), (s(), (1, 2))]);
     for _ in 0..random.below(3) {
         let at = random.below(automaton.arcs.len());
         let tape = random.below(automaton.tapes);
         automaton.arcs[at].labels[tape] = label(random, 2);
     }
-    Case { automaton, pairs: vec![pair], limit: limit(random) }
+    Shape { automaton, pairs: vec![pair], limit: good_limit(random) }
 }
 
 /// A table that fills what `agree` lends, or one past it, with many tapes: long texts.
-fn full_case(random: &mut Random) -> Case {
+fn full_case(random: &mut Random) -> Shape {
     let tapes = random.range(5, 8);
     let count = random.pick(&[1, 63, 64, 64, 65]);
     let arc_count = random.pick(&[400, 511, 512, 512, 513, 600]);
@@ -388,88 +292,89 @@ fn full_case(random: &mut Random) -> Case {
     let arcs = (0..arc_count).map(|_| arc(random)).collect();
     let automaton = Automaton { tapes, states: states(random, count), arcs };
     let pairs = random_pairs(random, tapes);
-    Case { automaton, pairs, limit: good_limit(random) }
+    Shape { automaton, pairs, limit: good_limit(random) }
 }
 
-/// A good list of pairs of distinct tapes.
-pub fn random_pairs(random: &mut Random, tapes: usize) -> Vec<(u64, u64)> {
-    let order = random.shuffled(&(1..=tapes as u64).collect::<Vec<u64>>());
-    let count = random.below(tapes / 2 + 1);
-    (0..count).map(|pair| (order[2 * pair], order[2 * pair + 1])).collect()
-}
-
-/// A list of pairs with a fault: a tape outside 1..n, a tape twice, too many pairs, or several of these.
-pub fn bad_pairs(random: &mut Random, pairs: &[(u64, u64)], tapes: usize) -> Vec<(u64, u64)> {
-    let tape = |random: &mut Random| random.range(1, tapes) as u64;
-    let mut pairs = pairs.to_vec();
-    for _ in 0..random.range(1, 2) {
-        let extra = match random.below(6) {
-            0 => (0, tape(random)),
-            1 => (tape(random), tapes as u64 + 1),
-            2 => (tape(random), 999),
-            3 => {
-                let same = tape(random);
-                (same, same)
+/// A table with copies of its only pair: its labels with each symbol so many times, sometimes the tapes exchanged. A
+/// copy's leftovers are so many times as long. Now and then a label is altered.
+fn with_copies(random: &mut Random, mut shape: Shape) -> Shape {
+    let (first, second) = pair_of(shape.pairs[0]);
+    let tapes = &mut shape.automaton.tapes;
+    let lengths = shape.automaton.arcs.iter().flat_map(|arc| [arc.labels[first - 1].len(), arc.labels[second - 1].len()]);
+    let most = (MOST_LABEL / lengths.max().unwrap_or(0).max(1)).min(4);
+    let noise = random.pick(&[0, 0, 0, 5]);
+    for _ in 0..random.pick(&[1, 1, 2, 3]).min((8 - *tapes) / 2) {
+        let times = random.range(1, most);
+        let (one, two) = if random.chance(50) { (first, second) } else { (second, first) };
+        for arc in &mut shape.automaton.arcs {
+            for tape in [one, two] {
+                let copy = arc.labels[tape - 1].iter().flat_map(|&symbol| vec![symbol; times]).collect();
+                arc.labels.push(if random.chance(noise) { label(random, 2) } else { copy });
             }
-            _ => (tape(random), tape(random)),
-        };
-        let at = random.below(pairs.len() + 1);
-        pairs.insert(at, extra);
-    }
-    if random.chance(20) {
-        let many = random.pick(&[5, 5, 6, 20, 999]);
-        while pairs.len() < many {
-            pairs.push((tape(random), tape(random)));
         }
+        shape.pairs.push((*tapes as u64 + 1, *tapes as u64 + 2));
+        *tapes += 2;
     }
-    pairs
+    shape.pairs = random.shuffled(&shape.pairs);
+    shape
 }
 
-/// A valid table with pairs and a limit of one of the shapes.
+/// A case of a shape: sometimes with copies of its pair, each pair with a limit.
+fn limited_case(random: &mut Random, mut shape: Shape) -> Case {
+    if shape.pairs.len() == 1 && random.chance(35) {
+        shape = with_copies(random, shape);
+    }
+    let pairs: Vec<Pair> = shape.pairs.iter().copied().map(pair_of).collect();
+    let limits = limits(random, &shape.automaton, &pairs, shape.limit);
+    Case { automaton: shape.automaton, pairs: records_of(&shape.pairs, &limits) }
+}
+
+/// A valid table with pairs and limits of one of the shapes.
 pub fn case(random: &mut Random) -> Case {
-    match random.below(200) {
+    let shape = match random.below(200) {
         0..=99 => graph_case(random),
         100..=139 => chain_case(random),
         140..=159 => corridor_case(random),
         160..=177 => growing_case(random),
         178..=197 => worked_case(random),
         _ => full_case(random),
-    }
+    };
+    limited_case(random, shape)
 }
 
-/// A valid small table with pairs and a limit, for checks that follow every path.
+/// A valid small table with pairs and limits, for checks that follow every path.
 pub fn small_case(random: &mut Random) -> Case {
     loop {
-        let case = match random.below(3) {
+        let shape = match random.below(3) {
             0 => chain_case(random),
             1 => worked_case(random),
             _ => graph_case(random),
         };
-        if case.automaton.arcs.len() <= 14 && case.automaton.states.len() <= 9 && case.limit <= 64 {
-            return case;
+        if shape.automaton.arcs.len() <= 14 && shape.automaton.states.len() <= 9 {
+            return limited_case(random, shape);
         }
     }
 }
 
 /// The input of `agree` for a case.
 pub fn input_of(case: &Case) -> Vec<u8> {
-    [pair_line(&case.pairs, case.limit), write(&case.automaton)].concat()
+    [pair_line(&case.pairs), write(&case.automaton)].concat()
 }
 
-/// An input of `agree`: most are good, some have bad pairs or a bad limit, some are damaged texts.
+/// An input of `agree`: most are good, some have bad pairs or bad limits, some are damaged texts.
 pub fn agree_input(random: &mut Random) -> Vec<u8> {
     if random.chance(2) {
         return damage::stray_input(random);
     }
     let mut case = case(random);
-    if random.chance(8) {
-        case.limit = limit(random);
-    }
+    let tapes = case.automaton.tapes;
     if random.chance(6) {
-        case.pairs = random_pairs(random, case.automaton.tapes);
+        let pairs = random_pairs(random, tapes);
+        let limits: Vec<u64> = pairs.iter().map(|_| good_limit(random)).collect();
+        case.pairs = records_of(&pairs, &limits);
     }
-    if random.chance(8) {
-        case.pairs = bad_pairs(random, &case.pairs, case.automaton.tapes);
+    if random.chance(14) {
+        case.pairs = faulty(random, &case.pairs, tapes, tapes);
     }
     if random.chance(30) {
         damage::damaged_input(random, &case)

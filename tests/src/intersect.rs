@@ -6,7 +6,7 @@
 use crate::automaton::{Arc, Automaton, Room, State};
 use crate::closing::{closing_delays, Closing};
 use crate::order::{first_reached, Edge};
-use crate::pairs::Pair;
+use crate::pairs::{LimitedPair, Pair, MOST_LIMIT};
 use crate::refusal::{refuse_if, Refusal};
 use std::collections::{HashMap, HashSet};
 
@@ -56,22 +56,20 @@ impl Config {
 struct Problem<'a> {
     automaton: &'a Automaton,
     arcs_of: Vec<Vec<usize>>,
-    pairs: &'a [Pair],
-    limit: u64,
+    pairs: &'a [LimitedPair],
     coaccessible: Vec<bool>,
     closings: Vec<Vec<Option<Closing>>>,
 }
 
 impl<'a> Problem<'a> {
     /// Prepares the arcs of each state and the closing delays.
-    fn new(automaton: &'a Automaton, pairs: &'a [Pair], limit: u64) -> Self {
+    fn new(automaton: &'a Automaton, pairs: &'a [LimitedPair]) -> Self {
         Problem {
             automaton,
             arcs_of: automaton.arcs_of_states(),
             pairs,
-            limit,
             coaccessible: automaton.coaccessible(),
-            closings: pairs.iter().map(|&pair| closing_delays(automaton, pair)).collect(),
+            closings: pairs.iter().map(|&(pair, _)| closing_delays(automaton, pair)).collect(),
         }
     }
 
@@ -83,14 +81,17 @@ impl<'a> Problem<'a> {
         self.coaccessible[config.state] && config.leftovers.iter().zip(&self.closings).all(closes)
     }
 
-    /// Whether no leftover is longer than D.
-    fn is_within_limit(&self, config: &Config) -> bool {
-        config.leftovers.iter().all(|leftover| leftover.delay().unsigned_abs() <= self.limit)
+    /// Whether no leftover is longer than its own pair's limit.
+    fn is_within_limits(&self, config: &Config) -> bool {
+        let within = |(leftover, pair): (&Leftover, &LimitedPair)| leftover.delay().unsigned_abs() <= pair.1;
+        config.leftovers.iter().zip(self.pairs).all(within)
     }
 
     /// The configuration that an arc leads to, if the step is compatible.
     fn step(&self, config: &Config, arc: &Arc) -> Option<Config> {
-        let after = |(leftover, pair): (&Leftover, &Pair)| leftover.after(&arc.labels[pair.0 - 1], &arc.labels[pair.1 - 1]);
+        let after = |(leftover, &((first, second), _)): (&Leftover, &LimitedPair)| {
+            leftover.after(&arc.labels[first - 1], &arc.labels[second - 1])
+        };
         let leftovers = config.leftovers.iter().zip(self.pairs).map(after).collect::<Option<Vec<Leftover>>>()?;
         Some(Config { state: arc.target, leftovers })
     }
@@ -104,11 +105,13 @@ impl<'a> Problem<'a> {
     }
 }
 
-/// The reached configurations, those of them that start, and the edges between them (position: the input arc).
+/// The reached configurations, those of them that start, the edges between them (position: the input arc), and whether
+/// some step from them leaves more than a limit.
 struct Reached {
     configs: Vec<Config>,
     starts: Vec<usize>,
     edges: Vec<Edge>,
+    exceeded: bool,
 }
 
 /// A hash map that gives each configuration a node number.
@@ -131,7 +134,7 @@ impl Nodes {
     }
 }
 
-/// Collects the reached configurations depth first; 8, 9, 10 are judged of the whole.
+/// Collects the reached configurations depth first; 8, 9 are judged of the whole.
 fn collect(problem: &Problem, room: Room) -> Result<Reached, Refusal> {
     let mut nodes = Nodes::default();
     let starts: Vec<usize> = problem.starts().into_iter().map(|config| nodes.node(config).0).collect();
@@ -145,7 +148,7 @@ fn collect(problem: &Problem, room: Room) -> Result<Reached, Refusal> {
         for &position in &problem.arcs_of[config.state] {
             let step = problem.step(&config, &problem.automaton.arcs[position]);
             let Some(next) = step.filter(|next| problem.is_viable(next)) else { continue };
-            if !problem.is_within_limit(&next) {
+            if !problem.is_within_limits(&next) {
                 exceeded = true;
                 continue;
             }
@@ -161,8 +164,7 @@ fn collect(problem: &Problem, room: Room) -> Result<Reached, Refusal> {
         }
     }
     refuse_if(arcs > room.usable_arcs(), Refusal::ArcsFull)?;
-    refuse_if(exceeded, Refusal::Delay)?;
-    Ok(Reached { configs: nodes.configs, starts, edges })
+    Ok(Reached { configs: nodes.configs, starts, edges, exceeded })
 }
 
 /// The nodes from which a node of `ends` is reached.
@@ -213,9 +215,26 @@ fn trimmed(automaton: &Automaton, reached: &Reached) -> Automaton {
     Automaton { tapes: automaton.tapes, states: order.iter().map(|&node| states[node]).collect(), arcs: arcs.collect() }
 }
 
-/// Keeps the accounts that agree on all (judged) pairs; 8, 9, 10.
-pub fn intersect(automaton: &Automaton, pairs: &[Pair], limit: u64, room: Room) -> Result<Automaton, Refusal> {
-    let problem = Problem::new(automaton, pairs, limit);
+/// Keeps the accounts that agree on all (judged) pairs, each held to its own limit; 8, 9, 10.
+pub fn intersect(automaton: &Automaton, pairs: &[LimitedPair], room: Room) -> Result<Automaton, Refusal> {
+    let problem = Problem::new(automaton, pairs);
     let reached = collect(&problem, room)?;
+    refuse_if(reached.exceeded, Refusal::Delay)?;
     Ok(trimmed(automaton, &reached))
+}
+
+/// For each (judged) pair the length of its longest leftover among the reached configurations, if keeping is not
+/// refused with the greatest limits and ample space.
+pub fn longest_leftovers(automaton: &Automaton, pairs: &[Pair]) -> Option<Vec<u64>> {
+    let pairs: Vec<LimitedPair> = pairs.iter().map(|&pair| (pair, MOST_LIMIT)).collect();
+    let reached = collect(&Problem::new(automaton, &pairs), Room::AMPLE).ok().filter(|reached| !reached.exceeded)?;
+    let lengths = |place: usize| reached.configs.iter().map(move |config| config.leftovers[place].delay().unsigned_abs());
+    Some((0..pairs.len()).map(|place| lengths(place).max().unwrap_or(0)).collect())
+}
+
+/// How many configurations are reached and how many arcs are between them, refused for delay or not, if all fit ample
+/// space.
+pub fn reached_counts(automaton: &Automaton, pairs: &[LimitedPair]) -> Option<(usize, usize)> {
+    let reached = collect(&Problem::new(automaton, pairs), Room::AMPLE).ok()?;
+    Some((reached.configs.len(), reached.edges.len()))
 }

@@ -1,5 +1,5 @@
-//! The second implementation of Tomchoen, written from document 01 and document 02's requests 2.1, 2.2 and 2.3 alone,
-//! on plain Rust types.
+//! The second implementation of Tomchoen, written from document 01 and document 02's requests 2.1 to 2.4 alone, on
+//! plain Rust types.
 //!
 //! `text`, `memory`: tables as texts and as records; `intersect`, `product`, `join`, `columns`, `lookup`, `path`,
 //! `forecast`: the calls on automata; `calls`: the same calls on lent bytes; `agree`: the program from text to text.
@@ -19,9 +19,12 @@ pub mod forecast_cases;
 pub mod generate;
 pub mod intersect;
 pub mod join;
+pub mod join_cases;
+pub mod labels;
 pub mod lookup;
 pub mod memory;
 pub mod order;
+pub mod pair_lists;
 pub mod pairs;
 pub mod path;
 pub mod path_cases;
@@ -31,3 +34,4 @@ pub mod refusal;
 pub mod requests;
 pub mod sample;
 pub mod text;
+pub mod word_for_word;

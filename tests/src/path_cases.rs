@@ -3,7 +3,8 @@
 //! and weigh nothing, loops of them and several starting states are frequent, so that every part of the order decides.
 
 use crate::automaton::{Arc, Automaton, Label, State, Tuple, MOST_WEIGHT};
-use crate::generate::{cuts, small_case, word};
+use crate::generate::{cuts, small_case};
+use crate::labels::word;
 use crate::random::Random;
 
 /// A table and a tuple to be looked up in it.
@@ -127,7 +128,7 @@ fn spelled_to_end(random: &mut Random, automaton: &Automaton) -> Tuple {
 }
 
 /// The arcs of a route by some stops: the words cut at random, and the weight.
-fn route_arcs(random: &mut Random, stops: &[usize], words: &Tuple, total: usize) -> Vec<Arc> {
+pub fn route_arcs(random: &mut Random, stops: &[usize], words: &Tuple, total: usize) -> Vec<Arc> {
     let links = stops.len() - 1;
     let weights = cuts(random, total, links);
     let places: Vec<Vec<usize>> = words.iter().map(|word| cuts(random, word.len(), links)).collect();

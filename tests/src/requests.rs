@@ -10,12 +10,14 @@ use crate::columns::project;
 use crate::damage::damaged_table;
 use crate::forecast::FORECAST_BYTES;
 use crate::forecast_cases::forecast_case;
-use crate::generate::{bad_pairs, case, corridor_arcs, limit, small_case, Case};
-use crate::intersect::intersect;
+use crate::generate::{case, corridor_arcs, small_case, Case};
+use crate::intersect::{intersect, reached_counts};
 use crate::join::join;
+use crate::join_cases::{join_case, two_tables, JoinCase};
 use crate::lookup::judge_tuple;
 use crate::memory::{encode, LentTable, ARC_BYTES, STATE_BYTES};
-use crate::pairs::Pair;
+use crate::pair_lists::{bytes_of, faulty, unread_limits};
+use crate::pairs::{limited, records_of, LimitedPair};
 use crate::path::{path, PATH_BYTES, PLACE_BYTES};
 use crate::path_cases::path_case;
 use crate::product::product;
@@ -27,7 +29,7 @@ use crate::text::write;
 pub enum Request {
     Read { text: Vec<u8>, result: ResultSpace },
     Write { table: LentTable, output: Vec<u8> },
-    Intersect { table: LentTable, pairs: Vec<(u64, u64)>, limit: u64, result: ResultSpace, work: Vec<u8> },
+    Intersect { table: LentTable, pairs: Vec<u8>, result: ResultSpace, work: Vec<u8> },
     Product { first: LentTable, second: LentTable, result: ResultSpace, work: Vec<u8> },
     Join { first: LentTable, second: LentTable, request: JoinRequest },
     Union { first: LentTable, second: LentTable, result: ResultSpace },
@@ -53,9 +55,7 @@ pub fn outcome(request: &Request) -> Outcome {
     match request {
         Request::Read { text, result } => Outcome::Table(calls::read(text, result)),
         Request::Write { table, output } => Outcome::Text(calls::write(table, output)),
-        Request::Intersect { table, pairs, limit, result, work } => {
-            Outcome::Table(calls::intersect(table, pairs, *limit, result, work))
-        }
+        Request::Intersect { table, pairs, result, work } => Outcome::Table(calls::intersect(table, pairs, result, work)),
         Request::Product { first, second, result, work } => Outcome::Table(calls::product(first, second, result, work)),
         Request::Join { first, second, request } => Outcome::Table(calls::join(first, second, request)),
         Request::Union { first, second, result } => Outcome::Table(calls::union(first, second, result)),
@@ -116,11 +116,6 @@ fn size_of<E>(result: Result<Automaton, E>) -> (usize, usize) {
     result.map_or((40, 80), |automaton| (automaton.states.len(), automaton.arcs.len()))
 }
 
-/// Pairs as tape numbers.
-fn tapes(pairs: &[(u64, u64)]) -> Vec<Pair> {
-    pairs.iter().map(|&(first, second)| (first as usize, second as usize)).collect()
-}
-
 /// A request to read: a text of a table, or another.
 fn read_request(random: &mut Random) -> Request {
     let Case { automaton, .. } = small_case(random);
@@ -146,40 +141,26 @@ fn write_request(random: &mut Random) -> Request {
     Request::Write { table: lent(random, &automaton), output: filled(random, length) }
 }
 
-/// A request to keep; the space is near what is reached.
-fn intersect_request(random: &mut Random) -> Request {
-    let Case { automaton, mut pairs, limit: good } = if random.chance(20) { case(random) } else { small_case(random) };
-    let (states, arcs) = size_of(intersect(&automaton, &tapes(&pairs), good, Room::AMPLE));
-    let more = random.below(3);
-    let result = space_near(random, states + more, arcs + more);
-    let work = work_near(random, calls::intersect_work(result.room(), automaton.states.len() as u64));
-    if random.chance(8) {
-        pairs = bad_pairs(random, &pairs, automaton.tapes);
+/// States and arcs near what keeping needs: those reached, refused for delay or not, or a few more than those kept.
+fn size_to_keep(random: &mut Random, automaton: &Automaton, pairs: &[LimitedPair]) -> (usize, usize) {
+    if random.chance(50) {
+        return reached_counts(automaton, pairs).unwrap_or((1_024, 8_192));
     }
-    let limit = if random.chance(10) { limit(random) } else { good };
-    Request::Intersect { table: lent(random, &automaton), pairs, limit, result, work }
+    let (states, arcs) = size_of(intersect(automaton, pairs, Room::AMPLE));
+    let more = random.below(3);
+    (states + more, arcs + more)
 }
 
-/// Two tables for a product or a join; mostly narrow and light.
-pub fn two_tables(random: &mut Random) -> (Automaton, Automaton) {
-    let narrow = |random: &mut Random| {
-        let automaton = small_case(random).automaton;
-        let most = automaton.tapes.min(random.range(1, 4)) as u64;
-        let mut automaton = project(&automaton, &(1..=most).collect::<Vec<u64>>(), Room::AMPLE).unwrap_or(automaton);
-        if random.chance(90) {
-            automaton.arcs.iter_mut().for_each(|arc| arc.weight %= 1_000);
-            for state in &mut automaton.states {
-                state.initial = state.initial.map(|weight| weight % 1_000);
-                state.final_weight = state.final_weight.map(|weight| weight % 1_000);
-            }
-        }
-        automaton
-    };
-    if random.chance(5) {
-        (small_case(random).automaton, small_case(random).automaton)
-    } else {
-        (narrow(random), narrow(random))
+/// A request to keep; the space is near what is reached.
+fn intersect_request(random: &mut Random) -> Request {
+    let Case { automaton, mut pairs } = if random.chance(20) { case(random) } else { small_case(random) };
+    let (states, arcs) = size_to_keep(random, &automaton, &limited(&pairs));
+    let result = space_near(random, states, arcs);
+    let work = work_near(random, calls::intersect_work(result.room(), automaton.states.len() as u64));
+    if random.chance(15) {
+        pairs = faulty(random, &pairs, automaton.tapes, automaton.tapes);
     }
+    Request::Intersect { table: lent(random, &automaton), pairs: bytes_of(random, &pairs), result, work }
 }
 
 /// Whether two tables are not too wide for a product.
@@ -205,34 +186,22 @@ fn product_request(random: &mut Random) -> Request {
     Request::Product { first: lent(random, &first), second: lent(random, &second), result, work }
 }
 
-/// Pairs for a join: distinct tapes on each side, or any.
-pub fn join_pairs(random: &mut Random, first: usize, second: usize) -> Vec<(u64, u64)> {
-    if random.chance(8) {
-        return (0..random.below(6)).map(|_| (random.below(first + 2) as u64, random.below(second + 2) as u64)).collect();
-    }
-    let left = random.shuffled(&(1..=first as u64).collect::<Vec<u64>>());
-    let right = random.shuffled(&(1..=second as u64).collect::<Vec<u64>>());
-    let count = random.below(first.min(second).min(4) + 1);
-    left.into_iter().zip(right).take(count).collect()
-}
-
 /// A request for a join; the result's space is near what is needed.
 fn join_request(random: &mut Random) -> Request {
-    let (first, second) = two_tables(random);
-    let pairs = join_pairs(random, first.tapes, second.tapes);
-    let limit = limit(random);
+    let JoinCase { first, second, mut pairs } = join_case(random);
     let (states, arcs) = product_size(&first, &second);
     let product = space_near(random, states, arcs);
-    let usable = fit(&first, &second)
-        && pairs.iter().all(|&(i, j)| (1..=first.tapes as u64).contains(&i) && (1..=second.tapes as u64).contains(&j));
-    let (states, arcs) = match usable {
-        true => size_of(join(&first, &second, &tapes(&pairs), limit.min(64), Room::AMPLE, Room::AMPLE)),
+    let (states, arcs) = match fit(&first, &second) {
+        true => size_of(join(&first, &second, &limited(&pairs), Room::AMPLE, Room::AMPLE)),
         false => (3, 3),
     };
     let more = random.pick(&[0, 5, 100]);
     let result = space_near(random, states + more, arcs + more);
     let work = work_near(random, calls::join_work(product.room(), result.room()));
-    let request = JoinRequest { pairs, limit, product, result, work };
+    if random.chance(15) {
+        pairs = faulty(random, &pairs, first.tapes, second.tapes);
+    }
+    let request = JoinRequest { pairs: bytes_of(random, &pairs), product, result, work };
     Request::Join { first: lent(random, &first), second: lent(random, &second), request }
 }
 
@@ -384,26 +353,18 @@ pub fn path_request(random: &mut Random) -> Request {
     Request::Path { table, request: PathRequest { tuple, result, list, work } }
 }
 
-/// Pairs as bytes, a tape above 255 as 255; sometimes with a byte alone behind them, which is no pair.
-fn bytes_of_pairs(random: &mut Random, pairs: &[(u64, u64)]) -> Vec<u8> {
-    let mut bytes: Vec<u8> = pairs.iter().flat_map(|&(first, second)| [first.min(255) as u8, second.min(255) as u8]).collect();
-    if random.chance(15) {
-        bytes.push(random.below(10) as u8);
-    }
-    bytes
-}
-
-/// A request for a forecast.
+/// A request for a forecast, with limits that it does not read.
 pub fn forecast_request(random: &mut Random) -> Request {
-    let (automaton, mut pairs) = forecast_case(random);
+    let (automaton, tapes) = forecast_case(random);
+    let mut pairs = records_of(&tapes, &unread_limits(random, tapes.len()));
     match random.below(100) {
         0..=2 => pairs.clear(),
-        3..=10 => pairs = bad_pairs(random, &pairs, automaton.tapes),
+        3..=14 => pairs = faulty(random, &pairs, automaton.tapes, automaton.tapes),
         _ => {}
     }
     let length = near(random, FORECAST_BYTES * pairs.len());
     let work = work_near(random, calls::forecast_work(automaton.states.len() as u64));
-    let pairs = bytes_of_pairs(random, &pairs);
+    let pairs = bytes_of(random, &pairs);
     Request::Forecast { table: lent(random, &automaton), pairs, result: filled(random, length), work }
 }
 
@@ -459,7 +420,7 @@ fn large_request(random: &mut Random) -> Request {
             let arcs = corridor_arcs(words, corridor, random.pick(&[1, 2, 7, 8]), 1);
             let table = encode(&Automaton { tapes: 2, states, arcs });
             let work = work_near(random, calls::intersect_work(result.room(), table.states));
-            Request::Intersect { table, pairs: vec![(1, 2)], limit: random.pick(&[1, 2, 64]), result, work }
+            Request::Intersect { table, pairs: vec![1, 2, random.pick(&[1, 2, 64])], result, work }
         }
     }
 }

@@ -5,6 +5,7 @@
 use crate::automaton::{
     is_symbol, Arc, Automaton, Label, Room, State, MOST_ARCS, MOST_LABEL, MOST_STATES, MOST_TAPES, MOST_WEIGHT,
 };
+use crate::pairs::PairRecord;
 use crate::refusal::{refuse_if, Refusal};
 
 const COUNT: usize = 3;
@@ -194,27 +195,23 @@ pub fn refusal_line(refusal: Refusal) -> Vec<u8> {
     format!("refused{:>4}\n", refusal.number()).into_bytes()
 }
 
-/// A pair line of `agree`: the count, D and two tapes a pair.
-pub fn pair_line(pairs: &[(u64, u64)], limit: u64) -> Vec<u8> {
-    let mut text = number_field(pairs.len() as u64, COUNT) + &number_field(limit, COUNT);
-    for &(first, second) in pairs {
+/// A pair line of `agree`: the count, then two tapes and the limit of each pair.
+pub fn pair_line(records: &[PairRecord]) -> Vec<u8> {
+    let mut text = number_field(records.len() as u64, COUNT);
+    for &(first, second, limit) in records {
         text += &number_field(first, COUNT);
         text += &number_field(second, COUNT);
+        text += &number_field(limit, COUNT);
     }
     text += "\n";
     text.into_bytes()
 }
 
-/// Reads the pair line of `agree`: the pairs and D, judged by 1 and 2.
-pub fn read_pair_line(reader: &mut Reader) -> Result<(Vec<(u64, u64)>, u64), Refusal> {
-    let shortest = 2 * COUNT + 1;
+/// Reads the pair line of `agree`, judged by 1 and 2.
+pub fn read_pair_line(reader: &mut Reader) -> Result<Vec<PairRecord>, Refusal> {
+    let shortest = COUNT + 1;
     let count = parse_number(&reader.peek(shortest)?[..COUNT])? as usize;
-    let mut line = reader.line(shortest + 2 * COUNT * count)?;
+    let mut line = reader.line(shortest + 3 * COUNT * count)?;
     line.number(COUNT)?;
-    let limit = line.number(COUNT)?;
-    let mut pairs = Vec::new();
-    for _ in 0..count {
-        pairs.push((line.number(COUNT)?, line.number(COUNT)?));
-    }
-    Ok((pairs, limit))
+    (0..count).map(|_| Ok((line.number(COUNT)?, line.number(COUNT)?, line.number(COUNT)?))).collect()
 }

@@ -155,27 +155,27 @@ fn reading_and_writing() {
 
 #[test]
 fn order_of_keeping() {
-    let call = |table: &LentTable, pairs: &[(u64, u64)], limit, lent: &ResultSpace, bytes| {
-        let outcome = calls::intersect(table, pairs, limit, lent, &work(bytes));
+    let call = |table: &LentTable, pairs: &[u8], lent: &ResultSpace, bytes| {
+        let outcome = calls::intersect(table, pairs, lent, &work(bytes));
         check_bytes(&outcome, lent, bytes);
         answered(&outcome)
     };
     let (table, small, need) = (encode(&q()), space(1, 1), 320 + 16 + 128);
-    assert_eq!(call(&malformed(), &[(9, 9)], 65, &small, 0), Err(Refusal::Form));
-    assert_eq!(call(&table, &[(1, 1), (1, 3)], 65, &small, 0), Err(Refusal::Tape));
-    assert_eq!(call(&table, &[(1, 1)], 65, &small, 0), Err(Refusal::Pairs));
-    assert_eq!(call(&table, &[(1, 2)], 65, &small, 0), Err(Refusal::Limit));
-    assert_eq!(call(&table, &[(1, 2)], 1, &small, need - 1), Err(Refusal::Space));
-    assert_eq!(call(&table, &[(1, 2)], 1, &small, need), Err(Refusal::StatesFull));
-    assert_eq!(call(&table, &[(1, 2)], 1, &space(3, 1), 3 * 320 + 16 + 128), Err(Refusal::ArcsFull));
-    assert_eq!(call(&table, &[(1, 2)], 0, &space(3, 3), 9_999), Err(Refusal::Delay));
+    assert_eq!(call(&malformed(), &[9, 9, 65], &small, 0), Err(Refusal::Form));
+    assert_eq!(call(&table, &[1, 1, 65, 1, 3, 0], &small, 0), Err(Refusal::Tape));
+    assert_eq!(call(&table, &[1, 1, 65], &small, 0), Err(Refusal::Pairs));
+    assert_eq!(call(&table, &[1, 2, 65], &small, 0), Err(Refusal::Limit));
+    assert_eq!(call(&table, &[1, 2, 1], &small, need - 1), Err(Refusal::Space));
+    assert_eq!(call(&table, &[1, 2, 1], &small, need), Err(Refusal::StatesFull));
+    assert_eq!(call(&table, &[1, 2, 1], &space(3, 1), 3 * 320 + 16 + 128), Err(Refusal::ArcsFull));
+    assert_eq!(call(&table, &[1, 2, 0], &space(3, 3), 9_999), Err(Refusal::Delay));
     let kept = first_to_last(2, 3, &[(0, 1, 0, &["A", ""]), (1, 2, 0, &["", "A"])]);
-    assert_eq!(call(&table, &[(1, 2)], 1, &space(3, 2), 9_999), Ok(kept));
+    assert_eq!(call(&table, &[1, 2, 1], &space(3, 2), 9_999), Ok(kept));
     // four and five pairs
     let even = first_to_last(8, 2, &[(0, 1, 1, &["A"; 8])]);
-    let (eight, four) = (encode(&even), [(1, 2), (3, 4), (5, 6), (8, 7)]);
-    assert_eq!(call(&eight, &four, 64, &space(2, 1), 9_999), Ok(even));
-    assert_eq!(call(&eight, &[&four[..], &[(1, 2)]].concat(), 64, &space(2, 1), 9_999), Err(Refusal::Pairs));
+    let (eight, four) = (encode(&even), [1, 2, 64, 3, 4, 0, 5, 6, 1, 8, 7, 64]);
+    assert_eq!(call(&eight, &four, &space(2, 1), 9_999), Ok(even));
+    assert_eq!(call(&eight, &[&four[..], &[1, 2, 0]].concat(), &space(2, 1), 9_999), Err(Refusal::Pairs));
 }
 
 #[test]
@@ -204,9 +204,9 @@ fn order_of_a_product() {
 
 #[test]
 fn order_of_a_join() {
-    let call = |first: &LentTable, second: &LentTable, pairs: &[(u64, u64)], limit, spaces: [(usize, usize); 2], bytes| {
+    let call = |first: &LentTable, second: &LentTable, pairs: &[u8], spaces: [(usize, usize); 2], bytes| {
         let (product, result) = (space(spaces[0].0, spaces[0].1), space(spaces[1].0, spaces[1].1));
-        let request = JoinRequest { pairs: pairs.to_vec(), limit, product, result: result.clone(), work: work(bytes) };
+        let request = JoinRequest { pairs: pairs.to_vec(), product, result: result.clone(), work: work(bytes) };
         let outcome = calls::join(first, second, &request);
         check_bytes(&outcome, &result, bytes);
         assert_eq!(outcome.product.states.len(), STATE_BYTES * spaces[0].0 + 3);
@@ -216,23 +216,23 @@ fn order_of_a_join() {
     let one = encode(&first_to_last(1, 2, &[(0, 1, 1, &["A"])]));
     let slow = encode(&first_to_last(1, 3, &[(0, 1, 1, &[""]), (1, 2, 1, &["A"])]));
     let heavy = encode(&table(1, &[(Some(0), Some(999_999_999))], &[]));
-    assert_eq!(call(&malformed(), &one, &[(2, 2)], 65, none, 0), Err(Refusal::Form));
-    assert_eq!(call(&one, &malformed(), &[(2, 2)], 65, none, 0), Err(Refusal::Form));
-    assert_eq!(call(&encode(&Automaton::empty(8)), &one, &[(9, 2)], 65, none, 0), Err(Refusal::Width));
-    assert_eq!(call(&one, &one, &[(1, 1), (1, 2)], 65, none, 0), Err(Refusal::Tape));
-    assert_eq!(call(&one, &one, &[(1, 1), (1, 1)], 65, none, 0), Err(Refusal::Pairs));
-    assert_eq!(call(&one, &one, &[(1, 1)], 65, [(1, 1), (1, 1)], 0), Err(Refusal::Limit));
-    assert_eq!(call(&one, &one, &[(1, 1)], 0, [(1, 2), (3, 4)], 16 + 32 + 960 + 64 + 64 - 1), Err(Refusal::Space));
-    assert_eq!(call(&one, &one, &[(1, 1)], 0, [(1, 2), (3, 4)], 16 + 32 + 960 + 64 + 64), Err(Refusal::StatesFull));
-    assert_eq!(call(&one, &one, &[(1, 1)], 0, [(2, 0), (0, 0)], 999), Err(Refusal::ArcsFull));
-    assert_eq!(call(&heavy, &one, &[(1, 1)], 0, [(2, 1), (0, 0)], 9_999), Err(Refusal::Weight));
-    assert_eq!(call(&one, &one, &[(1, 1)], 0, [(2, 1), (1, 0)], 9_999), Err(Refusal::StatesFull));
-    assert_eq!(call(&one, &one, &[(1, 1)], 0, [(2, 1), (2, 0)], 9_999), Err(Refusal::ArcsFull));
-    assert_eq!(call(&one, &slow, &[(1, 1)], 0, [(9, 9), (9, 9)], 9_999), Err(Refusal::Delay));
+    assert_eq!(call(&malformed(), &one, &[2, 2, 65], none, 0), Err(Refusal::Form));
+    assert_eq!(call(&one, &malformed(), &[2, 2, 65], none, 0), Err(Refusal::Form));
+    assert_eq!(call(&encode(&Automaton::empty(8)), &one, &[9, 2, 65], none, 0), Err(Refusal::Width));
+    assert_eq!(call(&one, &one, &[1, 1, 65, 1, 2, 65], none, 0), Err(Refusal::Tape));
+    assert_eq!(call(&one, &one, &[1, 1, 65, 1, 1, 65], none, 0), Err(Refusal::Pairs));
+    assert_eq!(call(&one, &one, &[1, 1, 65], [(1, 1), (1, 1)], 0), Err(Refusal::Limit));
+    assert_eq!(call(&one, &one, &[1, 1, 0], [(1, 2), (3, 4)], 16 + 32 + 960 + 64 + 64 - 1), Err(Refusal::Space));
+    assert_eq!(call(&one, &one, &[1, 1, 0], [(1, 2), (3, 4)], 16 + 32 + 960 + 64 + 64), Err(Refusal::StatesFull));
+    assert_eq!(call(&one, &one, &[1, 1, 0], [(2, 0), (0, 0)], 999), Err(Refusal::ArcsFull));
+    assert_eq!(call(&heavy, &one, &[1, 1, 0], [(2, 1), (0, 0)], 9_999), Err(Refusal::Weight));
+    assert_eq!(call(&one, &one, &[1, 1, 0], [(2, 1), (1, 0)], 9_999), Err(Refusal::StatesFull));
+    assert_eq!(call(&one, &one, &[1, 1, 0], [(2, 1), (2, 0)], 9_999), Err(Refusal::ArcsFull));
+    assert_eq!(call(&one, &slow, &[1, 1, 0], [(9, 9), (9, 9)], 9_999), Err(Refusal::Delay));
     let met = first_to_last(1, 3, &[(0, 1, 2, &["A"]), (1, 2, 1, &[""])]);
-    assert_eq!(call(&one, &slow, &[(1, 1)], 1, [(9, 9), (9, 9)], 9_999), Ok(met));
+    assert_eq!(call(&one, &slow, &[1, 1, 1], [(9, 9), (9, 9)], 9_999), Ok(met));
     let both = first_to_last(2, 3, &[(0, 1, 2, &["A", ""]), (1, 2, 1, &["", "A"])]);
-    assert_eq!(call(&one, &slow, &[], 0, [(9, 9), (9, 9)], 9_999), Ok(both));
+    assert_eq!(call(&one, &slow, &[], [(9, 9), (9, 9)], 9_999), Ok(both));
 }
 
 #[test]
@@ -321,23 +321,28 @@ fn order_of_a_forecast() {
         outcome.answer.map(|told| outcome.result[..told as usize].to_vec())
     };
     let table = encode(&p());
-    assert_eq!(call(&malformed(), &[9, 9], 0, 0), Err(Refusal::Form));
-    assert_eq!(call(&LentTable { states: 4, ..table.clone() }, &[9, 9], 0, 0), Err(Refusal::Short));
-    assert_eq!(call(&with_arc_byte(0, 3), &[9, 9], 0, 0), Err(Refusal::State));
-    assert_eq!(call(&table, &[1, 1, 2, 2, 3, 3, 1, 2, 1, 2, 1, 4], 0, 0), Err(Refusal::Tape));
-    assert_eq!(call(&table, &[1, 1, 0, 2], 0, 0), Err(Refusal::Tape));
-    assert_eq!(call(&table, &[1, 2, 2, 3], 0, 0), Err(Refusal::Pairs));
-    assert_eq!(call(&table, &[1, 1], 0, 0), Err(Refusal::Pairs));
-    assert_eq!(call(&table, &[1, 3], 6, 191), Err(Refusal::Space));
-    assert_eq!(call(&table, &[1, 3], 5, 192), Err(Refusal::Space));
-    assert_eq!(call(&table, &[1, 3], 6, 192), Ok(vec![1, 0, 2, 0, 39, 0]));
-    assert_eq!(call(&table, &[1, 2], 20, 999), Ok(vec![1, 0, 2, 0, 183, 0]));
-    // no pairs ask for work, too; a byte alone is no pair
+    assert_eq!(call(&malformed(), &[9, 9, 9], 0, 0), Err(Refusal::Form));
+    assert_eq!(call(&LentTable { states: 4, ..table.clone() }, &[9, 9, 9], 0, 0), Err(Refusal::Short));
+    assert_eq!(call(&with_arc_byte(0, 3), &[9, 9, 9], 0, 0), Err(Refusal::State));
+    assert_eq!(call(&table, &[1, 1, 0, 2, 2, 0, 3, 3, 0, 1, 2, 0, 1, 2, 0, 1, 4, 0], 0, 0), Err(Refusal::Tape));
+    assert_eq!(call(&table, &[1, 1, 65, 0, 2, 65], 0, 0), Err(Refusal::Tape));
+    assert_eq!(call(&table, &[1, 2, 65, 2, 3, 65], 0, 0), Err(Refusal::Pairs));
+    assert_eq!(call(&table, &[1, 1, 0], 0, 0), Err(Refusal::Pairs));
+    assert_eq!(call(&table, &[1, 3, 65], 6, 191), Err(Refusal::Space));
+    assert_eq!(call(&table, &[1, 3, 65], 5, 192), Err(Refusal::Space));
+    // whatever the limit is
+    for limit in 0..=255 {
+        assert_eq!(call(&table, &[1, 3, limit], 6, 192), Ok(vec![1, 0, 2, 0, 39, 0]));
+        assert_eq!(call(&table, &[1, 2, limit], 20, 999), Ok(vec![1, 0, 2, 0, 183, 0]));
+    }
+    // no pairs ask for work, too; one or two last bytes are no pair
     assert_eq!(call(&table, &[], 0, 191), Err(Refusal::Space));
     assert_eq!(call(&table, &[], 0, 192), Ok(Vec::new()));
     assert_eq!(call(&table, &[9], 3, 192), Ok(Vec::new()));
-    assert_eq!(call(&table, &[1, 3, 1], 6, 192), Ok(vec![1, 0, 2, 0, 39, 0]));
-    assert_eq!(call(&encode(&Automaton::empty(2)), &[2, 1], 6, 0), Ok(vec![1, 0, 0, 0, 0, 0]));
+    assert_eq!(call(&table, &[9, 9], 3, 192), Ok(Vec::new()));
+    assert_eq!(call(&table, &[1, 3, 0, 1], 6, 192), Ok(vec![1, 0, 2, 0, 39, 0]));
+    assert_eq!(call(&table, &[1, 3, 0, 1, 2], 6, 192), Ok(vec![1, 0, 2, 0, 39, 0]));
+    assert_eq!(call(&encode(&Automaton::empty(2)), &[2, 1, 0], 6, 0), Ok(vec![1, 0, 0, 0, 0, 0]));
 }
 
 #[test]
@@ -348,14 +353,14 @@ fn forecasts_of_four_pairs() {
     rows.push((0, 0, 0, &["", "", "A", "", "", "", "", ""]));
     rows.push((32, 32, 0, &["", "", "", "A", "", "", "", ""]));
     let table = encode(&first_to_last(8, 33, &rows));
-    let outcome = calls::forecast(&table, &[3, 4, 8, 7, 5, 6, 2, 1], &work(26), &work(64 * 33));
+    let outcome = calls::forecast(&table, &[3, 4, 0, 8, 7, 64, 5, 6, 65, 2, 1, 255], &work(26), &work(64 * 33));
     assert_eq!(outcome.answer, Ok(24));
     assert_eq!(outcome.result[..6], [3, 0, 0, 0, 0, 0]);
     assert_eq!(outcome.result[6..12], [2, 0, 0, 1, 0, 0]);
     assert_eq!(outcome.result[12..18], [1, 0, 0, 1, 0x21, 0x42]);
     assert_eq!(outcome.result[18..24], [1, 0, 0, 0, 33, 0]);
     assert_eq!(outcome.result[24..], [0xa5; 2]);
-    let five = calls::forecast(&table, &[3, 4, 8, 7, 5, 6, 2, 1, 1, 2], &work(30), &work(64 * 33));
+    let five = calls::forecast(&table, &[3, 4, 0, 8, 7, 0, 5, 6, 0, 2, 1, 0, 1, 2, 0], &work(30), &work(64 * 33));
     assert_eq!((five.answer, five.result), (Err(Refusal::Pairs), work(30)));
 }
 
@@ -439,7 +444,7 @@ fn random_requests_leave_every_byte_as_stated() {
                 assert_eq!(outcome.work, vec![0; work.len()]);
                 let told = outcome.answer.map_or(0, |told| told as usize);
                 assert_eq!(outcome.result[told..], result[told..]);
-                assert!(outcome.answer.is_err() || told == 6 * (pairs.len() / 2));
+                assert!(outcome.answer.is_err() || told == 6 * (pairs.len() / 3));
                 assert!(outcome.result[..told].chunks(6).all(is_forecast_record));
                 count(outcome.answer.err());
             }

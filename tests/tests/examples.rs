@@ -9,6 +9,7 @@ use tomchoen_tests::agree::{agree, agree_table};
 use tomchoen_tests::automaton::{Automaton, Room};
 use tomchoen_tests::columns::drop_tapes;
 use tomchoen_tests::join::join;
+use tomchoen_tests::pairs::PairRecord;
 use tomchoen_tests::product::product;
 use tomchoen_tests::sample::{first_to_last, p, table, tuple};
 use tomchoen_tests::text::{pair_line, read, write};
@@ -19,13 +20,23 @@ fn file(name: &str) -> Vec<u8> {
     fs::read(&path).unwrap_or_else(|error| panic!("{}: {error}", path.display()))
 }
 
-/// Checks that an example's input is this table with these pairs, and that `agree` answers with its output.
-fn check(name: &str, pairs: &[(u64, u64)], limit: u64, automaton: &Automaton) {
+/// Checks that an example's input is this table with these pairs and limits, and that `agree` answers with its output.
+fn check(name: &str, pairs: &[PairRecord], automaton: &Automaton) {
     let input = file(&format!("{name}.in"));
-    let construction = [pair_line(pairs, limit), write(automaton)].concat();
+    let construction = [pair_line(pairs), write(automaton)].concat();
     assert_eq!(String::from_utf8_lossy(&input), String::from_utf8_lossy(&construction), "{name}.in");
     let output = file(&format!("{name}.out"));
     assert_eq!(String::from_utf8_lossy(&agree(&input)), String::from_utf8_lossy(&output), "{name}.out");
+}
+
+/// What `agree` writes for this table with these pairs and limits.
+fn written(pairs: &[PairRecord], automaton: &Automaton) -> String {
+    String::from_utf8(agree(&[pair_line(pairs), write(automaton)].concat())).unwrap()
+}
+
+/// The text of an example's output.
+fn output_of(name: &str) -> String {
+    String::from_utf8(file(&format!("{name}.out"))).unwrap()
 }
 
 /// The accounts of an example's output with at most so many arcs; no two paths are alike.
@@ -117,7 +128,10 @@ fn triples(most: usize) -> Vec<(usize, usize, usize)> {
 
 #[test]
 fn figure_1_of_001() {
-    check("001-figure-1", &[(1, 2), (3, 4)], 2, &figure_1());
+    check("001-figure-1", &[(1, 2, 2), (3, 4, 2)], &figure_1());
+    assert_eq!(written(&[(1, 2, 1), (3, 4, 2)], &figure_1()), output_of("001-figure-1"));
+    assert_eq!(written(&[(1, 2, 0), (3, 4, 64)], &figure_1()), "refused  10\n");
+    assert_eq!(written(&[(1, 2, 64), (3, 4, 1)], &figure_1()), "refused  10\n");
     let stated = (0..10).map(|i| {
         let (left, right) = ("A".repeat(i + 1) + "BA", "CD".repeat(i) + "CC");
         account(&[left.clone(), left, right.clone(), right], 14 + i)
@@ -127,7 +141,7 @@ fn figure_1_of_001() {
 
 #[test]
 fn figure_2_of_001_in_two_calls() {
-    check("001-figure-2-first", &[(1, 2)], 1, &figure_2());
+    check("001-figure-2-first", &[(1, 2, 1)], &figure_2());
     let most = 5;
     let stated = triples(most).into_iter().map(|(i, j, h)| {
         let left = "A".repeat(i + j + 1) + &"BA".repeat(h);
@@ -136,14 +150,13 @@ fn figure_2_of_001_in_two_calls() {
     });
     assert_eq!(accounts_of("001-figure-2-first", most + 3), stated.collect());
     let between = read(&file("001-figure-2-first.out"), Room::AMPLE).unwrap();
-    check("001-figure-2-second", &[(3, 4)], 2, &between);
+    check("001-figure-2-second", &[(3, 4, 2)], &between);
     let stated = (0..10).map(|i| {
         let (left, right) = ("A".repeat(i + 1), "CD".repeat(i) + "C");
         account(&[left.clone(), left, right.clone(), right], 10 + i)
     });
     assert_eq!(accounts_of("001-figure-2-second", 12), stated.collect());
-    let at_once = agree(&[pair_line(&[(1, 2), (3, 4)], 2), write(&figure_2())].concat());
-    assert_eq!(String::from_utf8_lossy(&at_once), String::from_utf8_lossy(&file("001-figure-2-second.out")));
+    assert_eq!(written(&[(1, 2, 1), (3, 4, 2)], &figure_2()), output_of("001-figure-2-second"));
 }
 
 #[test]
@@ -155,8 +168,8 @@ fn footnote_10_of_001() {
         (2, 2, 2, &["B", "", "C", "", ""]),
     ];
     let automaton = first_to_last(5, 3, rows);
-    check("001-footnote-10-both", &[(2, 3), (4, 5)], 64, &automaton);
-    check("001-footnote-10-one", &[(2, 3)], 8, &automaton);
+    check("001-footnote-10-both", &[(2, 3, 64), (4, 5, 64)], &automaton);
+    check("001-footnote-10-one", &[(2, 3, 8)], &automaton);
     assert!(accounts_of("001-footnote-10-both", 20).is_empty());
     assert_eq!(file("001-footnote-10-one.out"), b"refused  10\n");
 }
@@ -186,7 +199,7 @@ fn multiple_of_four() -> Automaton {
 #[test]
 fn intersection_of_002() {
     let both = product(&a_baa(), &multiple_of_four(), Room::AMPLE).unwrap();
-    check("002-intersection", &[(1, 2)], 0, &both);
+    check("002-intersection", &[(1, 2, 0)], &both);
     let stated = [1, 5, 9].map(|k| {
         let word = "A".to_string() + &"BAA".repeat(k);
         account(&[word.clone(), word], 1 + 3 * k)
@@ -217,7 +230,7 @@ fn marked_bc() -> Automaton {
 #[test]
 fn shuffle_of_003() {
     let both = product(&marked_ab(), &marked_bc(), Room::AMPLE).unwrap();
-    check("003-shuffle", &[(1, 3)], 0, &both);
+    check("003-shuffle", &[(1, 3, 0)], &both);
     let found = accounts_of("003-shuffle", 10);
     assert_eq!(found.len(), 6);
     assert!(found.iter().all(|(strings, weight)| strings[0] == strings[2] && *weight == 0));
@@ -265,11 +278,14 @@ fn second_transducer() -> Automaton {
 fn transducer_intersection_of_004() {
     let (first, second) = (first_transducer(), second_transducer());
     let both = product(&first, &second, Room::AMPLE).unwrap();
-    check("004-section-5", &[(1, 3), (2, 4)], 2, &both);
+    check("004-section-5", &[(1, 3, 2), (2, 4, 2)], &both);
+    assert_eq!(written(&[(2, 4, 1), (1, 3, 2)], &both), output_of("004-section-5"));
+    assert_eq!(written(&[(1, 3, 1), (2, 4, 64)], &both), "refused  10\n");
+    assert_eq!(written(&[(1, 3, 64), (2, 4, 0)], &both), "refused  10\n");
     let words = ["ABCABC".to_string(), "ABCABCA".to_string()];
     let doubled = [words.clone(), words.clone()].concat();
     assert_eq!(accounts_of("004-section-5", 40), [account(&doubled, 10 + 900)].into_iter().collect());
-    let joined = join(&first, &second, &[(1, 1), (2, 2)], 2, Room::AMPLE, Room::AMPLE).unwrap();
+    let joined = join(&first, &second, &[((1, 1), 2), ((2, 2), 1)], Room::AMPLE, Room::AMPLE).unwrap();
     assert_eq!(account_set(&joined, 40), [account(&words, 10 + 900)].into_iter().collect());
     let dropped = drop_tapes(&read(&file("004-section-5.out"), Room::AMPLE).unwrap(), 0b1100, Room::AMPLE).unwrap();
     assert_eq!(String::from_utf8_lossy(&write(&joined)), String::from_utf8_lossy(&write(&dropped)));
@@ -277,11 +293,11 @@ fn transducer_intersection_of_004() {
 
 #[test]
 fn examples_1_to_3_of_004() {
-    check("004-example-1", &[(1, 3)], 1, &p());
+    check("004-example-1", &[(1, 3, 1)], &p());
     assert_eq!(accounts_of("004-example-1", 20), [(tuple(&["AB", "XYZ", "AB"]), 6)].into_iter().collect());
-    check("004-example-2", &[(1, 2)], 2, &first_to_last(3, 2, &[(0, 0, 1, &["A", "", "X"]), (0, 1, 2, &["", "A", "Y"])]));
+    check("004-example-2", &[(1, 2, 2)], &first_to_last(3, 2, &[(0, 0, 1, &["A", "", "X"]), (0, 1, 2, &["", "A", "Y"])]));
     assert_eq!(accounts_of("004-example-2", 20), [(tuple(&["A", "A", "XY"]), 3)].into_iter().collect());
     let third = first_to_last(3, 2, &[(0, 0, 1, &["A", "", "X"]), (0, 1, 2, &["A", "A", "Y"]), (1, 1, 3, &["", "A", "Z"])]);
-    check("004-example-3", &[(1, 2)], 3, &third);
+    check("004-example-3", &[(1, 2, 3)], &third);
     assert_eq!(file("004-example-3.out"), b"refused  10\n");
 }

@@ -3,24 +3,31 @@
 use std::collections::{BTreeMap, BTreeSet};
 use tomchoen_tests::accounts::{accounts, path_count, Account};
 use tomchoen_tests::automaton::{Arc, Automaton, Room, State};
-use tomchoen_tests::closing::{arc_delay, closing_delays, Closing};
+use tomchoen_tests::closing::{arc_delay, closing_delays};
 use tomchoen_tests::columns::{drop_tapes, project, union};
 use tomchoen_tests::forecast::{forecast, Forecast};
 use tomchoen_tests::forecast_cases::forecast_case;
-use tomchoen_tests::generate::{random_pairs, small_case, Case};
+use tomchoen_tests::generate::{small_case, Case};
 use tomchoen_tests::intersect::intersect;
 use tomchoen_tests::join::join;
 use tomchoen_tests::lookup::lookup;
-use tomchoen_tests::pairs::Pair;
+use tomchoen_tests::pair_lists::random_pairs;
+use tomchoen_tests::pairs::{limited, pair_of, LimitedPair, Pair, MOST_LIMIT};
 use tomchoen_tests::product::product;
 use tomchoen_tests::random::Random;
 use tomchoen_tests::refusal::Refusal;
 use tomchoen_tests::sample::table;
 use tomchoen_tests::text::{read, write};
+use tomchoen_tests::word_for_word::{keep_with_own_limits, relaxed};
 
-/// The pairs of a case as tape numbers.
-fn pairs_of(case: &Case) -> Vec<Pair> {
-    case.pairs.iter().map(|&(first, second)| (first as usize, second as usize)).collect()
+/// The pairs of a case with their limits.
+fn pairs_of(case: &Case) -> Vec<LimitedPair> {
+    limited(&case.pairs)
+}
+
+/// Pairs with the greatest limit each.
+fn at_most_limit(pairs: &[Pair]) -> Vec<LimitedPair> {
+    pairs.iter().map(|&pair| (pair, MOST_LIMIT)).collect()
 }
 
 /// The greatest number of arcs, at most `most`, for which a table's paths are few.
@@ -28,124 +35,14 @@ fn affordable(automaton: &Automaton, most: usize) -> usize {
     (1..=most).rev().find(|&arcs| path_count(automaton, arcs, 1_500) < 1_500).unwrap_or(0)
 }
 
-/// Closing delays by rounds of relaxation: as many rounds as states find the delays, as many again what can still be improved.
-fn relaxed(automaton: &Automaton, pair: Pair) -> Vec<Option<Closing>> {
-    let count = automaton.states.len();
-    let mut least: Vec<Option<i64>> = automaton.states.iter().map(|state| state.final_weight.map(|_| 0)).collect();
-    let mut greatest = least.clone();
-    let (mut least_endless, mut greatest_endless) = (vec![false; count], vec![false; count]);
-    for round in 0..2 * count {
-        for arc in &automaton.arcs {
-            let delay = arc_delay(&arc.labels, pair);
-            if let (Some(low), Some(high)) = (least[arc.target], greatest[arc.target]) {
-                if least[arc.source].is_none_or(|value| low + delay < value) {
-                    least[arc.source] = Some(low + delay);
-                    least_endless[arc.source] |= round >= count;
-                }
-                if greatest[arc.source].is_none_or(|value| high + delay > value) {
-                    greatest[arc.source] = Some(high + delay);
-                    greatest_endless[arc.source] |= round >= count;
-                }
-            }
-            least_endless[arc.source] |= least_endless[arc.target];
-            greatest_endless[arc.source] |= greatest_endless[arc.target];
-        }
-    }
-    let closing = |state: usize| {
-        let (low, high) = (least[state]?, greatest[state]?);
-        Some(Closing { least: (!least_endless[state]).then_some(low), greatest: (!greatest_endless[state]).then_some(high) })
-    };
-    (0..count).map(closing).collect()
-}
-
 #[test]
 fn closing_delays_by_relaxation() {
     for seed in 0..3_000 {
         let case = small_case(&mut Random::new(seed));
-        for pair in pairs_of(&case) {
+        for (pair, _) in pairs_of(&case) {
             assert_eq!(closing_delays(&case.automaton, pair), relaxed(&case.automaton, pair), "seed {seed}");
         }
     }
-}
-
-/// What is left of a pair's two tapes.
-type Left = (Vec<u8>, Vec<u8>);
-
-/// A configuration as document 01 words it: a state and, for each pair, what is left of its two tapes.
-type Listed = (usize, Vec<Left>);
-
-/// Keeping word for word: a list of configurations in the order first reached, searched from its start.
-fn listed(automaton: &Automaton, pairs: &[Pair], limit: usize, room: Room) -> Result<Automaton, Refusal> {
-    let closings: Vec<Vec<Option<Closing>>> = pairs.iter().map(|&pair| relaxed(automaton, pair)).collect();
-    let coaccessible = automaton.coaccessible();
-    let delay = |left: &Left| left.0.len() as i64 - left.1.len() as i64;
-    let hopeful = |config: &Listed| {
-        let admits = |(left, closing): (&Left, &Vec<Option<Closing>>)| closing[config.0].unwrap().admits(delay(left));
-        coaccessible[config.0] && config.1.iter().zip(&closings).all(admits)
-    };
-    let mut reached: Vec<Listed> = Vec::new();
-    for (state, record) in automaton.states.iter().enumerate() {
-        let config = (state, vec![(Vec::new(), Vec::new()); pairs.len()]);
-        if record.initial.is_some() && hopeful(&config) {
-            reached.push(config);
-        }
-    }
-    let mut arcs: Vec<(usize, usize, usize)> = Vec::new();
-    let mut exceeded = false;
-    let mut taken = 0;
-    while taken < reached.len() && reached.len() as u64 <= room.usable_states() {
-        let state = reached[taken].0;
-        for (number, arc) in automaton.arcs.iter().enumerate().filter(|(_, arc)| arc.source == state) {
-            let mut config: Listed = (arc.target, reached[taken].1.clone());
-            for (left, pair) in config.1.iter_mut().zip(pairs) {
-                left.0.extend(&arc.labels[pair.0 - 1]);
-                left.1.extend(&arc.labels[pair.1 - 1]);
-                while !left.0.is_empty() && !left.1.is_empty() && left.0[0] == left.1[0] {
-                    left.0.remove(0);
-                    left.1.remove(0);
-                }
-            }
-            let compatible = config.1.iter().all(|left| left.0.is_empty() || left.1.is_empty());
-            if !compatible || !hopeful(&config) {
-                continue;
-            }
-            if config.1.iter().any(|left| left.0.len() > limit || left.1.len() > limit) {
-                exceeded = true;
-                continue;
-            }
-            let found = reached.iter().position(|known| *known == config);
-            arcs.push((taken, number, found.unwrap_or(reached.len())));
-            if found.is_none() {
-                reached.push(config);
-            }
-        }
-        taken += 1;
-    }
-    if reached.len() as u64 > room.usable_states() {
-        return Err(Refusal::StatesFull);
-    }
-    if arcs.len() as u64 > room.usable_arcs() {
-        return Err(Refusal::ArcsFull);
-    }
-    if exceeded {
-        return Err(Refusal::Delay);
-    }
-    let even = |config: &Listed| config.1.iter().all(|left| left.0.is_empty() && left.1.is_empty());
-    let record = |config: &Listed| if even(config) { automaton.states[config.0] } else { State::default() };
-    let mut kept: Vec<bool> = reached.iter().map(|config| record(config).final_weight.is_some()).collect();
-    for _ in 0..reached.len() {
-        for &(source, _, target) in &arcs {
-            kept[source] |= kept[target];
-        }
-    }
-    let rank = |node: usize| kept[..node].iter().filter(|&&kept| kept).count();
-    let built = arcs.iter().filter(|arc| kept[arc.0] && kept[arc.2]).map(|&(source, number, target)| Arc {
-        source: rank(source),
-        target: rank(target),
-        ..automaton.arcs[number].clone()
-    });
-    let states = reached.iter().enumerate().filter(|(node, _)| kept[*node]).map(|(_, config)| record(config)).collect();
-    Ok(Automaton { tapes: automaton.tapes, states, arcs: built.collect() })
 }
 
 #[test]
@@ -155,8 +52,8 @@ fn keeping_word_for_word() {
         let case = small_case(&mut random);
         let room = Room { states: random.pick(&[0, 1, 3, 8, 20, 64, 200]), arcs: random.pick(&[0, 2, 8, 30, 200, 512]) };
         let pairs = pairs_of(&case);
-        let ours = intersect(&case.automaton, &pairs, case.limit, room);
-        assert_eq!(ours, listed(&case.automaton, &pairs, case.limit as usize, room), "seed {seed}");
+        let ours = intersect(&case.automaton, &pairs, room);
+        assert_eq!(ours, keep_with_own_limits(&case.automaton, &pairs, room), "seed {seed}");
     }
 }
 
@@ -166,9 +63,10 @@ fn keeping_keeps_the_accounts_that_agree() {
     for seed in 0..3_000 {
         let case = small_case(&mut Random::new(seed));
         let pairs = pairs_of(&case);
-        let Ok(kept) = intersect(&case.automaton, &pairs, case.limit, Room::AMPLE) else { continue };
+        let Ok(kept) = intersect(&case.automaton, &pairs, Room::AMPLE) else { continue };
         let most = affordable(&case.automaton, 7);
-        let agrees = |account: &Account| pairs.iter().all(|&(first, second)| account.0[first - 1] == account.0[second - 1]);
+        let equal = |account: &Account, (first, second): Pair| account.0[first - 1] == account.0[second - 1];
+        let agrees = |account: &Account| pairs.iter().all(|&(pair, _)| equal(account, pair));
         let expected: Vec<Account> = accounts(&case.automaton, most).into_iter().filter(agrees).collect();
         kept_some += usize::from(!expected.is_empty());
         assert_eq!(accounts(&kept, most), expected, "seed {seed}");
@@ -180,21 +78,9 @@ fn keeping_keeps_the_accounts_that_agree() {
 fn results_are_trimmed() {
     for seed in 0..2_000 {
         let case = small_case(&mut Random::new(seed));
-        let Ok(kept) = intersect(&case.automaton, &pairs_of(&case), case.limit, Room::AMPLE) else { continue };
+        let Ok(kept) = intersect(&case.automaton, &pairs_of(&case), Room::AMPLE) else { continue };
         assert!(kept.coaccessible().iter().all(|&marked| marked), "seed {seed}");
-        assert_eq!(intersect(&kept, &[], 0, Room::AMPLE), Ok(kept), "seed {seed}");
-    }
-}
-
-#[test]
-fn given_again() {
-    for seed in 0..2_000 {
-        let mut random = Random::new(seed);
-        let case = small_case(&mut random);
-        let room = Room { states: random.pick(&[4, 20, 64]), arcs: random.pick(&[8, 60, 512]) };
-        let Ok(kept) = intersect(&case.automaton, &pairs_of(&case), case.limit, room) else { continue };
-        let limit = random.range(case.limit as usize, 64) as u64;
-        assert_eq!(intersect(&case.automaton, &pairs_of(&case), limit, Room::AMPLE), Ok(kept), "seed {seed}");
+        assert_eq!(intersect(&kept, &[], Room::AMPLE), Ok(kept), "seed {seed}");
     }
 }
 
@@ -327,7 +213,7 @@ fn a_join_gives_the_meetings() {
     for seed in 0..1_500 {
         let mut random = Random::new(seed);
         let (first, second, pairs) = tables_to_join(&mut random);
-        let Ok(joined) = join(&first, &second, &pairs, 64, Room::AMPLE, Room::AMPLE) else { continue };
+        let Ok(joined) = join(&first, &second, &at_most_limit(&pairs), Room::AMPLE, Room::AMPLE) else { continue };
         let most = affordable(&product(&first, &second, Room::AMPLE).unwrap(), 5);
         let meets = |account: &Account| pairs.iter().all(|&(i, j)| account.0[i - 1] == account.0[first.tapes + j - 1]);
         let shorten = |account: Account| {
@@ -347,9 +233,9 @@ fn a_join_step_by_step() {
     for seed in 0..1_500 {
         let mut random = Random::new(seed);
         let (first, second, pairs) = tables_to_join(&mut random);
-        let Ok(joined) = join(&first, &second, &pairs, 64, Room::AMPLE, Room::AMPLE) else { continue };
+        let Ok(joined) = join(&first, &second, &at_most_limit(&pairs), Room::AMPLE, Room::AMPLE) else { continue };
         let at: Vec<Pair> = pairs.iter().map(|&(i, j)| (i, first.tapes + j)).collect();
-        let kept = listed(&listed_product(&first, &second), &at, 64, Room::AMPLE).unwrap();
+        let kept = keep_with_own_limits(&listed_product(&first, &second), &at_most_limit(&at), Room::AMPLE).unwrap();
         let left: Vec<usize> = (1..=kept.tapes).filter(|&tape| !at.iter().any(|pair| pair.1 == tape)).collect();
         assert_eq!(text(&joined), chosen_text(&kept, &left), "seed {seed}");
         joins += usize::from(!pairs.is_empty() && !joined.arcs.is_empty());
@@ -472,10 +358,9 @@ fn some_pairs_first() {
     for seed in 0..1_500 {
         let mut random = Random::new(seed);
         let case = small_case(&mut random);
-        let all: Vec<Pair> =
-            random_pairs(&mut random, case.automaton.tapes).iter().map(|&(i, j)| (i as usize, j as usize)).collect();
+        let all: Vec<Pair> = random_pairs(&mut random, case.automaton.tapes).into_iter().map(pair_of).collect();
         let (one, rest) = all.split_at(random.below(all.len() + 1));
-        let keep = |automaton: &Automaton, pairs: &[Pair]| intersect(automaton, pairs, 64, Room::AMPLE);
+        let keep = |automaton: &Automaton, pairs: &[Pair]| intersect(automaton, &at_most_limit(pairs), Room::AMPLE);
         let (Ok(at_once), Ok(first)) = (keep(&case.automaton, &all), keep(&case.automaton, one)) else { continue };
         let Ok(then) = keep(&first, rest) else { continue };
         let most = affordable(&case.automaton, 6);
@@ -574,7 +459,7 @@ fn built_tables_in_the_order_of_request_2_2() {
         let mut random = Random::new(seed);
         let case = small_case(&mut random);
         let automaton = told_by_weights(&mut random, &case.automaton, 1);
-        let Ok(kept) = intersect(&automaton, &pairs_of(&case), case.limit, Room::AMPLE) else { continue };
+        let Ok(kept) = intersect(&automaton, &pairs_of(&case), Room::AMPLE) else { continue };
         others += check_order(&mut random, &kept, |weight| weight, seed);
     }
     assert!(others > 2_000, "only {others} other orders");
@@ -594,7 +479,7 @@ fn products_and_joins_in_the_order_of_request_2_2() {
         let (first, second, pairs) = tables_to_join(&mut random);
         let (first, second) = (told_by_weights(&mut random, &first, 100), told_by_weights(&mut random, &second, 1));
         others += check_order(&mut random, &product(&first, &second, Room::AMPLE).unwrap(), key, seed);
-        if let Ok(joined) = join(&first, &second, &pairs, 64, Room::AMPLE, Room::AMPLE) {
+        if let Ok(joined) = join(&first, &second, &at_most_limit(&pairs), Room::AMPLE, Room::AMPLE) {
             joins += check_order(&mut random, &joined, key, seed);
         }
     }
@@ -721,7 +606,7 @@ fn small_forecast_case(random: &mut Random) -> (Automaton, Vec<Pair>) {
     loop {
         let (automaton, pairs) = forecast_case(random);
         if automaton.states.len() <= 40 && automaton.arcs.len() <= 50 {
-            return (automaton, pairs.iter().map(|&(first, second)| (first as usize, second as usize)).collect());
+            return (automaton, pairs.into_iter().map(pair_of).collect());
         }
     }
 }
@@ -790,7 +675,7 @@ fn what_is_forecast_suffices_for_a_build() {
                 continue;
             };
             let arcs = states * automaton.arcs.len() as u64;
-            let kept = intersect(&automaton, &[pair], limit, Room { states, arcs });
+            let kept = intersect(&automaton, &[(pair, limit)], Room { states, arcs });
             assert!(kept.is_ok() || (kept == Err(Refusal::ArcsFull) && arcs > 8_192), "seed {seed}: {kept:?}");
             built += 1;
         }

@@ -1,19 +1,21 @@
 //! The programs: `differential` against the second implementation itself, a missing program and a wrong one; the generators.
 
-use std::collections::BTreeMap;
+use std::collections::{BTreeMap, BTreeSet};
 use std::io::Write;
 use std::path::Path;
 use std::process::{Command, Output, Stdio};
 use tomchoen_tests::agree::{agree, MOST_INPUT};
 use tomchoen_tests::automaton::{is_symbol, Arc, Automaton, Tuple};
-use tomchoen_tests::calls::{pairs_of_bytes, path_work, tuple_of_text, PathRequest};
+use tomchoen_tests::calls::{path_work, records_of_bytes, tuple_of_text, PathRequest, TableOutcome};
 use tomchoen_tests::forecast::{forecast, is_mixed, symbols_in_use, useful_states, Forecast};
 use tomchoen_tests::generate::agree_input;
 use tomchoen_tests::memory::{judge, LentTable};
-use tomchoen_tests::pairs::Pair;
+use tomchoen_tests::pairs::{limits_of, pair_of, tapes_of, Pair};
 use tomchoen_tests::path::{path, Path as Found};
 use tomchoen_tests::random::Random;
-use tomchoen_tests::requests::{forecast_request, outcome, path_request, Outcome, Request};
+use tomchoen_tests::refusal::Refusal;
+use tomchoen_tests::requests::{forecast_request, outcome, path_request, request_of, Outcome, Request};
+use tomchoen_tests::text::{read_pair_line, Reader};
 
 /// Runs `differential` on a program.
 fn differential(program: &str, cases: &str, keep: &Path) -> Output {
@@ -65,21 +67,149 @@ fn agree_reference_reads_no_more_than_it_must() {
 
 #[test]
 fn generated_inputs_meet_every_answer() {
-    let mut answers: BTreeMap<Vec<u8>, usize> = BTreeMap::new();
-    let mut tables = 0;
+    let mut answers: BTreeMap<String, usize> = BTreeMap::new();
+    let (mut tables, mut of_unequal) = (0, 0);
     for case in 0..4_000 {
         let input = agree_input(&mut Random::for_case(1, case));
         assert_eq!(input, agree_input(&mut Random::for_case(1, case)));
         let output = agree(&input);
         if output.starts_with(b"refused") {
-            *answers.entry(output).or_insert(0) += 1;
+            *answers.entry(String::from_utf8_lossy(output.trim_ascii_end()).into_owned()).or_insert(0) += 1;
         } else if output.len() > 16 {
+            let limits = limits_of(&read_pair_line(&mut Reader::new(&input)).unwrap());
             tables += 1;
+            of_unequal += usize::from(limits.iter().any(|&limit| limit != limits[0]));
         }
     }
+    println!("{answers:?}, {tables} tables, {of_unequal} of unequal limits");
     assert_eq!(answers.len(), 10, "{answers:?}");
     assert!(answers.values().all(|&count| count >= 5), "{answers:?}");
-    assert!(tables > 800, "{tables} tables");
+    assert!(tables > 800 && of_unequal > 200, "{tables} tables, {of_unequal} of unequal limits");
+}
+
+/// The list of pairs of a build or a join.
+fn list_of(request: &Request) -> Vec<u8> {
+    match request {
+        Request::Intersect { pairs, .. } => pairs.clone(),
+        Request::Join { request, .. } => request.pairs.clone(),
+        _ => panic!("a request of another call"),
+    }
+}
+
+/// The outcome of a build or a join with other limits of its pairs.
+fn with_limits(request: &Request, limits: &[u64]) -> TableOutcome {
+    let mut changed = request.clone();
+    let list = match &mut changed {
+        Request::Intersect { pairs, .. } => pairs,
+        Request::Join { request, .. } => &mut request.pairs,
+        _ => panic!("a request of another call"),
+    };
+    list.chunks_exact_mut(3).zip(limits).for_each(|(record, &limit)| record[2] = limit as u8);
+    match outcome(&changed) {
+        Outcome::Table(outcome) => outcome,
+        _ => panic!("an outcome of another call"),
+    }
+}
+
+/// The number of a refusal, 0 where a table is given.
+fn number_of(outcome: &TableOutcome) -> u64 {
+    outcome.answer.err().map_or(0, Refusal::number)
+}
+
+/// Which pairs decide that the delay is refused: one alone if, with its limit raised, it is not.
+fn deciding(request: &Request, limits: &[u64]) -> &'static str {
+    let decides = |place: usize| {
+        let mut raised = limits.to_vec();
+        raised[place] = 64;
+        number_of(&with_limits(request, &raised)) != 10
+    };
+    match (0..limits.len()).find(|&place| decides(place)) {
+        _ if limits.len() == 1 => "10 by the only pair",
+        None => "10 by several pairs",
+        Some(0) => "10 by the first pair alone",
+        Some(place) if place + 1 == limits.len() => "10 by the last pair alone",
+        Some(_) => "10 by a pair between alone",
+    }
+}
+
+/// What is to be met of good limits: words for what these show.
+fn shown_by_limits(request: &Request, limits: &[u64], given: &TableOutcome) -> Vec<&'static str> {
+    let (first, last) = (limits[0], limits[limits.len() - 1]);
+    let (least, greatest) = (*limits.iter().min().unwrap(), *limits.iter().max().unwrap());
+    let unlike = |limit: u64| least != greatest && with_limits(request, &vec![limit; limits.len()]) != *given;
+    let backwards: Vec<u64> = limits.iter().rev().copied().collect();
+    let all_differ = limits.iter().collect::<BTreeSet<&u64>>().len() == limits.len();
+    let met = [
+        (limits.len() > 1 && least == greatest, "equal limits"),
+        (least != greatest, "unequal limits"),
+        (limits.len() == 4 && all_differ, "four pairs with four limits"),
+        (least == 0, "a limit of 0"),
+        (first == 64, "64 in the first place"),
+        (limits[1..].contains(&64), "64 in a later place"),
+        (unlike(first), "unlike the first limit for all"),
+        (unlike(last), "unlike the last limit for all"),
+        (unlike(least), "unlike the least limit for all"),
+        (unlike(greatest), "unlike the greatest limit for all"),
+        (backwards != limits && with_limits(request, &backwards) != *given, "unlike the limits backwards"),
+    ];
+    met.into_iter().filter(|(shown, _)| *shown).map(|(_, word)| word).collect()
+}
+
+/// What the list of pairs of a build or a join shows.
+fn shown_by_list(request: &Request) -> Vec<String> {
+    let list = list_of(request);
+    let limits = limits_of(&records_of_bytes(&list));
+    let given = with_limits(request, &limits);
+    let number = number_of(&given);
+    let mut met = vec![format!("answer {number}"), format!("{} bytes behind the last pair", list.len() % 3)];
+    let Some(place) = limits.iter().position(|&limit| limit > 64) else {
+        met.push(if limits.len() > 4 { "more than four pairs".to_string() } else { format!("{} pairs", limits.len()) });
+        if !limits.is_empty() && ![1, 2, 3, 4, 5, 6, 12].contains(&number) {
+            met.extend(shown_by_limits(request, &limits, &given).into_iter().map(str::to_string));
+            met.extend((number == 10).then(|| deciding(request, &limits).to_string()));
+        }
+        return met;
+    };
+    // what is answered where only the limits are other ones
+    let other = number_of(&with_limits(request, &vec![0; limits.len()]));
+    met.push(match (number, other) {
+        (1..=4, _) => "a table before 7".to_string(),
+        (7, 8 | 9 | 11) => "7 before 8, 9 or 11".to_string(),
+        (7, _) => format!("7 before {other}"),
+        _ => format!("{number} before 7"),
+    });
+    if number == 7 {
+        met.push(format!("7 first in place {}", place + 1));
+        met.push((if limits[place] == 65 { "7 by 65" } else { "7 by more than 65" }).to_string());
+    }
+    met
+}
+
+/// How often so many requests of a call show what is to be met of its lists of pairs.
+fn met_by_lists(call: &str, cases: u64) -> BTreeMap<String, usize> {
+    let mut met: BTreeMap<String, usize> = BTreeMap::new();
+    for case in 0..cases {
+        let request = request_of(call, &mut Random::for_case(1, case)).unwrap();
+        shown_by_list(&request).into_iter().for_each(|what| *met.entry(what).or_insert(0) += 1);
+    }
+    println!("{call}: {met:?}");
+    met
+}
+
+#[test]
+fn generated_builds_meet_every_kind_of_limits() {
+    let met = met_by_lists("build", 6_000);
+    assert_eq!(met.len(), 50, "{met:#?}");
+    assert!(met.values().all(|&count| count >= 5), "{met:#?}");
+    assert!(met["answer 0"] > 2_000 && met["answer 7"] > 300 && met["answer 10"] > 800, "{met:#?}");
+}
+
+#[test]
+fn generated_joins_meet_every_kind_of_limits() {
+    let met = met_by_lists("join", 6_000);
+    assert_eq!(met.len(), 53, "{met:#?}");
+    assert!(met.values().all(|&count| count >= 5), "{met:#?}");
+    assert!(met["answer 0"] > 1_500 && met["answer 7"] > 300 && met["answer 10"] > 500, "{met:#?}");
 }
 
 /// Whether a successful path touches a cycle of positive delay: one of negative delay at every initial state makes the pair mixed.
@@ -135,18 +265,19 @@ fn generated_forecasts_meet_every_answer() {
             continue;
         }
         let automaton = judge(table).unwrap();
-        meet(&format!("{} pairs", pairs.len() / 2));
-        meet(if pairs.len() % 2 == 0 { "no byte alone" } else { "a byte alone" });
-        meet(if result.len() > 6 * (pairs.len() / 2) { "a long result" } else { "a result that is just right" });
-        for (first, second) in pairs_of_bytes(pairs) {
-            let pair = (first as usize, second as usize);
+        let records = records_of_bytes(pairs);
+        meet(&format!("{} pairs", records.len()));
+        meet(&format!("{} bytes behind the last pair", pairs.len() % 3));
+        meet(if result.len() > 6 * records.len() { "a long result" } else { "a result that is just right" });
+        limits_of(&records).iter().for_each(|&limit| meet(if limit > 64 { "a limit above 64" } else { "a limit up to 64" }));
+        for pair in tapes_of(&records).into_iter().map(pair_of) {
             match forecast(&automaton, pair) {
                 Forecast::Mixed => meet("mixed"),
                 Forecast::Needs { delay, number } => shown(&automaton, pair, delay, number).into_iter().for_each(&mut meet),
             }
         }
     }
-    assert_eq!(met.len(), 27, "{met:?}");
+    assert_eq!(met.len(), 30, "{met:?}");
     assert!(met.values().all(|&count| count >= 5), "{met:?}");
     assert!(met["mixed"] > 300 && met["over"] > 300 && met["a number"] > 1_000, "{met:?}");
     println!("{met:?}");

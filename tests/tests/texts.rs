@@ -2,8 +2,9 @@
 
 use tomchoen_tests::agree::{agree, MOST_INPUT};
 use tomchoen_tests::automaton::Room;
+use tomchoen_tests::pairs::PairRecord;
 use tomchoen_tests::refusal::Refusal;
-use tomchoen_tests::text::{read, write};
+use tomchoen_tests::text::{pair_line, read, write};
 
 const HEADER: &str = "  2     2     1\n";
 const FIRST: &str = "         0         -\n";
@@ -156,44 +157,98 @@ fn space_after_the_header() {
 
 #[test]
 fn space_that_agree_lends() {
-    assert_eq!(agree_refuses(&["  0  0\n", "  1    65     0\n"]), 8);
-    assert_eq!(agree_refuses(&["  0  0\n", "  1    65  8193\n"]), 3);
-    assert_eq!(agree_refuses(&["  0  0\n", "  1    64   513\n"]), 9);
-    assert_eq!(agree_refuses(&["  0  0\n", "  1    64   512\n"]), 1);
-    assert_eq!(agree_refuses(&["  0 65\n", "  1    65   513\n"]), 8);
+    assert_eq!(agree_refuses(&["  0\n", "  1    65     0\n"]), 8);
+    assert_eq!(agree_refuses(&["  0\n", "  1    65  8193\n"]), 3);
+    assert_eq!(agree_refuses(&["  0\n", "  1    64   513\n"]), 9);
+    assert_eq!(agree_refuses(&["  0\n", "  1    64   512\n"]), 1);
+    assert_eq!(agree_refuses(&["  1  1  2 65\n", "  2    65   513\n"]), 8);
 }
 
 #[test]
 fn pair_lines() {
     let table = [HEADER, FIRST, SECOND, ARC].concat();
-    assert_eq!(agree_refuses(&["  0  0\n", &table]), 0);
-    assert_eq!(agree_refuses(&["  1  9  1  2\n", &table]), 0);
-    // 1 as far as it can be judged before 2
-    for input in ["", "abc", "abcdef", "  0  0", "  1  0  1", "  1  x     \r"] {
+    assert_eq!(agree_refuses(&["  0\n", &table]), 0);
+    assert_eq!(agree_refuses(&["  1  1  2  9\n", &table]), 0);
+    // 1 as far as it can be judged before 2: fewer than four bytes, or a line that is not complete
+    for input in ["", "a", "abc", "  0", "  1\n", "  1  1  2", "  1  1  2\n", "  1  1  2  0", "  1  x     \r", "  2  1  2  0\n"] {
         assert_eq!(agree_refuses(&[input]), 1, "{input:?}");
     }
-    for input in ["abcdefg", "  x  0\n", " 01  0\n", "  0  x\n", "  0  0\r", "  1  x  1  2\n", "  1  0  1  -\n", "  1  0  1  2 "]
-    {
+    for input in ["abcd", "  x\n", " 01\n", "  -\n", " -1\n", "1  \n", "   \n", "  0\r", "  0 ", "\n\n\n\n", "  0  0\n"] {
         assert_eq!(agree_refuses(&[input]), 2, "{input:?}");
+        assert_eq!(agree_refuses(&[input, &table]), 2, "{input:?}");
     }
-    assert_eq!(agree_refuses(&["  0  0 \n", &table]), 2);
-    assert_eq!(agree_refuses(&["999  0  1  2\n", &table]), 1);
+    assert_eq!(agree_refuses(&["999  1  2  0\n", &table]), 1);
+}
+
+#[test]
+fn numbers_of_a_pair_line() {
+    let table = [HEADER, FIRST, SECOND, ARC].concat();
+    for field in ["  x", "  -", "   ", " 01", "001", " -1", " +1", "1  ", "1 0", "\t 1", "0x1", "1.0", "  \n"] {
+        for line in [format!("  1{field}  2  0\n"), format!("  1  1{field}  0\n"), format!("  1  1  2{field}\n")] {
+            assert_eq!(agree_refuses(&[&line, &table]), 2, "{line:?}");
+        }
+    }
+    for end in [" ", "\r", "0", "\0"] {
+        assert_eq!(agree_refuses(&[&format!("  1  1  2  0{end}"), &table]), 2, "{end:?}");
+    }
+    // a line for one pair with the limit in front is read as what it says: tapes 0 and 1, then tapes 1 and 1
+    assert_eq!(agree_refuses(&["  1  0  1  2\n", &table]), 5);
+    assert_eq!(agree_refuses(&["  1  1  1  2\n", &table]), 6);
+    assert_eq!(agree_refuses(&["  1  2  1  2\n", &table]), 0);
+}
+
+#[test]
+fn every_cut_of_an_input_is_short() {
+    let input = ["  1  1  2 64\n", HEADER, FIRST, SECOND, ARC].concat();
+    for length in 0..input.len() {
+        assert_eq!(agree_refuses(&[&input[..length]]), 1, "{length} bytes");
+    }
+    assert_eq!(agree_refuses(&[&input]), 0);
 }
 
 #[test]
 fn pairs_are_judged_after_the_table() {
     let table = [HEADER, FIRST, SECOND, ARC].concat();
     let cut = &table[..table.len() - 1];
-    assert_eq!(agree_refuses(&["  1  0  0  2\n", cut]), 1);
-    assert_eq!(agree_refuses(&["  1  0  0  2\n", &table, " "]), 2);
-    assert_eq!(agree_refuses(&["  1  0  0  2\n", &table]), 5);
-    assert_eq!(agree_refuses(&["  1 99  1  3\n", &table]), 5);
-    assert_eq!(agree_refuses(&["  2 99  1  1999  1\n", &table]), 5);
-    assert_eq!(agree_refuses(&["  1 99  1  1\n", &table]), 6);
-    assert_eq!(agree_refuses(&["  5  0  1  2  1  2  1  2  1  2  1  2\n", &table]), 6);
-    assert_eq!(agree_refuses(&["  1 65  1  2\n", &table]), 7);
-    assert_eq!(agree_refuses(&["  0 65\n", &table]), 7);
-    assert_eq!(agree_refuses(&["  0 64\n", &table]), 0);
+    assert_eq!(agree_refuses(&["  1  0  2 65\n", cut]), 1);
+    assert_eq!(agree_refuses(&["  1  0  2 65\n", &table, " "]), 2);
+    assert_eq!(agree_refuses(&["  1  1  2 65\n", cut]), 1);
+    assert_eq!(agree_refuses(&["  1  1  2 65\n", &table, " "]), 2);
+    assert_eq!(agree_refuses(&["  1  1  2 65\n", "  9     0     0\n"]), 3);
+    assert_eq!(agree_refuses(&["  1  1  2 65\n", HEADER, FIRST, SECOND, "     9     1        12     ABC0        Z\n"]), 4);
+    assert_eq!(agree_refuses(&["  1  0  2  0\n", &table]), 5);
+    assert_eq!(agree_refuses(&["  1  1  3 99\n", &table]), 5);
+    assert_eq!(agree_refuses(&["  2  1  1 99999  1 99\n", &table]), 5);
+    assert_eq!(agree_refuses(&["  1  1  1 99\n", &table]), 6);
+    assert_eq!(agree_refuses(&["  5  1  2  0  1  2  0  1  2  0  1  2  0  1  2 65\n", &table]), 6);
+    // a limit that its columns hold is judged by 7, whatever it is
+    for (limit, refusal) in [(" 64", 0), (" 65", 7), (" 99", 7), ("100", 7), ("256", 7), ("320", 7), ("999", 7)] {
+        assert_eq!(agree_refuses(&[&format!("  1  1  2{limit}\n"), &table]), refusal, "{limit}");
+    }
+}
+
+#[test]
+fn limits_in_each_place_of_a_pair_line() {
+    let table = "  8     1     0\n         0         0\n";
+    let line = |records: &[PairRecord]| String::from_utf8(pair_line(records)).unwrap();
+    let good = [(1, 2, 0), (3, 4, 64), (6, 5, 7), (8, 7, 64)];
+    assert_eq!(line(&good), "  4  1  2  0  3  4 64  6  5  7  8  7 64\n");
+    assert_eq!(agree_refuses(&[&line(&good), table]), 0);
+    for place in 0..4 {
+        for (limit, refusal) in [(64, 0), (65, 7), (256, 7), (999, 7)] {
+            let mut records = good;
+            records[place].2 = limit;
+            assert_eq!(agree_refuses(&[&line(&records), table]), refusal, "{limit} in place {place}");
+            // 5 and 6 of any place come first
+            for other in 0..4 {
+                let (mut foreign, mut twice) = (records, records);
+                foreign[other].1 = 9;
+                twice[other].1 = twice[(other + 1) % 4].0;
+                assert_eq!(agree_refuses(&[&line(&foreign), table]), 5, "{limit} in place {place}, tape 9 in {other}");
+                assert_eq!(agree_refuses(&[&line(&twice), table]), 6, "{limit} in place {place}, a tape twice in {other}");
+            }
+        }
+    }
 }
 
 #[test]

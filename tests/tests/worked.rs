@@ -8,15 +8,15 @@ use tomchoen_tests::columns::{drop_tapes, project, union};
 use tomchoen_tests::forecast::{forecast, leftovers, Forecast};
 use tomchoen_tests::intersect::intersect;
 use tomchoen_tests::memory::encode;
-use tomchoen_tests::pairs::judge_intersect;
+use tomchoen_tests::pairs::{judge_intersect, LimitedPair, PairRecord};
 use tomchoen_tests::product::product;
 use tomchoen_tests::refusal::Refusal;
 use tomchoen_tests::sample::{first_to_last, p, q, r, s, table, tuple, Row};
 use tomchoen_tests::text::{pair_line, read, write};
 
 /// Keeping with ample space.
-fn keep(automaton: &Automaton, pairs: &[(usize, usize)], limit: u64) -> Result<Automaton, Refusal> {
-    intersect(automaton, pairs, limit, Room::AMPLE)
+fn keep(automaton: &Automaton, pairs: &[LimitedPair]) -> Result<Automaton, Refusal> {
+    intersect(automaton, pairs, Room::AMPLE)
 }
 
 /// Lines, each ended by byte 10.
@@ -36,37 +36,37 @@ fn printed(result: Result<Automaton, Refusal>) -> String {
 
 #[test]
 fn example_of_agree() {
-    let input = "  1  0  1  2\n  2     1     2\n         0         5\n     0     0         2        A        A\n     0     0         3        B        C\n";
+    let input = "  1  1  2  0\n  2     1     2\n         0         5\n     0     0         2        A        A\n     0     0         3        B        C\n";
     let output = "  2     1     1\n         0         5\n     0     0         2        A        A\n";
     assert_eq!(String::from_utf8(agree(input.as_bytes())).unwrap(), output);
 }
 
 #[test]
 fn p_at_one_and_zero() {
-    let kept = keep(&p(), &[(1, 3)], 1).unwrap();
+    let kept = keep(&p(), &[((1, 3), 1)]).unwrap();
     assert_eq!((kept.states.len(), kept.arcs.len()), (4, 3));
     assert_eq!(accounts(&kept, 10), vec![(tuple(&["AB", "XYZ", "AB"]), 6)]);
-    assert_eq!(keep(&p(), &[(1, 3)], 0), Err(Refusal::Delay));
+    assert_eq!(keep(&p(), &[((1, 3), 0)]), Err(Refusal::Delay));
 }
 
 #[test]
 fn p_in_the_order_of_request_2_2() {
     let arcs: &[(usize, usize, u64, &[&str])] =
         &[(0, 1, 1, &["A", "X", ""]), (1, 2, 2, &["B", "Y", "A"]), (2, 3, 3, &["", "Z", "B"])];
-    assert_eq!(keep(&p(), &[(1, 3)], 1), Ok(first_to_last(3, 4, arcs)));
+    assert_eq!(keep(&p(), &[((1, 3), 1)]), Ok(first_to_last(3, 4, arcs)));
 }
 
 #[test]
 fn q_at_one_and_zero() {
     let kept = first_to_last(2, 3, &[(0, 1, 0, &["A", ""]), (1, 2, 0, &["", "A"])]);
-    assert_eq!(keep(&q(), &[(1, 2)], 1), Ok(kept.clone()));
-    assert_eq!(keep(&q(), &[(1, 2)], 64), Ok(kept));
-    assert_eq!(keep(&q(), &[(1, 2)], 0), Err(Refusal::Delay));
+    assert_eq!(keep(&q(), &[((1, 2), 1)]), Ok(kept.clone()));
+    assert_eq!(keep(&q(), &[((1, 2), 64)]), Ok(kept));
+    assert_eq!(keep(&q(), &[((1, 2), 0)]), Err(Refusal::Delay));
 }
 
 #[test]
 fn r_at_one_and_sixty_four() {
-    let at = |limit, states, arcs| intersect(&r(), &[(1, 2)], limit, Room { states, arcs });
+    let at = |limit, states, arcs| intersect(&r(), &[((1, 2), limit)], Room { states, arcs });
     assert_eq!(at(1, 1_024, 8_192), Err(Refusal::Delay));
     assert_eq!(at(64, 130, 193), Err(Refusal::Delay));
     assert_eq!(at(64, 129, 193), Err(Refusal::StatesFull));
@@ -77,8 +77,8 @@ fn r_at_one_and_sixty_four() {
 
 #[test]
 fn s_gives_the_empty_table() {
-    assert_eq!(keep(&s(), &[(1, 2)], 0), Ok(Automaton::empty(2)));
-    assert_eq!(keep(&s(), &[(1, 2)], 64), Ok(Automaton::empty(2)));
+    assert_eq!(keep(&s(), &[((1, 2), 0)]), Ok(Automaton::empty(2)));
+    assert_eq!(keep(&s(), &[((1, 2), 64)]), Ok(Automaton::empty(2)));
 }
 
 #[test]
@@ -86,7 +86,7 @@ fn table_without_states() {
     let text = b"  3     0     0\n";
     assert_eq!(read(text, Room { states: 0, arcs: 0 }), Ok(Automaton::empty(3)));
     assert_eq!(write(&Automaton::empty(3)), text);
-    let input = [pair_line(&[(1, 3)], 64), text.to_vec()].concat();
+    let input = [pair_line(&[(1, 3, 64)]), text.to_vec()].concat();
     assert_eq!(agree(&input), text);
 }
 
@@ -96,15 +96,17 @@ fn no_pairs_give_the_source_trimmed() {
     let rows: &[(usize, usize, u64, &[&str])] =
         &[(1, 2, 0, &["A"]), (1, 3, 0, &["A"]), (0, 2, 0, &["B"]), (2, 1, 7, &[""]), (4, 4, 0, &["C"]), (1, 2, 0, &["A"])];
     let kept = table(1, &[(Some(1), None), (None, Some(2))], &[(0, 1, 0, &["A"]), (0, 1, 0, &["A"]), (1, 0, 7, &[""])]);
-    assert_eq!(keep(&table(1, &weights, rows), &[], 0), Ok(kept));
+    assert_eq!(keep(&table(1, &weights, rows), &[]), Ok(kept));
 }
 
 #[test]
 fn limits_and_numbers_of_pairs() {
-    assert!(judge_intersect(&[], 1, 64).is_ok());
-    assert_eq!(judge_intersect(&[], 1, 65), Err(Refusal::Limit));
-    assert!(judge_intersect(&[(1, 2), (3, 4), (5, 6), (7, 8)], 8, 64).is_ok());
-    assert_eq!(judge_intersect(&[(1, 2), (3, 4), (5, 6), (7, 8), (1, 2)], 8, 64), Err(Refusal::Pairs));
+    assert_eq!(judge_intersect(&[(2, 1, 64)], 2), Ok(vec![((2, 1), 64)]));
+    assert_eq!(judge_intersect(&[(2, 1, 65)], 2), Err(Refusal::Limit));
+    assert_eq!(judge_intersect(&[], 1), Ok(Vec::new()));
+    let four = [(1, 2, 64), (3, 4, 64), (5, 6, 64), (7, 8, 64)];
+    assert!(judge_intersect(&four, 8).is_ok());
+    assert_eq!(judge_intersect(&[&four[..], &[(1, 2, 64)]].concat(), 8), Err(Refusal::Pairs));
 }
 
 #[test]
@@ -119,22 +121,22 @@ fn a_heavy_product() {
 
 #[test]
 fn worked_cases_through_agree() {
-    let answer = |automaton: &Automaton, pairs: &[(u64, u64)], limit| {
-        String::from_utf8(agree(&[pair_line(pairs, limit), write(automaton)].concat())).unwrap()
+    let answer = |automaton: &Automaton, pairs: &[PairRecord]| {
+        String::from_utf8(agree(&[pair_line(pairs), write(automaton)].concat())).unwrap()
     };
     let of_p: &[Row] = &[(0, 1, 1, &["A", "X", ""]), (1, 2, 2, &["B", "Y", "A"]), (2, 3, 3, &["", "Z", "B"])];
-    assert_eq!(answer(&p(), &[(1, 3)], 1), printed(Ok(first_to_last(3, 4, of_p))));
-    assert_eq!(answer(&p(), &[(1, 3)], 0), "refused  10\n");
+    assert_eq!(answer(&p(), &[(1, 3, 1)]), printed(Ok(first_to_last(3, 4, of_p))));
+    assert_eq!(answer(&p(), &[(1, 3, 0)]), "refused  10\n");
     let of_q: &[Row] = &[(0, 1, 0, &["A", ""]), (1, 2, 0, &["", "A"])];
-    assert_eq!(answer(&q(), &[(1, 2)], 1), printed(Ok(first_to_last(2, 3, of_q))));
-    assert_eq!(answer(&q(), &[(1, 2)], 0), "refused  10\n");
-    assert_eq!(answer(&r(), &[(1, 2)], 1), "refused  10\n");
-    assert_eq!(answer(&r(), &[(1, 2)], 31), "refused  10\n");
-    assert_eq!(answer(&r(), &[(1, 2)], 32), "refused   8\n");
-    assert_eq!(answer(&s(), &[(1, 2)], 1), "  2     0     0\n");
-    assert_eq!(answer(&s(), &[(1, 2)], 65), "refused   7\n");
-    assert_eq!(answer(&s(), &[(1, 1)], 65), "refused   6\n");
-    assert_eq!(answer(&s(), &[(1, 1), (3, 2)], 65), "refused   5\n");
+    assert_eq!(answer(&q(), &[(1, 2, 1)]), printed(Ok(first_to_last(2, 3, of_q))));
+    assert_eq!(answer(&q(), &[(1, 2, 0)]), "refused  10\n");
+    assert_eq!(answer(&r(), &[(1, 2, 1)]), "refused  10\n");
+    assert_eq!(answer(&r(), &[(1, 2, 31)]), "refused  10\n");
+    assert_eq!(answer(&r(), &[(1, 2, 32)]), "refused   8\n");
+    assert_eq!(answer(&s(), &[(1, 2, 1)]), "  2     0     0\n");
+    assert_eq!(answer(&s(), &[(1, 2, 65)]), "refused   7\n");
+    assert_eq!(answer(&s(), &[(1, 1, 65)]), "refused   6\n");
+    assert_eq!(answer(&s(), &[(1, 1, 65), (3, 2, 65)]), "refused   5\n");
 }
 
 /// A table whose states are first reached in another order than they stand, one of them to be trimmed.
@@ -175,8 +177,8 @@ const KEPT: &[&str] = &[
 #[test]
 fn a_build_in_the_order_of_request_2_2() {
     // 1 and 3 are initial; out of 1 come 4, 5 and 0, out of 3 comes 2; B meets the A left over at 4, which is trimmed
-    assert_eq!(printed(keep(&table_of(LISTED), &[(1, 2)], 1)), text_of(KEPT));
-    let input = [pair_line(&[(1, 2)], 1), text_of(LISTED).into_bytes()].concat();
+    assert_eq!(printed(keep(&table_of(LISTED), &[((1, 2), 1)])), text_of(KEPT));
+    let input = [pair_line(&[(1, 2, 1)]), text_of(LISTED).into_bytes()].concat();
     assert_eq!(String::from_utf8(agree(&input)).unwrap(), text_of(KEPT));
 }
 
@@ -317,7 +319,7 @@ fn r_on_lent_bytes() {
     let space = |states: usize, arcs: usize| calls::ResultSpace { states: vec![7; 10 * states], arcs: vec![7; 80 * arcs] };
     let call = |states: usize, arcs: usize, short: usize| {
         let work = vec![7; 320 * states + 16 * arcs + 64 * 2 - short];
-        calls::intersect(&encode(&r()), &[(1, 2)], 64, &space(states, arcs), &work)
+        calls::intersect(&encode(&r()), &[1, 2, 64], &space(states, arcs), &work)
     };
     assert_eq!(call(130, 193, 0).answer, Err(Refusal::Delay));
     assert_eq!(call(130, 192, 0).answer, Err(Refusal::ArcsFull));

@@ -14,7 +14,7 @@ extern "C" {
     ) -> u64;
     fn tomchoen_build(
         tapes: usize, states: usize, arcs: usize, state_bytes: *const u8, s: usize, arc_bytes: *const u8, a: usize,
-        pairs: *const u8, p: usize, limit: usize,
+        pairs: *const u8, p: usize,
         out_states: *mut u8, os: usize, out_arcs: *mut u8, oa: usize, work: *mut u8, w: usize,
     ) -> u64;
     fn tomchoen_product(
@@ -25,7 +25,7 @@ extern "C" {
     fn tomchoen_join(
         tapes: usize, states: usize, arcs: usize, state_bytes: *const u8, s: usize, arc_bytes: *const u8, a: usize,
         tapes2: usize, states2: usize, arcs2: usize, state_bytes2: *const u8, s2: usize, arc_bytes2: *const u8, a2: usize,
-        pairs: *const u8, p: usize, limit: usize,
+        pairs: *const u8, p: usize,
         product_states: *mut u8, ps: usize, product_arcs: *mut u8, pa: usize,
         out_states: *mut u8, os: usize, out_arcs: *mut u8, oa: usize, work: *mut u8, w: usize,
     ) -> u64;
@@ -73,11 +73,6 @@ fn told(answer: u64) -> Result<u64, Refusal> {
 fn counts(answer: u64) -> Result<Counts, Refusal> {
     let above = told(answer)?;
     Ok(Counts { tapes: above & 255, states: above >> 8 & 65_535, arcs: above >> 24 })
-}
-
-/// Pairs as bytes; a tape above 255 is as wrong as 255.
-fn pair_bytes(pairs: &[(u64, u64)]) -> Vec<u8> {
-    pairs.iter().flat_map(|&(first, second)| [first.min(255) as u8, second.min(255) as u8]).collect()
 }
 
 /// No space.
@@ -135,10 +130,10 @@ pub fn outcome(request: &Request) -> Outcome {
             let answer = table!(tomchoen_write(table, output.as_mut_ptr(), output.len()));
             Outcome::Text(TextOutcome { answer: told(answer), output })
         }
-        Request::Intersect { table, pairs, limit, result, work } => {
-            let (mut out, mut work, pairs) = (result.clone(), work.clone(), pair_bytes(pairs));
+        Request::Intersect { table, pairs, result, work } => {
+            let (mut out, mut work) = (result.clone(), work.clone());
             let answer = table!(tomchoen_build(
-                table, pairs.as_ptr(), pairs.len(), *limit as usize,
+                table, pairs.as_ptr(), pairs.len(),
                 out.states.as_mut_ptr(), out.states.len(), out.arcs.as_mut_ptr(), out.arcs.len(), work.as_mut_ptr(), work.len()
             ));
             built(answer, out, work)
@@ -153,9 +148,9 @@ pub fn outcome(request: &Request) -> Outcome {
         }
         Request::Join { first, second, request } => {
             let (mut out, mut work, mut product) = (request.result.clone(), request.work.clone(), request.product.clone());
-            let pairs = pair_bytes(&request.pairs);
+            let pairs = &request.pairs;
             let answer = tables!(tomchoen_join(
-                first, second, pairs.as_ptr(), pairs.len(), request.limit as usize,
+                first, second, pairs.as_ptr(), pairs.len(),
                 product.states.as_mut_ptr(), product.states.len(), product.arcs.as_mut_ptr(), product.arcs.len(),
                 out.states.as_mut_ptr(), out.states.len(), out.arcs.as_mut_ptr(), out.arcs.len(), work.as_mut_ptr(), work.len()
             ));

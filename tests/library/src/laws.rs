@@ -1,65 +1,106 @@
 //! Demand 3 on the calls of the library, by weights looked up: a check of the definitions from outside.
 //!
-//! For random tables and pairs: the join exchanged, joined part by part on either side, with some pairs first, and given again with
-//! more space and a higher limit. Where a call is refused the law says nothing, and the case counts as passed over.
-//! The last two compare tables byte for byte: given again by request 2.2; some pairs first because the same configurations are
-//! kept and reached in the same order, which is tested here and not proved.
+//! For random tables and pairs, each pair with a limit of its own: the join exchanged, joined part by part on either
+//! side, with some pairs first, each call with the pairs' limits or other ones; and joins and builds given again with
+//! more space and any one limit or all of them raised. Where a call is refused the law says nothing, and the case
+//! counts as passed over. The last two compare tables byte for byte: given again by request 2.2; some pairs first
+//! because the same configurations are kept and reached in the same order, which is tested here and not proved.
+//!
+//! With equal limits (request 2.4) joins and builds answer as document 01 words them with a single D, refused or not.
 //!
 //! For random tables and tuples, of a path (request 2.3): its weight is the one looked up, and there is none where that
 //! is none; its arcs are a successful path that spells the tuple at that weight; a longer list gives the same path.
 
 use crate::calls::outcome;
 use tomchoen_tests::accounts::account_of;
-use tomchoen_tests::automaton::Automaton;
-use tomchoen_tests::calls::{Counts, JoinRequest, PathRequest, ResultSpace, NO_PATH};
+use tomchoen_tests::automaton::{Automaton, Room};
+use tomchoen_tests::calls::{intersect_work, join_work, Counts, JoinRequest, PathRequest, ResultSpace, NO_PATH};
 use tomchoen_tests::columns::project;
-use tomchoen_tests::automaton::Room;
+use tomchoen_tests::generate::small_case;
+use tomchoen_tests::join_cases::{join_case, two_tables, JoinCase};
 use tomchoen_tests::lookup::cells;
 use tomchoen_tests::memory::{encode, judge, LentTable, ARC_BYTES, STATE_BYTES};
+use tomchoen_tests::pairs::{pair_of, tapes_of, Pair, PairRecord, MOST_LIMIT};
 use tomchoen_tests::path::{Path, PATH_BYTES};
 use tomchoen_tests::path_cases::path_case;
 use tomchoen_tests::random::Random;
-use tomchoen_tests::requests::{join_pairs, spelled, two_tables, Outcome, Request};
+use tomchoen_tests::refusal::Refusal;
+use tomchoen_tests::requests::{spelled, Outcome, Request};
+use tomchoen_tests::word_for_word::{join_with_one_limit, keep_with_one_limit};
 
-/// A tape of the first table and one of the second.
-type Pairs = Vec<(u64, u64)>;
+/// A tape of the first table and one of the second, or two tapes of one table, and their limit.
+type Pairs = Vec<PairRecord>;
 
 /// Strings, one a tape.
 type Tuple = Vec<Vec<u8>>;
 
-/// Space for so many states and arcs.
-fn space(states: usize, arcs: usize) -> ResultSpace {
+/// What is lent for a product and for its join, and for a build.
+const JOIN_ROOM: Room = Room { states: 200, arcs: 1_200 };
+const BUILD_ROOM: Room = Room { states: 300, arcs: 1_500 };
+
+/// Space for so many states and arcs, and so many of each more.
+fn space(room: Room, more: usize) -> ResultSpace {
+    let (states, arcs) = (room.states as usize + more, room.arcs as usize + more);
     ResultSpace { states: vec![7; states * STATE_BYTES], arcs: vec![7; arcs * ARC_BYTES] }
 }
 
-/// The table that a call gave, if it was not refused.
-fn given(request: &Request) -> Option<LentTable> {
-    let Outcome::Table(made) = outcome(request) else { return None };
-    let Counts { tapes, states, arcs } = made.answer.ok()?;
-    Some(LentTable { tapes, states, arcs, state_records: made.result.states, arc_records: made.result.arcs })
+/// The bytes of a list of pairs.
+fn bytes_of(pairs: &Pairs) -> Vec<u8> {
+    pairs.iter().flat_map(|&(first, second, limit)| [first as u8, second as u8, limit as u8]).collect()
+}
+
+/// The table that a call gave, or its refusal.
+fn answered(request: &Request) -> Result<LentTable, Refusal> {
+    let Outcome::Table(made) = outcome(request) else { panic!("the call gives no table") };
+    let Counts { tapes, states, arcs } = made.answer?;
+    Ok(LentTable { tapes, states, arcs, state_records: made.result.states, arc_records: made.result.arcs })
 }
 
 /// A join with limits and space of its own.
-fn join(first: &LentTable, second: &LentTable, pairs: &Pairs, limit: u64, more: usize) -> Option<LentTable> {
-    let (product, result) = (space(200 + more, 1_200 + more), space(200 + more, 1_200 + more));
-    let work = vec![9; 16 * (1_400 + 2 * more) + 320 * (200 + more) + 16 * (1_200 + more) + 64 * (200 + more)];
-    let request = JoinRequest { pairs: pairs.clone(), limit, product, result, work };
-    given(&Request::Join { first: first.clone(), second: second.clone(), request })
+fn join(first: &LentTable, second: &LentTable, pairs: &Pairs, more: usize) -> Result<LentTable, Refusal> {
+    let (product, result) = (space(JOIN_ROOM, more), space(JOIN_ROOM, more));
+    let work = vec![9; join_work(product.room(), result.room()) as usize];
+    let request = JoinRequest { pairs: bytes_of(pairs), product, result, work };
+    answered(&Request::Join { first: first.clone(), second: second.clone(), request })
 }
 
-/// Union, keeping and dropping.
-fn union(first: &LentTable, second: &LentTable) -> Option<LentTable> {
-    given(&Request::Union { first: first.clone(), second: second.clone(), result: space(400, 2_400) })
+/// A build with limits and space of its own.
+fn keep(table: &LentTable, pairs: &Pairs, more: usize) -> Result<LentTable, Refusal> {
+    let result = space(BUILD_ROOM, more);
+    let work = vec![5; intersect_work(result.room(), table.states) as usize];
+    answered(&Request::Intersect { table: table.clone(), pairs: bytes_of(pairs), result, work })
 }
 
-fn keep(table: &LentTable, pairs: &Pairs, limit: u64) -> Option<LentTable> {
-    let result = space(300, 1_500);
-    let work = vec![5; 320 * 300 + 16 * 1_500 + 64 * table.states as usize];
-    given(&Request::Intersect { table: table.clone(), pairs: pairs.clone(), limit, result, work })
+/// Union and dropping.
+fn union(first: &LentTable, second: &LentTable) -> Result<LentTable, Refusal> {
+    let result = space(Room { states: 400, arcs: 2_400 }, 0);
+    answered(&Request::Union { first: first.clone(), second: second.clone(), result })
 }
 
-fn drop_tapes(table: &LentTable, marked: u8) -> Option<LentTable> {
-    given(&Request::DropTapes { table: table.clone(), marked, result: space(300, 1_500) })
+fn drop_tapes(table: &LentTable, marked: u8) -> Result<LentTable, Refusal> {
+    answered(&Request::DropTapes { table: table.clone(), marked, result: space(BUILD_ROOM, 0) })
+}
+
+/// The pairs turned round.
+fn turned(pairs: &Pairs) -> Pairs {
+    pairs.iter().map(|&(first, second, limit)| (second, first, limit)).collect()
+}
+
+/// The pairs with the limit in one place, or all limits, raised at random, none above 64.
+fn raised(random: &mut Random, pairs: &Pairs, place: Option<usize>) -> Pairs {
+    let mut higher = |limit: u64| random.range(limit as usize, MOST_LIMIT as usize) as u64;
+    let chosen = |other: usize| place.is_none_or(|place| place == other);
+    let limit = |(other, pair): (usize, &PairRecord)| (pair.0, pair.1, if chosen(other) { higher(pair.2) } else { pair.2 });
+    pairs.iter().enumerate().map(limit).collect()
+}
+
+/// The pairs with limits of another call: the same, some raised, or any.
+fn with_others(random: &mut Random, pairs: &Pairs) -> Pairs {
+    match random.below(4) {
+        0 => pairs.clone(),
+        1 => pairs.iter().map(|pair| (pair.0, pair.1, random.pick(&[0, 1, 2, 5, 64]))).collect(),
+        _ => raised(random, pairs, None),
+    }
 }
 
 /// The text of a tuple.
@@ -107,7 +148,7 @@ fn second_strings(tuple: &Tuple, n: usize, m: usize, pairs: &Pairs) -> Tuple {
     let mut rest = tuple[n..].iter();
     (1..=m as u64)
         .map(|tape| match pairs.iter().find(|pair| pair.1 == tape) {
-            Some(&(first, _)) => tuple[first as usize - 1].clone(),
+            Some(&(first, _, _)) => tuple[first as usize - 1].clone(),
             None => rest.next().expect("as many strings as tapes").clone(),
         })
         .collect()
@@ -125,6 +166,7 @@ pub struct Found {
     pub compared: u64,
     pub tables: u64,
     pub paths: u64,
+    pub refusals: u64,
     pub passed_over: u64,
     pub differences: Vec<String>,
 }
@@ -154,10 +196,20 @@ impl Found {
         }
     }
 
+    /// Notes a comparison of two answers: the refusals, or the tables as above.
+    fn same_answer(&mut self, law: &str, case: u64, one: &Result<LentTable, Refusal>, two: &Result<LentTable, Refusal>) {
+        self.tables += u64::from(one.is_ok());
+        self.refusals += u64::from(one.is_err());
+        if one.as_ref().map(used) != two.as_ref().map(used) {
+            let told = |answer: &Result<LentTable, Refusal>| answer.as_ref().map_or_else(|refusal| refusal.number(), |_| 0);
+            self.differences.push(format!("case {case}: {law}: answers {} and {}, or other tables", told(one), told(two)));
+        }
+    }
+
     /// The parts of a law, or one case passed over.
-    fn all<const N: usize>(&mut self, parts: [Option<LentTable>; N]) -> Option<[LentTable; N]> {
-        let whole: Option<Vec<LentTable>> = parts.into_iter().collect();
-        match whole.and_then(|tables| tables.try_into().ok()) {
+    fn all<const N: usize>(&mut self, parts: [Result<LentTable, Refusal>; N]) -> Option<[LentTable; N]> {
+        let whole: Result<Vec<LentTable>, Refusal> = parts.into_iter().collect();
+        match whole.ok().and_then(|tables| tables.try_into().ok()) {
             Some(tables) => Some(tables),
             None => {
                 self.passed_over += 1;
@@ -167,10 +219,19 @@ impl Found {
     }
 }
 
+/// Two tables to be joined, and on which pairs.
+struct Subject<'a> {
+    case: u64,
+    a: &'a LentTable,
+    b: &'a LentTable,
+    pairs: &'a Pairs,
+}
+
 /// The second table first, each pair turned round.
-fn exchanged(found: &mut Found, random: &mut Random, case: u64, a: &LentTable, b: &LentTable, pairs: &Pairs, limit: u64) {
-    let turned: Pairs = pairs.iter().map(|&(first, second)| (second, first)).collect();
-    let Some([j, k]) = found.all([join(a, b, pairs, limit, 0), join(b, a, &turned, limit, 3)]) else { return };
+fn exchanged(found: &mut Found, random: &mut Random, subject: &Subject) {
+    let &Subject { case, a, b, pairs } = subject;
+    let others = with_others(random, &turned(pairs));
+    let Some([j, k]) = found.all([join(a, b, pairs, 0), join(b, a, &others, 3)]) else { return };
     let (n, m) = (a.tapes as usize, b.tapes as usize);
     for tuple in tuples(random, &j) {
         let second = second_strings(&tuple, n, m, pairs);
@@ -181,11 +242,13 @@ fn exchanged(found: &mut Found, random: &mut Random, case: u64, a: &LentTable, b
 }
 
 /// Either table a union: the lesser of the weights of the two joins, and a union of those.
-fn part_by_part(found: &mut Found, random: &mut Random, case: u64, a: &LentTable, c: &LentTable, b: &LentTable, pairs: &Pairs, limit: u64, left: bool) {
-    let pairs: Pairs = if left { pairs.clone() } else { pairs.iter().map(|&(first, second)| (second, first)).collect() };
-    let side = |part: &LentTable| if left { join(part, b, &pairs, limit, 0) } else { join(b, part, &pairs, limit, 0) };
-    let Some([u, one, two]) = found.all([union(a, c), side(a), side(c)]) else { return };
-    let Some([j, both]) = found.all([side(&u), union(&one, &two)]) else { return };
+fn part_by_part(found: &mut Found, random: &mut Random, subject: &Subject, c: &LentTable, left: bool) {
+    let &Subject { case, a, b, pairs } = subject;
+    let pairs = if left { pairs.clone() } else { turned(pairs) };
+    let side = |part: &LentTable, pairs: &Pairs| if left { join(part, b, pairs, 0) } else { join(b, part, pairs, 0) };
+    let (of_one, of_two) = (with_others(random, &pairs), with_others(random, &pairs));
+    let Some([u, one, two]) = found.all([union(a, c), side(a, &of_one), side(c, &of_two)]) else { return };
+    let Some([j, both]) = found.all([side(&u, &pairs), union(&one, &two)]) else { return };
     for tuple in tuples(random, &j).into_iter().chain(tuples(random, &one)).chain(tuples(random, &two)) {
         let parts = lesser(weight(&one, &tuple), weight(&two, &tuple));
         found.same("part by part", case, weight(&j, &tuple), parts);
@@ -193,15 +256,17 @@ fn part_by_part(found: &mut Found, random: &mut Random, case: u64, a: &LentTable
     }
 }
 
-/// Some pairs joined first, the others kept afterwards and their second tapes dropped.
-fn some_first(found: &mut Found, random: &mut Random, case: u64, a: &LentTable, b: &LentTable, pairs: &Pairs, limit: u64) {
-    let (first, later): (Pairs, Pairs) = pairs.iter().partition(|_| random.chance(50));
-    let n = a.tapes;
-    let place = |tape: u64| n + tape - first.iter().filter(|pair| pair.1 < tape).count() as u64;
-    let kept: Pairs = later.iter().map(|&(i, j)| (i, place(j))).collect();
+/// Some pairs joined first, the others kept afterwards and their second tapes dropped; `early` and `late` hold the
+/// limits that the pairs have there.
+fn some_first(found: &mut Found, random: &mut Random, subject: &Subject, early: &Pairs, late: &Pairs) {
+    let &Subject { case, a, b, pairs } = subject;
+    let (first, later): (Vec<usize>, Vec<usize>) = (0..pairs.len()).partition(|_| random.chance(50));
+    let joined: Pairs = first.iter().map(|&place| early[place]).collect();
+    let place = |tape: u64| a.tapes + tape - joined.iter().filter(|pair| pair.1 < tape).count() as u64;
+    let kept: Pairs = later.iter().map(|&other| (late[other].0, place(late[other].1), late[other].2)).collect();
     let marked = kept.iter().fold(0u8, |mask, pair| mask | 1 << (pair.1 - 1));
-    let Some([j, early]) = found.all([join(a, b, pairs, limit, 0), join(a, b, &first, limit, 0)]) else { return };
-    let Some([agreed]) = found.all([keep(&early, &kept, limit)]) else { return };
+    let Some([j, early]) = found.all([join(a, b, pairs, 0), join(a, b, &joined, 0)]) else { return };
+    let Some([agreed]) = found.all([keep(&early, &kept, 0)]) else { return };
     let Some([steps]) = found.all([drop_tapes(&agreed, marked)]) else { return };
     for tuple in tuples(random, &j).into_iter().chain(tuples(random, &steps)) {
         found.same("some pairs first", case, weight(&j, &tuple), weight(&steps, &tuple));
@@ -210,34 +275,66 @@ fn some_first(found: &mut Found, random: &mut Random, case: u64, a: &LentTable, 
     found.same_table("some pairs first", case, &j, Some(&steps));
 }
 
-/// The same call with a higher limit and more space.
-fn again(found: &mut Found, random: &mut Random, case: u64, a: &LentTable, b: &LentTable, pairs: &Pairs, limit: u64) {
-    let Some([j]) = found.all([join(a, b, pairs, limit, 0)]) else { return };
-    let higher = limit + random.below(65 - limit as usize) as u64;
-    let k = join(a, b, pairs, higher, random.below(30));
-    found.same_table("given again", case, &j, k.as_ref());
+/// A call that gave a table, made again with more space and any one limit raised, then all of them.
+fn again(
+    found: &mut Found,
+    random: &mut Random,
+    case: u64,
+    pairs: &Pairs,
+    call: impl Fn(&Pairs, usize) -> Result<LentTable, Refusal>,
+) {
+    let Some([given]) = found.all([call(pairs, 0)]) else { return };
+    for place in (0..pairs.len()).map(Some).chain([None]) {
+        let other = call(&raised(random, pairs, place), random.below(30));
+        found.same_table("given again", case, &given, other.as_ref().ok());
+    }
+}
+
+/// A join with equal limits, against the single D of document 01.
+fn one_limit(found: &mut Found, random: &mut Random, subject: &Subject) {
+    let limit = random.pick(&[0, 1, 2, 3, 5, 20, 64]);
+    let equal: Pairs = subject.pairs.iter().map(|pair| (pair.0, pair.1, limit)).collect();
+    let tapes: Vec<Pair> = tapes_of(subject.pairs).into_iter().map(pair_of).collect();
+    let [first, second] = [subject.a, subject.b].map(|table| judge(table).expect("a good table"));
+    let expected = join_with_one_limit(&first, &second, &tapes, limit, JOIN_ROOM, JOIN_ROOM);
+    let expected = expected.map(|automaton| encode(&automaton));
+    found.same_answer("a join with equal limits", subject.case, &join(subject.a, subject.b, &equal, 0), &expected);
+}
+
+/// A build given again, and with equal limits, against the single D of document 01.
+fn builds(found: &mut Found, random: &mut Random, case: u64) {
+    let kept = small_case(random);
+    let table = encode(&kept.automaton);
+    again(found, random, case, &kept.pairs, |pairs, more| keep(&table, pairs, more));
+    let limit = random.pick(&[0, 1, 2, 3, 5, 20, 64]);
+    let equal: Pairs = kept.pairs.iter().map(|pair| (pair.0, pair.1, limit)).collect();
+    let tapes: Vec<Pair> = tapes_of(&kept.pairs).into_iter().map(pair_of).collect();
+    let expected = keep_with_one_limit(&kept.automaton, &tapes, limit, BUILD_ROOM).map(|automaton| encode(&automaton));
+    found.same_answer("a build with equal limits", case, &keep(&table, &equal, 0), &expected);
 }
 
 /// All laws on one case.
 pub fn check(seed: u64, case: u64, found: &mut Found) {
     let random = &mut Random::for_case(seed, case);
-    let (one, two) = two_tables(random);
-    if one.tapes + two.tapes > 8 {
+    builds(found, random, case);
+    let JoinCase { first, second, pairs } = join_case(random);
+    if first.tapes + second.tapes > 8 {
         found.passed_over += 1;
         return;
     }
     let (_, other) = two_tables(random);
-    let tapes: Vec<u64> = (0..one.tapes).map(|_| random.range(1, other.tapes) as u64).collect();
-    let (a, b) = (encode(&one), encode(&two));
+    let tapes: Vec<u64> = (0..first.tapes).map(|_| random.range(1, other.tapes) as u64).collect();
+    let (a, b) = (encode(&first), encode(&second));
     let c = project(&other, &tapes, Room::AMPLE).map(|part| encode(&part)).expect("chosen tapes are there");
-    let mut pairs = join_pairs(random, one.tapes, two.tapes);
-    pairs.retain(|&(i, j)| (1..=a.tapes).contains(&i) && (1..=b.tapes).contains(&j));
-    let limit = random.pick(&[0, 1, 2, 5, 20, 64]);
-    exchanged(found, random, case, &a, &b, &pairs, limit);
-    part_by_part(found, random, case, &a, &c, &b, &pairs, limit, true);
-    part_by_part(found, random, case, &a, &c, &b, &pairs, limit, false);
-    some_first(found, random, case, &a, &b, &pairs, limit);
-    again(found, random, case, &a, &b, &pairs, limit);
+    let subject = Subject { case, a: &a, b: &b, pairs: &pairs };
+    exchanged(found, random, &subject);
+    part_by_part(found, random, &subject, &c, true);
+    part_by_part(found, random, &subject, &c, false);
+    some_first(found, random, &subject, &pairs, &pairs);
+    let (early, late) = (with_others(random, &pairs), with_others(random, &pairs));
+    some_first(found, random, &subject, &early, &late);
+    again(found, random, case, &pairs, |pairs, more| join(&a, &b, pairs, more));
+    one_limit(found, random, &subject);
 }
 
 /// The path of a tuple with a list of so many bytes, or the word of the call if it is neither told nor none.

@@ -47,12 +47,12 @@ fn space(states: usize, arcs: usize) -> ResultSpace {
     ResultSpace { states: vec![1; states * STATE_BYTES], arcs: vec![1; arcs * ARC_BYTES] }
 }
 
-/// A build on so many pairs, 1 = 2, 3 = 4 and so on, into space for as many states and arcs.
-fn build(automaton: &Automaton, pairs: u64) -> Request {
+/// A build on so many pairs, 1 = 2, 3 = 4 and so on, with limits of 0, into space for as many states and arcs.
+fn build(automaton: &Automaton, pairs: u8) -> Request {
     let result = space(automaton.states.len(), automaton.arcs.len());
     let work = vec![1; intersect_work(result.room(), automaton.states.len() as u64) as usize];
-    let pairs = (0..pairs).map(|pair| (2 * pair + 1, 2 * pair + 2)).collect();
-    Request::Intersect { table: encode(automaton), pairs, limit: 0, result, work }
+    let pairs = (0..pairs).flat_map(|pair| [2 * pair + 1, 2 * pair + 2, 0]).collect();
+    Request::Intersect { table: encode(automaton), pairs, result, work }
 }
 
 /// The product of two wheels.
@@ -62,10 +62,10 @@ fn product(states: usize, degree: usize) -> Request {
     Request::Product { first: encode(&wheel(states, degree, false)), second: encode(&wheel(states, degree, true)), result, work }
 }
 
-/// Their join on their only tapes.
+/// Their join on their only tapes, with a limit of 0.
 fn join(states: usize) -> Request {
     let work = vec![1; join_work(Room::AMPLE, Room::AMPLE) as usize];
-    let request = JoinRequest { pairs: vec![(1, 1)], limit: 0, product: space(1_024, 8_192), result: space(1_024, 8_192), work };
+    let request = JoinRequest { pairs: vec![1, 1, 0], product: space(1_024, 8_192), result: space(1_024, 8_192), work };
     Request::Join { first: encode(&wheel(states, 2, false)), second: encode(&wheel(states, 2, true)), request }
 }
 

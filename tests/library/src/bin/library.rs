@@ -2,12 +2,11 @@
 //!
 //!     library --cases N --laws N --seed S --keep DIR [--call NAME]
 //!
-//! It prints the seed, each difference, how often each answer was met, and last `N cases, M differences`. Of a difference DIR keeps the
-//! request and both outcomes. With --laws it also tests demand 3's laws on the calls, by weights looked up, and paths
-//! beside such weights. With --call all requests are of one call: read, write, build, product, join, union, project,
-//! drop, lookup, forecast or path.
+//! It prints the seed, each difference, how often each answer was met, and last `N cases, M differences`. Of a
+//! difference DIR keeps the request and both outcomes. With --laws it also tests demand 3's laws on the calls, by
+//! weights looked up, equal limits beside a single one, and paths beside such weights. With --call all requests are of
+//! one call: read, write, build, product, join, union, project, drop, lookup, forecast or path.
 //! Exit status: 0 without a difference, 1 with one, 2 where the comparison could not be made.
-
 
 use std::collections::{BTreeMap, BTreeSet};
 use std::process::ExitCode;
@@ -63,7 +62,11 @@ fn forecasts(records: &[u8]) -> String {
             _ => "none of the three",
         })
         .collect();
-    if kinds.is_empty() { "no pairs".to_string() } else { kinds.into_iter().collect::<Vec<&str>>().join(", ") }
+    if kinds.is_empty() {
+        "no pairs".to_string()
+    } else {
+        kinds.into_iter().collect::<Vec<&str>>().join(", ")
+    }
 }
 
 /// What a call for a path answered.
@@ -144,9 +147,9 @@ fn run(options: &Options) -> io::Result<u64> {
         println!("difference: {difference}");
     }
     if options.laws > 0 {
-        let laws::Found { compared, tables, paths, passed_over, .. } = found;
+        let laws::Found { compared, tables, paths, refusals, passed_over, .. } = found;
         print!("laws: {compared} weights compared, {tables} tables compared, {paths} paths compared, ");
-        println!("{passed_over} passed over");
+        println!("{refusals} refusals compared, {passed_over} passed over");
     }
     Ok(differences + found.differences.len() as u64)
 }
