@@ -1,5 +1,5 @@
--- What a forecast takes of a pair, and what it is counted from: the columns of the work space that mark the states on
--- successful paths, and the arc records.
+-- What the forecast of a pair is counted from: the columns of the work space that mark the states on successful paths,
+-- and the arc records.
 use Prim.Native.Nat.{ℕ, _-_, _*_}
 use mathlib.Core.Path.{_≡_}
 use mathlib.Core.Bool.{false}
