@@ -131,9 +131,10 @@ uint64_t tomchoen_write(size_t tapes, size_t states, size_t arcs,
                         const uint8_t *state_bytes, size_t state_bytes_length, const uint8_t *arc_bytes, size_t arc_bytes_length,
                         uint8_t *output, size_t output_length);
 
-/* Keeps the accounts that agree on pairs of tapes, three bytes a pair: first tape, second tape, limit. The limit is the
- * most symbols that one tape of the pair may be ahead of the other, each pair held to its own. One or two last bytes
- * alone are no pair and do not count. Refusals: 1 to 4 of the table, then of the whole list 5, 6, 7 (without pairs
+/* Keeps the accounts that agree on pairs of tapes, three bytes a pair: first tape, second tape, limit. Strings agree
+ * where they are equal after reading I as 1 and O as 0; labels are copied as they are written. The limit is the most
+ * symbols that one tape of the pair may be ahead of the other, each pair held to its own. One or two last bytes alone
+ * are no pair and do not count. Refusals: 1 to 4 of the table, then of the whole list 5, 6, 7 (without pairs
  * there is no 7), then 13, 8, 9, 10. Tells the counts. */
 uint64_t tomchoen_build(size_t tapes, size_t states, size_t arcs,
                         const uint8_t *state_bytes, size_t state_bytes_length, const uint8_t *arc_bytes, size_t arc_bytes_length,
@@ -145,8 +146,9 @@ uint64_t tomchoen_build(size_t tapes, size_t states, size_t arcs,
  * a pair, and their limits are not read. The result gets a record of 6 bytes for each pair, in list order: three
  * numbers of two bytes, low byte first (what it tells, the delay, the number of states). The delay is (states on
  * successful paths less one, or 0) x the greatest delay of an arc on them, also above 64; the number is all states x
- * (1 + 2(s + s^2 + .. + s^delay)), s the symbols on the pair's two tapes on any arc. Refusals: 1 to 4 of the table, 5,
- * 6, 13 (also where the result is shorter than the records of all pairs). Tells the number of bytes written. */
+ * (1 + 2(s + s^2 + .. + s^delay)), s the symbols on the pair's two tapes on any arc, I counted as 1 and O as 0.
+ * Refusals: 1 to 4 of the table, 5, 6, 13 (also where the result is shorter than the records of all pairs). Tells the
+ * number of bytes written. */
 uint64_t tomchoen_forecast(size_t tapes, size_t states, size_t arcs,
                            const uint8_t *state_bytes, size_t state_bytes_length, const uint8_t *arc_bytes, size_t arc_bytes_length,
                            const uint8_t *pairs, size_t pairs_length,
@@ -163,9 +165,10 @@ uint64_t tomchoen_product(size_t first_tapes, size_t first_states, size_t first_
                           uint8_t *work, size_t work_length);
 
 /* Joins two tables on pairs (a tape of the first, a tape of the second): their product, what agrees of it, without
- * the second tapes. Pairs are lent as to tomchoen_build, three bytes a pair, each with its own limit. The product
- * stands in product space of its own. Refusals: 1 to 4 of the first table, then of the second, 12, 5, 6, 7, 13, then 8,
- * 9, 11 of the product in its space, then 8, 9, 10 of the result in its space. Tells the counts. */
+ * the second tapes. Pairs are lent as to tomchoen_build, three bytes a pair, each with its own limit, and strings agree
+ * as there; a tape kept for two is written as in the first table. The product stands in product space of its own.
+ * Refusals: 1 to 4 of the first table, then of the second, 12, 5, 6, 7, 13, then 8, 9, 11 of the product in its space,
+ * then 8, 9, 10 of the result in its space. Tells the counts. */
 uint64_t tomchoen_join(size_t first_tapes, size_t first_states, size_t first_arcs,
                        const uint8_t *first_state_bytes, size_t first_state_bytes_length,
                        const uint8_t *first_arc_bytes, size_t first_arc_bytes_length,
@@ -199,8 +202,9 @@ uint64_t tomchoen_drop(size_t tapes, size_t states, size_t arcs,
                        uint8_t mask,
                        uint8_t *out_states, size_t out_states_length, uint8_t *out_arcs, size_t out_arcs_length);
 
-/* The weight of a tuple: one string a tape, each of at most 64 symbols and ended by byte 10. Tells the least weight of the successful
- * paths that spell it, or TOMCHOEN_NONE. Refusals: 1 to 4 of the table, 1 of the tuple, 5, 3, 2, 13. */
+/* The weight of a tuple: one string a tape, each of at most 64 symbols and ended by byte 10. Tells the least weight of
+ * the successful paths that spell it as it is written (I is not read as 1 here, nor O as 0), or TOMCHOEN_NONE.
+ * Refusals: 1 to 4 of the table, 1 of the tuple, 5, 3, 2, 13. */
 uint64_t tomchoen_lookup(size_t tapes, size_t states, size_t arcs,
                          const uint8_t *state_bytes, size_t state_bytes_length, const uint8_t *arc_bytes, size_t arc_bytes_length,
                          const uint8_t *tuple, size_t tuple_length,

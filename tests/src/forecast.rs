@@ -7,6 +7,7 @@
 use crate::automaton::Automaton;
 use crate::closing::arc_delay;
 use crate::pairs::Pair;
+use crate::reading::mark;
 use std::collections::HashSet;
 
 /// Bytes of the record of a forecast.
@@ -171,10 +172,10 @@ pub fn needed_delay(automaton: &Automaton, pair: Pair) -> u64 {
     useful.saturating_sub(1) * greatest
 }
 
-/// How many symbols are in use on the pair's two tapes, on any arc.
+/// How many symbols are in use on the pair's two tapes, on any arc, counted by their marks.
 pub fn symbols_in_use(automaton: &Automaton, pair: Pair) -> u64 {
     let labels = automaton.arcs.iter().flat_map(|arc| [&arc.labels[pair.0 - 1], &arc.labels[pair.1 - 1]]);
-    labels.flatten().collect::<HashSet<&u8>>().len() as u64
+    labels.flatten().map(|&symbol| mark(symbol)).collect::<HashSet<u8>>().len() as u64
 }
 
 /// Document 01's bound on the leftovers of one pair, 1 + 2(s + s² + .. + s^D), or the greatest number of 64 bits where it is

@@ -3,7 +3,7 @@
 
 use crate::automaton::{Arc, Automaton, Label, State, MOST_LABEL, MOST_STATES};
 use crate::forecast::{leftovers, MOST_NUMBER};
-use crate::generate::{case, placed, small_case, Case, Subject};
+use crate::generate::{case, placed, rewrite, small_case, Case, Subject};
 use crate::labels::{weight, word, Ends};
 use crate::pair_lists::random_pairs;
 use crate::pairs::tapes_of;
@@ -236,13 +236,17 @@ fn empty_case(random: &mut Random) -> Subject {
     (Automaton::empty(tapes), random_pairs(random, tapes))
 }
 
-/// A valid table and good pairs for a forecast.
+/// A valid table and good pairs for a forecast; sometimes written otherwise.
 pub fn forecast_case(random: &mut Random) -> Subject {
-    match random.below(100) {
+    let (mut automaton, pairs) = match random.below(100) {
         0..=46 => rings_case(random),
         47..=69 => chain_case(random),
         70..=95 => other_case(random),
         96..=98 => empty_case(random),
         _ => large_case(random),
+    };
+    if random.chance(30) {
+        rewrite(random, &mut automaton);
     }
+    (automaton, pairs)
 }

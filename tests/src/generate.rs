@@ -2,7 +2,7 @@
 
 use crate::automaton::{Arc, Automaton, Label, State, MOST_LABEL};
 use crate::damage;
-use crate::labels::{label, optional_weight, pair_labels, weight, word, Ends};
+use crate::labels::{label, optional_weight, pair_labels, respelled, rewritten, weight, word, Ends};
 use crate::pair_lists::{faulty, good_limit, limits, random_pairs};
 use crate::pairs::{pair_of, records_of, Pair, PairRecord, Tapes};
 use crate::random::Random;
@@ -319,10 +319,28 @@ fn with_copies(random: &mut Random, mut shape: Shape) -> Shape {
     shape
 }
 
-/// A case of a shape: sometimes with copies of its pair, each pair with a limit.
+/// The table with every label written otherwise; sometimes a few arcs stand there twice, in two writings.
+pub fn rewrite(random: &mut Random, automaton: &mut Automaton) {
+    for label in automaton.arcs.iter_mut().flat_map(|arc| &mut arc.labels) {
+        *label = rewritten(random, label);
+    }
+    let twice = if random.chance(50) { random.range(1, 4).min(automaton.arcs.len()) } else { 0 };
+    for _ in 0..twice.min(512_usize.saturating_sub(automaton.arcs.len())) {
+        let mut arc = random.pick(&automaton.arcs);
+        arc.labels = arc.labels.iter().map(|label| respelled(random, label)).collect();
+        arc.weight = weight(random);
+        let place = random.below(automaton.arcs.len() + 1);
+        automaton.arcs.insert(place, arc);
+    }
+}
+
+/// A case of a shape: sometimes with copies of its pair, sometimes written otherwise, each pair with a limit.
 fn limited_case(random: &mut Random, mut shape: Shape) -> Case {
     if shape.pairs.len() == 1 && random.chance(35) {
         shape = with_copies(random, shape);
+    }
+    if random.chance(35) {
+        rewrite(random, &mut shape.automaton);
     }
     let pairs: Vec<Pair> = shape.pairs.iter().copied().map(pair_of).collect();
     let limits = limits(random, &shape.automaton, &pairs, shape.limit);

@@ -7,10 +7,11 @@ use crate::automaton::{Arc, Automaton, Room, State};
 use crate::closing::{closing_delays, Closing};
 use crate::order::{first_reached, Edge};
 use crate::pairs::{LimitedPair, Pair, MOST_LIMIT};
+use crate::reading::marks;
 use crate::refusal::{refuse_if, Refusal};
 use std::collections::{HashMap, HashSet};
 
-/// The leftovers of the first and of the second tape of a pair, one of them empty.
+/// The leftovers of the first and of the second tape of a pair, one of them empty; held as marks.
 #[derive(Clone, Debug, Default, PartialEq, Eq, Hash)]
 pub struct Leftover {
     pub first: Vec<u8>,
@@ -18,7 +19,7 @@ pub struct Leftover {
 }
 
 impl Leftover {
-    /// The leftover after more is written on both tapes, `None` where they do not agree.
+    /// The leftover after more marks on both tapes, `None` where they do not agree.
     fn after(&self, first: &[u8], second: &[u8]) -> Option<Leftover> {
         let first = [&self.first, first].concat();
         let second = [&self.second, second].concat();
@@ -90,7 +91,7 @@ impl<'a> Problem<'a> {
     /// The configuration that an arc leads to, if the step is compatible.
     fn step(&self, config: &Config, arc: &Arc) -> Option<Config> {
         let after = |(leftover, &((first, second), _)): (&Leftover, &LimitedPair)| {
-            leftover.after(&arc.labels[first - 1], &arc.labels[second - 1])
+            leftover.after(&marks(&arc.labels[first - 1]), &marks(&arc.labels[second - 1]))
         };
         let leftovers = config.leftovers.iter().zip(self.pairs).map(after).collect::<Option<Vec<Leftover>>>()?;
         Some(Config { state: arc.target, leftovers })

@@ -3,7 +3,7 @@
 
 use crate::automaton::{Arc, Automaton, Room, State, Tuple};
 use crate::columns::project;
-use crate::generate::small_case;
+use crate::generate::{rewrite, small_case};
 use crate::labels::word;
 use crate::pair_lists::{good_limit, limits};
 use crate::pairs::{pair_of, records_of, Pair, PairRecord, Tapes};
@@ -65,7 +65,7 @@ fn spelling_chain(random: &mut Random, words: &Tuple) -> Automaton {
 }
 
 /// Two chains that spell the same words, the tapes of the second in a random order, and some of the pairs of tapes that
-/// spell the same; now and then one word has a symbol more in the second.
+/// spell the same; now and then one word has a symbol more in the second. Sometimes both are written otherwise.
 fn lagging_tables(random: &mut Random) -> (Automaton, Automaton, Vec<Tapes>) {
     let (tapes, alphabet) = (random.range(1, 4), random.range(1, 2));
     let lengths: Vec<usize> = (0..tapes).map(|_| random.below(8)).collect();
@@ -78,7 +78,12 @@ fn lagging_tables(random: &mut Random) -> (Automaton, Automaton, Vec<Tapes>) {
     let pairs: Vec<Tapes> = (1..).zip(&places).map(|(tape, &place)| (place as u64 + 1, tape)).collect();
     let mut pairs = random.shuffled(&pairs);
     pairs.truncate(random.range(1, tapes).max(random.range(1, tapes)));
-    (spelling_chain(random, &words), spelling_chain(random, &others), pairs)
+    let (mut first, mut second) = (spelling_chain(random, &words), spelling_chain(random, &others));
+    if random.chance(40) {
+        rewrite(random, &mut first);
+        rewrite(random, &mut second);
+    }
+    (first, second, pairs)
 }
 
 /// Tables, pairs and limits for a join; the tables may be too wide for a product.

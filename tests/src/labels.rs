@@ -109,6 +109,26 @@ fn potential_pair(random: &mut Random, ends: &[Ends], states: usize) -> PairLabe
     ends.iter().map(|ends| labels(random, ends)).collect()
 }
 
+/// A string written otherwise: each A as I or 1, each B as O or 0. What was equal then agrees only as it is read.
+pub fn rewritten(random: &mut Random, string: &[u8]) -> Label {
+    let other = |&symbol: &u8| match symbol {
+        b'A' => random.pick(b"I1"),
+        b'B' => random.pick(b"O0"),
+        symbol => symbol,
+    };
+    string.iter().map(other).collect()
+}
+
+/// A string with the same marks: each I and 1 as either, each O and 0.
+pub fn respelled(random: &mut Random, string: &[u8]) -> Label {
+    let other = |&symbol: &u8| match symbol {
+        b'I' | b'1' => random.pick(b"I1"),
+        b'O' | b'0' => random.pick(b"O0"),
+        symbol => symbol,
+    };
+    string.iter().map(other).collect()
+}
+
 /// Labels of a pair in one of the styles.
 pub fn pair_labels(random: &mut Random, ends: &[Ends], states: usize) -> PairLabels {
     let labels = match random.below(8) {

@@ -1,8 +1,9 @@
-//! The second implementation of Tomchoen, written from document 01 and document 02's requests 2.1 to 2.4 alone, on
+//! The second implementation of Tomchoen, written from document 01 and document 02's requests 2.1 to 2.5 alone, on
 //! plain Rust types.
 //!
 //! `text`, `memory`: tables as texts and as records; `intersect`, `product`, `join`, `columns`, `lookup`, `path`,
-//! `forecast`: the calls on automata; `calls`: the same calls on lent bytes; `agree`: the program from text to text.
+//! `forecast`: the calls on automata; `reading`: how strings are compared; `calls`: the same calls on lent bytes;
+//! `agree`: the program from text to text.
 //! The rest makes and checks test inputs.
 
 #![forbid(unsafe_code)]
@@ -30,6 +31,7 @@ pub mod path;
 pub mod path_cases;
 pub mod product;
 pub mod random;
+pub mod reading;
 pub mod refusal;
 pub mod requests;
 pub mod sample;

@@ -3,8 +3,8 @@
 //! and weigh nothing, loops of them and several starting states are frequent, so that every part of the order decides.
 
 use crate::automaton::{Arc, Automaton, Label, State, Tuple, MOST_WEIGHT};
-use crate::generate::{cuts, small_case};
-use crate::labels::word;
+use crate::generate::{cuts, rewrite, small_case};
+use crate::labels::{rewritten, word};
 use crate::random::Random;
 
 /// A table and a tuple to be looked up in it.
@@ -191,9 +191,10 @@ fn ring_case(random: &mut Random) -> PathSubject {
     (Automaton { tapes: 1, states, arcs }, vec![vec![b'A'; length]])
 }
 
-/// A valid table and a tuple that is often spelled in it, more than once.
+/// A valid table and a tuple that is often spelled in it, more than once; sometimes both are written otherwise, each by
+/// itself.
 pub fn path_case(random: &mut Random) -> PathSubject {
-    match random.below(100) {
+    let (mut automaton, tuple) = match random.below(100) {
         0..=3 => ring_case(random),
         4..=34 => routes_case(random),
         35..=46 => {
@@ -202,5 +203,11 @@ pub fn path_case(random: &mut Random) -> PathSubject {
             (automaton, tuple)
         }
         _ => even_case(random),
+    };
+    if random.chance(90) {
+        return (automaton, tuple);
     }
+    rewrite(random, &mut automaton);
+    let tuple = tuple.iter().map(|string| rewritten(random, string)).collect();
+    (automaton, tuple)
 }

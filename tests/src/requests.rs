@@ -14,6 +14,7 @@ use crate::generate::{case, corridor_arcs, small_case, Case};
 use crate::intersect::{intersect, reached_counts};
 use crate::join::join;
 use crate::join_cases::{join_case, two_tables, JoinCase};
+use crate::labels::respelled;
 use crate::lookup::judge_tuple;
 use crate::memory::{encode, LentTable, ARC_BYTES, STATE_BYTES};
 use crate::pair_lists::{bytes_of, faulty, unread_limits};
@@ -260,6 +261,9 @@ pub fn spelled(random: &mut Random, automaton: &Automaton) -> Vec<Vec<u8>> {
 fn lookup_request(random: &mut Random) -> Request {
     let automaton = small_case(random).automaton;
     let mut strings = spelled(random, &automaton);
+    if random.chance(15) {
+        strings = strings.iter().map(|string| respelled(random, string)).collect();
+    }
     if random.chance(15) {
         let at = random.below(strings.len());
         let length = random.pick(&[0, 1, 2, 63, 64, 65, 66]);

@@ -7,9 +7,10 @@ use crate::closing::{arc_delay, Closing};
 use crate::columns::drop_tapes;
 use crate::pairs::{LimitedPair, Pair};
 use crate::product::product;
+use crate::reading::mark;
 use crate::refusal::{refuse_if, Refusal};
 
-/// What is left of a pair's two tapes.
+/// What is left of a pair's two tapes, as it is read.
 type Left = (Vec<u8>, Vec<u8>);
 
 /// A configuration as document 01 words it: a state and, for each pair, what is left of its two tapes.
@@ -81,8 +82,8 @@ impl<'a> Search<'a> {
     fn step(&self, config: &Listed, arc: &Arc) -> Option<Listed> {
         let mut next: Listed = (arc.target, config.1.clone());
         for (left, pair) in next.1.iter_mut().zip(self.pairs) {
-            left.0.extend(&arc.labels[pair.0 - 1]);
-            left.1.extend(&arc.labels[pair.1 - 1]);
+            left.0.extend(arc.labels[pair.0 - 1].iter().map(|&symbol| mark(symbol)));
+            left.1.extend(arc.labels[pair.1 - 1].iter().map(|&symbol| mark(symbol)));
             while !left.0.is_empty() && !left.1.is_empty() && left.0[0] == left.1[0] {
                 left.0.remove(0);
                 left.1.remove(0);

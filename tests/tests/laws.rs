@@ -15,6 +15,7 @@ use tomchoen_tests::pair_lists::random_pairs;
 use tomchoen_tests::pairs::{limited, pair_of, LimitedPair, Pair, MOST_LIMIT};
 use tomchoen_tests::product::product;
 use tomchoen_tests::random::Random;
+use tomchoen_tests::reading::marks;
 use tomchoen_tests::refusal::Refusal;
 use tomchoen_tests::sample::table;
 use tomchoen_tests::text::{read, write};
@@ -65,7 +66,7 @@ fn keeping_keeps_the_accounts_that_agree() {
         let pairs = pairs_of(&case);
         let Ok(kept) = intersect(&case.automaton, &pairs, Room::AMPLE) else { continue };
         let most = affordable(&case.automaton, 7);
-        let equal = |account: &Account, (first, second): Pair| account.0[first - 1] == account.0[second - 1];
+        let equal = |account: &Account, (first, second): Pair| marks(&account.0[first - 1]) == marks(&account.0[second - 1]);
         let agrees = |account: &Account| pairs.iter().all(|&(pair, _)| equal(account, pair));
         let expected: Vec<Account> = accounts(&case.automaton, most).into_iter().filter(agrees).collect();
         kept_some += usize::from(!expected.is_empty());
@@ -215,7 +216,8 @@ fn a_join_gives_the_meetings() {
         let (first, second, pairs) = tables_to_join(&mut random);
         let Ok(joined) = join(&first, &second, &at_most_limit(&pairs), Room::AMPLE, Room::AMPLE) else { continue };
         let most = affordable(&product(&first, &second, Room::AMPLE).unwrap(), 5);
-        let meets = |account: &Account| pairs.iter().all(|&(i, j)| account.0[i - 1] == account.0[first.tapes + j - 1]);
+        let equal = |one: &[u8], two: &[u8]| marks(one) == marks(two);
+        let meets = |account: &Account| pairs.iter().all(|&(i, j)| equal(&account.0[i - 1], &account.0[first.tapes + j - 1]));
         let shorten = |account: Account| {
             let dropped = |tape: usize| pairs.iter().any(|&(_, j)| first.tapes + j == tape + 1);
             (account.0.into_iter().enumerate().filter(|(tape, _)| !dropped(*tape)).map(|(_, string)| string).collect(), account.1)
@@ -590,8 +592,8 @@ fn needs_word_for_word(automaton: &Automaton, pair: Pair) -> (u64, Option<u64>) 
     let arcs = (0..automaton.arcs.len()).filter(|&arc| arc_on_successful_path(automaton, arc));
     let sizes = arcs.map(|arc| arc_delay(&automaton.arcs[arc].labels, pair).unsigned_abs());
     let delay = if states == 0 { 0 } else { (states - 1) * sizes.max().unwrap_or(0) };
-    let on_tape = |symbol: u8, tape: usize| automaton.arcs.iter().any(|arc| arc.labels[tape - 1].contains(&symbol));
-    let symbols = (b'A'..=b'Z').chain(b'0'..=b'9').filter(|&symbol| on_tape(symbol, pair.0) || on_tape(symbol, pair.1)).count();
+    let on_tape = |mark: u8, tape: usize| automaton.arcs.iter().any(|arc| marks(&arc.labels[tape - 1]).contains(&mark));
+    let symbols = (b'A'..=b'Z').chain(b'0'..=b'9').filter(|&mark| on_tape(mark, pair.0) || on_tape(mark, pair.1)).count();
     let mut leftovers = vec![1_u128];
     for length in 1..=delay as u32 {
         let words = (symbols as u128).checked_pow(length).filter(|&words| words <= 65_535);

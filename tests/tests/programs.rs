@@ -206,7 +206,7 @@ fn generated_builds_meet_every_kind_of_limits() {
 
 #[test]
 fn generated_joins_meet_every_kind_of_limits() {
-    let met = met_by_lists("join", 6_000);
+    let met = met_by_lists("join", 8_000);
     assert_eq!(met.len(), 53, "{met:#?}");
     assert!(met.values().all(|&count| count >= 5), "{met:#?}");
     assert!(met["answer 0"] > 1_500 && met["answer 7"] > 300 && met["answer 10"] > 500, "{met:#?}");

@@ -1,12 +1,12 @@
 -- Worked forecasts (document 02, 2.1): loops, one state, closing delays endless on one side, cycles of both signs,
--- document 01's P, Q, R, S.
+-- document 01's P, Q, R, S, and symbols counted after reading.
 use mathlib.Core.Option.{some}
 use mathlib.Core.List.{List, [], _∷_, _++_}
 use Prim.Native.Nat.{ℕ}
 use Rattle.automata.specs.Automaton.{Automaton, State, Symbol}
 use Rattle.automata.specs.TapePair.{Pair}
 use Rattle.automata.specs.Forecast.{Forecast, mixed, needs, number, over}
-use Rattle.automata.specs.Cases.{first, between, last, arc, empty, A, B, P, Q, R, S, untrimmed, trailing, stuck, noStates, pair}
+use Rattle.automata.specs.Cases.{first, between, last, arc, empty, A, B, I, O, one, nought, P, Q, R, S, untrimmed, trailing, stuck, noStates, pair}
 
 -- a state that is initial and final
 abbrev pub both : State ℕ
@@ -83,6 +83,17 @@ chain = record {
       ∷ arc 4 5 0 (empty ∷ A8 ∷ []) ∷ arc 5 6 0 (empty ∷ A8 ∷ []) ∷ arc 6 7 0 (empty ∷ A8 ∷ []) ∷ arc 7 8 0 (empty ∷ A8 ∷ []) ∷ arc 8 9 0 (A ∷ A ∷ []) ∷ [];
 }
 
+-- I, 1, O and 0 are two symbols; I on the one tape and 1 on the other are one
+abbrev pub fourWritten : Automaton ℕ
+fourWritten = record {
+  tapes = 2;
+  states = first ∷ last ∷ [];
+  arcs = arc 0 1 0 ((I ++ one ++ O ++ nought ++ I ++ one ++ O ++ nought) ∷ empty ∷ []) ∷ arc 1 1 0 (empty ∷ one ∷ []) ∷ [];
+}
+
+abbrev pub swingWritten : Automaton ℕ
+swingWritten = record { tapes = 2; states = both ∷ between ∷ []; arcs = arc 0 1 0 (I ∷ empty ∷ []) ∷ arc 1 0 0 (empty ∷ one ∷ []) ∷ [] }
+
 -- a table, a pair of tapes, and the forecast
 abbrev pub forecasts : List (Automaton ℕ × Pair × Forecast)
 forecasts =
@@ -110,4 +121,7 @@ forecasts =
     ∷ (wordy, pair 1 2, needs 8 (number 2042))
     ∷ (manySymbols, pair 1 2, needs 8 over)
     ∷ (chain, pair 1 2, needs 72 (number 1450))
+    ∷ (fourWritten, pair 1 2, needs 8 (number 2042))
+    ∷ (swingWritten, pair 1 2, needs 1 (number 6))
+    ∷ (swingWritten, pair 2 1, needs 1 (number 6))
     ∷ []

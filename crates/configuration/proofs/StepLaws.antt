@@ -1,16 +1,16 @@
 -- Laws of the step by an arc: pair after pair, from the labels in the arc's record.
-use Prim.Native.Nat.{ℕ, _+_, _-_, _≤_, _<_}
-use mathlib.Core.Path.{_≡_, refl, sym, ap, ap₂, _∙_}
+use Prim.Native.Nat.{ℕ, zero, suc, _+_, _-_, _≤_, _<_}
+use mathlib.Core.Path.{_≡_, refl, sym, ap, ap₂, subst₂, _∙_}
 use mathlib.Core.Bool.{Bool, true, false, not, Bool·not-not}
 use mathlib.Core.Option.{Option, none, some, Option·map}
 use mathlib.Core.List.{List, [], _∷_, _++_, map, append-assoc, append-nil}
 use native.Mathlib.Omega.{arith}
 use native.Mathlib.Numerals.{add-one}
 use lib.ListN.{length, getD, set, take, drop, replicate, drop-of-length-le, length-set}
-use lib.Seq.{drop-cons, getD-take, length-take-le, take-suc-set, drop-set-lt, drop-drop}
+use lib.Seq.{set-getD, drop-cons, getD-take, length-take-le, take-suc-set, drop-set-lt, drop-drop}
 use Rattle.automata.specs.Lists.{All, consBoth}
-use Rattle.automata.specs.Automaton.{Symbol, Arc, labelOn}
-use Rattle.automata.specs.TapePair.{reading, map-reading}
+use Rattle.automata.specs.Automaton.{Arc, labelOn}
+use Rattle.automata.specs.TapePair.{reading}
 use Rattle.automata.specs.Leftover as automata
 use Rattle.automata.specs.Config.{advanceAll}
 use Rattle.automata.proofs.ListFacts.{map-append}
@@ -25,7 +25,7 @@ use Rattle.configuration.specs.declared.leftover.Leftover.{Leftover}
 use Rattle.configuration.specs.declared.leftover.Advanced.{Advanced}
 use Rattle.configuration.specs.Leftovers.{leftoverAs, labelOf, blank, outside, Good, advancedAs, Advances}
 use Rattle.configuration.specs.Configs.{Config, GoodConfig, Starts}
-use Rattle.configuration.specs.Steps.{labelPlace, labelAt, pairAfter, Reads, Followable, Follows}
+use Rattle.configuration.specs.Steps.{labelPlace, labelAt, readTo, readLabel, pairAfter, Reads, Followable, Follows}
 use Rattle.configuration.proofs.ListLaws.{drop-replicate, All-set}
 
 -- ---- the labels in a record
@@ -38,15 +38,60 @@ pub label-length : (at tape : ℕ) (xs : List ℕ) (l : Label) → l ≡ labelAt
 unfolding labelAt
 label-length at tape xs l e h = rw e h
 
-pub pair-advances : (at : ℕ) (arcs : List ℕ) (p : Pair) (l : Leftover) (x y : Label) (r : Advanced) → x ≡ labelAt at (p .first) arcs → y ≡ labelAt at (p .second) arcs
-    → Advances (automata.advance (leftoverAs l) (labelOf x) (labelOf y)) r → Advances (pairAfter at arcs p l) r
-pair-advances at arcs p l x y r e f t = rw (← e, ← f) t
+-- ---- labels as they are compared
+
+-- none yet
+pub read-start : (xs : List ℕ) → xs ≡ readTo 0 xs
+unfolding readTo
+read-start xs = refl
+
+-- one byte more
+pub read-turn : (xs : List ℕ) (i c : ℕ) → i < length xs → c ≡ reading (getD (readTo i xs) i 0) → set (readTo i xs) i c ≡ readTo (i + 1) xs
+unfolding readTo
+read-turn xs i c h e = rw (add-one i, e) (go xs i h)
+  where
+    go : (xs : List ℕ) (i : ℕ) → i < length xs → set (readTo i xs) i (reading (getD (readTo i xs) i 0)) ≡ readTo (suc i) xs
+    go [] i h = absurd (omega arith)
+    go (x ∷ xs) zero h = refl
+    go (x ∷ xs) (suc i) h = ap {B = List ℕ} (λ z. reading x ∷ z) (go xs i (omega arith))
+
+-- and where it is read as it is written, nothing changes
+pub read-kept : (xs : List ℕ) (i : ℕ) → i < length xs → reading (getD (readTo i xs) i 0) ≡ getD (readTo i xs) i 0 → readTo i xs ≡ readTo (i + 1) xs
+read-kept xs i h e = sym (set-getD (readTo i xs) i 0) ∙ read-turn xs i (getD (readTo i xs) i 0) h (sym e)
+
+-- all symbols: the label is
+pub label-is-read : (x : Label) (i : ℕ) (symbols : List ℕ) → i ≤ x .len → x .len ≤ i → symbols ≡ readTo i (x .symbols)
+    → _≡_ {A = Label} (record { len = x .len; symbols = symbols }) (readLabel x)
+unfolding readLabel
+label-is-read x i symbols h k e =
+    let n : i ≡ x .len = omega arith in
+    ap (λ z. record { len = x .len; symbols = z }) (e ∙ ap (λ j. readTo j (x .symbols)) n)
+
+-- the string of a label that is read
+take-read : (n : ℕ) (x : List ℕ) → take n (readTo n x) ≡ map reading (take n x)
+unfolding readTo
+take-read zero x = refl
+take-read (suc n) [] = refl
+take-read (suc n) (c ∷ x) = ap {B = List ℕ} (λ z. reading c ∷ z) (take-read n x)
+
+pub read-length : (x : Label) (y : Label) → y ≡ readLabel x → x .len ≤ 8 → y .len ≤ 8
+unfolding readLabel
+read-length x y e h = rw e h
+
+pub pair-advances : (at : ℕ) (arcs : List ℕ) (p : Pair) (l : Leftover) (x y x′ y′ : Label) (r : Advanced) → x ≡ labelAt at (p .first) arcs → y ≡ labelAt at (p .second) arcs
+    → x′ ≡ readLabel x → y′ ≡ readLabel y
+    → Advances (automata.advance (leftoverAs l) (labelOf x′) (labelOf y′)) r → Advances (pairAfter at arcs p l) r
+unfolding readLabel
+pair-advances at arcs p l x y x′ y′ r e f e′ f′ t =
+    subst₂ (λ a b. Advances (automata.advance (leftoverAs l) a b) r)
+    (ap labelOf e′ ∙ take-read (x .len) (x .symbols) ∙ ap (λ z. map reading (labelOf z)) e)
+    (ap labelOf f′ ∙ take-read (y .len) (y .symbols) ∙ ap (λ z. map reading (labelOf z)) f) t
 
 module _ (arcs : List ℕ) (at tapes : ℕ) (a : Arc ℕ) (r : Reads arcs at tapes a) where
   -- the label that is compared is the one in the record
-  label-read : (tape : ℕ) → 1 ≤ tape → tape ≤ tapes → map reading (labelOn (tape - 1) a) ≡ labelOf (labelAt at tape arcs)
+  label-read : (tape : ℕ) → 1 ≤ tape → tape ≤ tapes → map reading (labelOn (tape - 1) a) ≡ map reading (labelOf (labelAt at tape arcs))
   unfolding labelAt
-  label-read tape h k = map-reading (labelOn (tape - 1) a) ∙ r .label (tape - 1) (omega arith)
+  label-read tape h k = ap (map reading) (r .label (tape - 1) (omega arith))
 
 -- ---- the pairs one after the other
 module _ (at : ℕ) (arcs : List ℕ) where

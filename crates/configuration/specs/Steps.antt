@@ -2,11 +2,12 @@
 use mathlib.Core.Path.{_≡_}
 use mathlib.Core.Bool.{Bool, true, false}
 use mathlib.Core.Option.{Option, some}
-use mathlib.Core.List.{List}
-use Prim.Native.Nat.{ℕ, _+_, _-_, _*_, _≤_, _<_}
+use mathlib.Core.List.{List, [], _∷_, map}
+use Prim.Native.Nat.{ℕ, zero, suc, _+_, _-_, _*_, _≤_, _<_}
 use lib.ListN.{length, getD, take}
 use Rattle.automata.specs.Lists.{guard}
 use Rattle.automata.specs.Automaton.{Arc, labelOn}
+use Rattle.automata.specs.TapePair.{reading}
 use Rattle.automata.specs.Leftover as leftover
 use Rattle.automata.specs.Config as automata
 use Rattle.memory.specs.Region.{part, splice}
@@ -27,9 +28,20 @@ labelPlace at i = at + 8 + 9 * i
 unfoldable pub labelAt : ℕ → ℕ → List ℕ → Label
 labelAt at tape xs = record { len = getD xs (labelPlace at (tape - 1)) 0; symbols = part (labelPlace at (tape - 1) + 1) 8 xs }
 
--- what is left of one pair after the arc whose record stands at a place
+-- the first bytes read
+unfoldable pub readTo : ℕ → List ℕ → List ℕ
+readTo zero xs = xs
+readTo (suc i) [] = []
+readTo (suc i) (x ∷ xs) = reading x ∷ readTo i xs
+
+-- a label as it is compared: its symbols read
+unfoldable pub readLabel : Label → Label
+readLabel x = record { len = x .len; symbols = readTo (x .len) (x .symbols) }
+
+-- what is left of one pair after the arc whose record stands at a place: its labels are read, and so are leftovers
 abbrev pub pairAfter : ℕ → List ℕ → Pair → Leftover → Option leftover.Leftover
-pairAfter at arcs p l = leftover.advance (leftoverAs l) (labelOf (labelAt at (p .first) arcs)) (labelOf (labelAt at (p .second) arcs))
+pairAfter at arcs p l =
+    leftover.advance (leftoverAs l) (map reading (labelOf (labelAt at (p .first) arcs))) (map reading (labelOf (labelAt at (p .second) arcs)))
 
 -- the bytes at a place are the record of the arc a of a table with so many tapes
 pub record Reads (arcs : List ℕ) (at tapes : ℕ) (a : Arc ℕ) : Type 0 where

@@ -5,7 +5,7 @@ ghost use lib.ListN.{length, getD};
 ghost use Rattle.memory.specs.Pairs.{Within};
 ghost use Rattle.configuration.specs.Leftovers.{Advances, leftoverAt};
 ghost use Rattle.configuration.specs.Configs.{configAt, slot, Row};
-ghost use Rattle.configuration.specs.Steps.{labelPlace, labelAt, pairAfter, Advanceable, AdvancesAt, Followable, FollowsIn};
+ghost use Rattle.configuration.specs.Steps.{labelPlace, labelAt, readLabel, pairAfter, Advanceable, AdvancesAt, Followable, FollowsIn};
 use crate::leftover::Advanced;
 use crate::leftover::Leftover;
 use crate::leftover::advance;
@@ -17,6 +17,7 @@ use memory::bytes::put16;
 use memory::pair::Pair;
 use memory::pair::PairList;
 use memory::record::Label;
+use memory::symbol::read_symbol;
 
 // The label on a tape, counted from 1, of the arc whose record stands at `at`.
 pub fn label_at(arcs: &[u8], at: usize, tape: u8) -> Label
@@ -33,13 +34,36 @@ pub fn label_at(arcs: &[u8], at: usize, tape: u8) -> Label
     }
 }
 
+// A label as it is compared: each of its symbols read. Only what is read otherwise is stored: most labels stay as they
+// are, and one that no byte is stored in is copied faster.
+fn read_label(x: Label) -> Label
+    requires { ⌜ x .len ≤ 8 ⌝ }
+    ensures { λ r. ⌜ r ≡ readLabel x ⌝ }
+{
+    let mut symbols = x.symbols;
+    let len = x.len as usize;
+    let mut i = 0;
+    while i < len {
+        let written = symbols[i];
+        let read = read_symbol(written);
+        if read != written {
+            symbols[i] = read;
+        }
+        i += 1;
+    }
+    Label {
+        len: x.len,
+        symbols,
+    }
+}
+
 // What is left of one pair after the arc.
 fn advance_pair(l: Leftover, arcs: &[u8], at: usize, p: Pair) -> Advanced
     requires { ⌜ (at + 80 ≤ length (now arcs)) × ((Within 8 p) × ((l .len ≤ 64) × ((getD (now arcs) (labelPlace at (p .first - 1)) 0 ≤ 8) × (getD (now arcs) (labelPlace at (p .second - 1)) 0 ≤ 8)))) ⌝ }
     ensures { λ r. ⌜ Advances (pairAfter at (now (arcs .entry)) p l) r ⌝ }
 {
-    let x = label_at(arcs, at, p.first);
-    let y = label_at(arcs, at, p.second);
+    let x = read_label(label_at(arcs, at, p.first));
+    let y = read_label(label_at(arcs, at, p.second));
     advance(l, x, y)
 }
 

@@ -13,7 +13,7 @@ use Rattle.automata.specs.Lists.{and}
 use Rattle.automata.specs.Explore.{insertAll}
 use Rattle.automata.specs.Trim.{rank}
 use Rattle.automata.specs.Automaton.{Automaton, Arc, size, labelOn}
-use Rattle.automata.specs.TapePair.{TapePair, firstLabel, secondLabel, map-reading}
+use Rattle.automata.specs.TapePair.{TapePair, reading, firstLabel, secondLabel}
 use Rattle.automata.specs.Closing.{missing, Closing, closing}
 use Rattle.automata.specs.Reversal.{reversal}
 use Rattle.automata.specs.Memory.{Memory, Sound, tableOf}
@@ -205,16 +205,16 @@ module _ (m : Memory) (s : Sound m) where
         ap₂ greatestOf (on-paths w k) (edges-are m A (sound-well-formed m s) (sound-holds m s) false (p .first - 1) (p .second - 1) (in-table first-in) (in-table second-in))
         ∙ greatest-arcs (onPaths A) (p .first - 1) (p .second - 1) (A .arcs)
 
-    -- a label
-    label-is : (t : ℕ) → t < m .tapes → (k : ℕ) (a : Arc ℕ) → getElem? (A .arcs) k ≡ some a → labelAt t (0 + 80 * k) (m .arcBytes) ≡ labelOn t a
+    -- a label, as it is compared
+    label-is : (t : ℕ) → t < m .tapes → (k : ℕ) (a : Arc ℕ) → getElem? (A .arcs) k ≡ some a → labelAt t (0 + 80 * k) (m .arcBytes) ≡ map reading (labelOn t a)
     unfolding part
     label-is t l k a e =
         let h : k < m .arcs = omega (arith, place-bound (A .arcs) k e, sound-holds m s .arcs) in
         let r = reads-arc m s k h a in
         let z : 0 + 80 * k ≡ 80 * k = omega arith in
         let y : 80 * k + 9 + 9 * t ≡ 80 * k + 8 + 9 * t + 1 = omega arith in
-        ap (λ (j : ℕ). labelAt t j (m .arcBytes)) z ∙ ap (λ (j : ℕ). part j (getD (m .arcBytes) (80 * k + 8 + 9 * t) 0) (m .arcBytes)) y
-        ∙ sym (take-take (getD (m .arcBytes) (80 * k + 8 + 9 * t) 0) 8 _ (r .label-fits t l)) ∙ sym (r .label t l) ∙ ap (labelOn t) (place-default (A .arcs) k a e)
+        ap (λ (j : ℕ). labelAt t j (m .arcBytes)) z ∙ ap (map reading) (ap (λ (j : ℕ). part j (getD (m .arcBytes) (80 * k + 8 + 9 * t) 0) (m .arcBytes)) y
+        ∙ sym (take-take (getD (m .arcBytes) (80 * k + 8 + 9 * t) 0) 8 _ (r .label-fits t l)) ∙ sym (r .label t l) ∙ ap (labelOn t) (place-default (A .arcs) k a e))
 
     -- the symbols
     symbols-is : insertAll eqb [] (symbolsFrom (p .first - 1) (p .second - 1) 0 (m .arcs) (m .arcBytes)) ≡ symbolsOn A (onTapes p)
@@ -224,8 +224,8 @@ module _ (m : Memory) (s : Sound m) where
         (ap (λ (k : ℕ). symbolsFrom (p .first - 1) (p .second - 1) 0 k (m .arcBytes)) (sound-holds m s .arcs)
         ∙ symbols-are (p .first - 1) (p .second - 1) 0 (m .arcBytes) (λ a. firstLabel (onTapes p) a ++ secondLabel (onTapes p) a) (A .arcs) (λ k a e.
         ap₂ (λ (x y : List ℕ). x ++ y)
-        (label-is (p .first - 1) first-in k a e ∙ sym (map-reading (labelOn (p .first - 1) a)))
-        (label-is (p .second - 1) second-in k a e ∙ sym (map-reading (labelOn (p .second - 1) a)))))
+        (label-is (p .first - 1) first-in k a e)
+        (label-is (p .second - 1) second-in k a e)))
 
     -- ---- the forecast
 

@@ -2,7 +2,7 @@
 use Prim.Native.Nat.{ℕ, zero, suc, _+_, _-_, _*_, _<_, _≤_}
 use mathlib.Core.Path.{_≡_, refl, sym, ap, _∙_}
 use mathlib.Core.Bool.{Bool, true, false}
-use mathlib.Core.List.{List, [], _∷_, _++_}
+use mathlib.Core.List.{List, [], _∷_, _++_, map}
 use native.Mathlib.Omega.{arith}
 use native.Mathlib.Decide.{ℕ-discrete}
 use native.Mathlib.Numerals.{add-one}
@@ -13,11 +13,13 @@ use Rattle.memory.specs.Region.{part}
 use Rattle.memory.proofs.PartLaws.{part-zero, part-suc}
 use Rattle.memory.proofs.EndianLaws.{Bytes}
 use Rattle.automata.specs.Lists.{if, or, All}
+use Rattle.automata.specs.TapePair.{reading}
 use Rattle.automata.specs.Explore.{member, insert, insertAll}
 use Rattle.automata.proofs.TestFacts.{eqb-false}
 use Rattle.automata.proofs.ListFacts.{numbers-decided}
 use Rattle.automata.proofs.AppendFacts.{any-snoc, or-none}
 use Rattle.automata.proofs.RecordFacts.{All-append}
+use Rattle.automata.proofs.ReadingFacts.{reading-le}
 use Rattle.forecast_counts.specs.Symbols.{labelAt, symbolsFrom, ShortLabels, noted, marked}
 
 -- ---- the table
@@ -35,13 +37,13 @@ length-noted seen [] = refl
 length-noted seen (x ∷ xs) = length-noted (set seen x 1) xs ∙ length-set seen x 1
 
 -- one byte more
-pub bytes-turn : (seen bytes : List ℕ) (from left rest : ℕ) → left ≡ suc rest → from < length bytes
-    → noted (set seen (getD bytes from 0) 1) (part (from + 1) rest bytes) ≡ noted seen (part from left bytes)
+pub bytes-turn : (seen bytes : List ℕ) (from left rest symbol : ℕ) → left ≡ suc rest → from < length bytes → symbol ≡ reading (getD bytes from 0)
+    → noted (set seen symbol 1) (map reading (part (from + 1) rest bytes)) ≡ noted seen (map reading (part from left bytes))
 unfolding noted
-bytes-turn seen bytes from left rest l h = rw (l, part-suc from rest bytes 0 h)
+bytes-turn seen bytes from left rest symbol l h e = rw (l, part-suc from rest bytes 0 h, e)
 
 -- no byte is left
-pub bytes-end : (seen bytes : List ℕ) (from left : ℕ) → left ≡ 0 → seen ≡ noted seen (part from left bytes)
+pub bytes-end : (seen bytes : List ℕ) (from left : ℕ) → left ≡ 0 → seen ≡ noted seen (map reading (part from left bytes))
 unfolding noted
 bytes-end seen bytes from left l = rw (l, part-zero from bytes)
 
@@ -161,12 +163,12 @@ marks-counted xs a = tells-all (replicate 256 0) [] xs a tells-none .count
 
 -- ---- symbols are bytes
 
--- a part of bytes
-bytes-part : (a n : ℕ) (xs : List ℕ) → Bytes xs → All (λ b. b < 256) (part a n xs)
+-- a part of bytes, as they are compared
+bytes-part : (a n : ℕ) (xs : List ℕ) → Bytes xs → All (λ b. b < 256) (map reading (part a n xs))
 unfolding part
 bytes-part zero zero xs f = tt
 bytes-part zero (suc n) [] f = tt
-bytes-part zero (suc n) (x ∷ xs) f = (f 0, bytes-part zero n xs (λ i. f (suc i)))
+bytes-part zero (suc n) (x ∷ xs) f = (omega (arith, f 0, reading-le x), bytes-part zero n xs (λ i. f (suc i)))
 bytes-part (suc a) zero xs f = tt
 bytes-part (suc a) (suc n) [] f = tt
 bytes-part (suc a) (suc n) (x ∷ xs) f = bytes-part a (suc n) xs (λ i. f (suc i))

@@ -1,16 +1,17 @@
 -- The symbols on two tapes of the arc records, and how they are counted: each marks its place in a table of 256 bytes.
 use Prim.Native.Nat.{ℕ, zero, suc, _+_, _*_, _<_, _≤_}
-use mathlib.Core.List.{List, [], _∷_, _++_}
+use mathlib.Core.List.{List, [], _∷_, _++_, map}
 use lib.Dec.{eqb}
 use lib.ListN.{length, getD, set}
 use Rattle.memory.specs.Region.{part}
 use Rattle.automata.specs.Lists.{if}
+use Rattle.automata.specs.TapePair.{reading}
 
 -- ---- the labels
 
--- the bytes of the label of tape i, counted from 0, in the arc record at place at
+-- the label of tape i, counted from 0, in the arc record at place at, as it is compared
 abbrev pub labelAt : ℕ → ℕ → List ℕ → List ℕ
-labelAt i at arcs = part (at + 9 + 9 * i) (getD arcs (at + 8 + 9 * i) 0) arcs
+labelAt i at arcs = map reading (part (at + 9 + 9 * i) (getD arcs (at + 8 + 9 * i) 0) arcs)
 
 -- those of two tapes of n arcs from place at on, one after the other
 unfoldable pub symbolsFrom : ℕ → ℕ → ℕ → ℕ → List ℕ → List ℕ

@@ -1,15 +1,17 @@
 // What a forecast of space counts: in the work space, where each state has 64 bytes, and in the arc records.
 
 use memory::bytes::get16;
+use memory::symbol::read_symbol;
 use relaxation::Edge;
 use relaxation::edge_at;
 ghost use mathlib.Core.Path.{_≡_};
 ghost use mathlib.Core.Bool.{false};
 ghost use Prim.Native.Nat.{_+_, _*_, _≤_, _<_};
-ghost use mathlib.Core.List.{[]};
+ghost use mathlib.Core.List.{[], map};
 ghost use lib.Dec.{eqb};
 ghost use lib.ListN.{length, getD};
 ghost use Rattle.automata.specs.Lists.{if};
+ghost use Rattle.automata.specs.TapePair.{reading};
 ghost use Rattle.automata.specs.Explore.{insertAll};
 ghost use Rattle.automata.specs.Trim.{rank};
 ghost use Rattle.automata.specs.Forecast.{cappedSum};
@@ -167,15 +169,17 @@ pub fn greatest_delay(
     best
 }
 
-// Each of the `count` bytes at `at` marks its place in the table of symbols.
+// Each of the `count` symbols at `at`, as it is compared, marks its place in the table of symbols.
 fn note_bytes(seen: &mut [u8], bytes: &[u8], at: usize, count: usize)
     requires { ⌜ (length (now seen) ≡ 256) × (at + count ≤ length (now bytes)) ⌝ }
-    ensures { λ _. ⌜ now (seen .exit) ≡ noted (now (seen .entry)) (part at count (now (bytes .entry))) ⌝ }
+    ensures { λ _. ⌜ now (seen .exit) ≡ noted (now (seen .entry)) (map reading (part at count (now (bytes .entry)))) ⌝ }
 {
     let mut from = at;
     let mut left = count;
     while 0 < left {
-        seen[bytes[from] as usize] = 1;
+        let written = bytes[from];
+        let symbol = read_symbol(written);
+        seen[symbol as usize] = 1;
         from += 1;
         left -= 1;
     }
@@ -216,7 +220,7 @@ fn count_marks(seen: &[u8]) -> usize
     found
 }
 
-// How many different symbols stand on two tapes of the arcs.
+// How many different symbols stand on two tapes of the arcs, as they are compared.
 pub fn symbols_used(arcs: &[u8], count: usize, first: usize, second: usize) -> usize
     requires { ⌜ ShortLabels (now arcs) count first second ⌝ }
     ensures { λ r. ⌜ (r ≡ length (insertAll eqb [] (symbolsFrom first second 0 count (now (arcs .entry))))) × (r ≤ 256) ⌝ }

@@ -28,7 +28,7 @@ use Rattle.automata.specs.Calls.Join.{joinAnswer, joinOutcome}
 use Rattle.automata.specs.Calls.Union.{unionAnswer, unionOutcome}
 use Rattle.automata.specs.Calls.Project.{projectAnswer, projectOutcome}
 use Rattle.automata.specs.Calls.Drop.{maskOf, dropAnswer, dropOutcome}
-use Rattle.automata.specs.Cases.{bytes, pair, tapePair, onward, two}
+use Rattle.automata.specs.Cases.{bytes, pair, tapePair, onward, two, letter, written}
 use Rattle.laws.specs.GivenAgain.{NoLower}
 use Rattle.laws.specs.CallLaws.{JoinLent, WiderSlices}
 use Rattle.laws.specs.CallCases.{slices}
@@ -38,6 +38,7 @@ use Rattle.laws.specs.Comparisons.{
   Alike,
   Compared,
   met,
+  met-written,
   exchanged,
   exchanged-chosen,
   first-in-parts,
@@ -62,6 +63,13 @@ from-text = reading (bytes "  1     2     1\n         0         -\n         -   
 
 abbrev pub two-tapes : Calls
 two-tapes = lent (encodeTable two)
+
+-- the tables `letter` and `written`, which write one mark otherwise
+abbrev pub with-letter : Calls
+with-letter = lent (encodeTable letter)
+
+abbrev pub with-digit : Calls
+with-digit = lent (encodeTable written)
 
 -- tape 1 of each, with the limit 0 and with a higher one
 abbrev pub on : List TapePair
@@ -113,10 +121,17 @@ unfolding readingOf reached edges trimmed starts candidate candidates out reache
     projectAnswer projectOutcome maskOf dropAnswer dropOutcome made given-table
 examples =
     record { calls = _; says = _; compared = met ample on from-text two-tapes; gave = ((_, refl), tt) }
+    ∷ record { calls = _; says = _; compared = met-written ample on with-letter with-digit; gave = ((_, refl), tt) }
     ∷ record {
       calls = _;
       says = _;
       compared = exchanged ample ample on on-higher from-text from-text two-tapes two-tapes refl (alike-refl from-text) (alike-refl two-tapes);
+      gave = ((_, refl), ((_, refl), tt));
+    }
+    ∷ record {
+      calls = _;
+      says = _;
+      compared = exchanged ample ample on on-higher with-letter with-letter with-digit with-digit refl (alike-refl with-letter) (alike-refl with-digit);
       gave = ((_, refl), ((_, refl), tt));
     }
     ∷ record {

@@ -9,8 +9,8 @@ use Rattle.automata.specs.Answer.{ok}
 use Rattle.automata.specs.OrderedSum.{ℕ-sum}
 use Rattle.automata.specs.Automaton.{Automaton, Tuple, Formed}
 use Rattle.automata.specs.TapePair.{Pair, TapePair, tapesOf}
-use Rattle.automata.specs.Tapes.{seconds, turned, placeAfter, chosen}
-use Rattle.automata.specs.Paths.{SameWeight, Weighs}
+use Rattle.automata.specs.Tapes.{readTuple, seconds, turned, placeAfter, chosen}
+use Rattle.automata.specs.Paths.{Weighs, WeighsRead, SameWeight}
 use Rattle.automata.specs.Projection.{without}
 use Rattle.automata.specs.Join.{within}
 use Rattle.automata.specs.Memory.{Memory, decodeTable}
@@ -22,6 +22,7 @@ use Rattle.laws.specs.CallTrees.{Calls, joining, uniting, choosing, made
 use Rattle.laws.specs.Comparisons.{
   Alike,
   met,
+  met-written,
   exchanged,
   exchanged-chosen,
   first-in-parts,
@@ -36,17 +37,22 @@ use Rattle.laws.specs.Comparisons.{
 }
 use Rattle.automata.proofs.SoundFacts.{tableOf-is}
 use Rattle.automata.proofs.PathFacts.{weighs-length}
+use Rattle.automata.proofs.ReadingFacts.{chosen-alike}
 use Rattle.laws.proofs.CallTrees.{calls-again}
-use Rattle.laws.proofs.Lemmas.JoinAlgebra.{join-least, join-nothing, SameLeast, least-refl, exchange, in-parts₁, in-parts₂, in-steps}
+use Rattle.laws.proofs.Lemmas.JoinAlgebra.{join-met, join-met-written, SameLeast, least-refl, exchange, in-parts₁, in-parts₂, in-steps}
 use Rattle.laws.proofs.Lemmas.ProjectionPaths.{projected-weighs}
+use Rattle.laws.proofs.Lemmas.ReadWeights.{read-alike, read-either}
 use Rattle.laws.proofs.Lemmas.Weights.{Level, level-of, level-trans, level-weight, weight-level, level-lesser}
 use Rattle.laws.proofs.Lemmas.SharedPairs.{width-shared}
 use Rattle.laws.proofs.Lemmas.ExchangedTapes.{exchanged-width, exchanged-back}
 use Rattle.laws.proofs.Lemmas.TreeTables.{table-is, JoinedTrees, joined-trees, joined-gave, united-trees, united-gave, chosen-tree, chosen-gave, kept-trees, kept-gave}
 
--- what a table weighs
+-- what a table weighs, as written and after reading
 abbrev W : Automaton ℕ → Tuple → ℕ → Type 0
 W A = Weighs ℕ-sum A
+
+abbrev WR : Automaton ℕ → Tuple → ℕ → Type 0
+WR A = WeighsRead ℕ-sum A
 
 -- tables that are alike, by their weights
 alike : (a b : Calls) → Formed (table a) → Formed (table b) → Alike a b → SameLeast ℕ-sum (table a) (table b)
@@ -68,7 +74,7 @@ module _ (l l₁ : JoinLent) (ps ps₁ : List TapePair) (a a₁ b b₁ : Calls) 
   abbrev order : List ℕ
   order = exchangedTapes (table a .tapes) (table b .tapes) qs
 
-  at-other : (t : Tuple) → length t ≡ J .tapes → Level ℕ-sum (W J t) (W K (chosen order t))
+  at-other : (t : Tuple) → length t ≡ J .tapes → Level ℕ-sum (WR J t) (WR K (chosen order t))
   at-other =
       let j = joined-trees l ps qs refl a b g in
       let k = joined-trees l₁ ps₁ (turned qs) x b₁ a₁ g₁ in
@@ -94,19 +100,19 @@ module _ (l l₁ : JoinLent) (ps ps₁ : List TapePair) (a a₁ b b₁ : Calls) 
       record {
         tapes = sym (ap (λ (R : Automaton ℕ). R .tapes) (c .chooses)) ∙ width;
         weights = λ t. level-weight ℕ-sum R t K t (
-          λ w x.
-              let (s, e, y) = weighs t w .0 x in
-              let (v, z, h) = at-other s (weighs-length ℕ-sum J s w y) .0 w y in
-              (v, subst (λ t. W K t v) e z, h),
-          λ w x.
-              let lt : length t ≡ table b .tapes + placeAfter (seconds (turned qs)) (table a .tapes) =
-              weighs-length ℕ-sum K t w x ∙ sym width ∙ exchanged-width (table a .tapes) (table b .tapes) qs (j .join .in-range) in
+          λ w (t′, q, x).
+              let (s, e, y) = weighs t′ w .0 x in
+              let (v, z, h) = at-other s (weighs-length ℕ-sum J s w y) .0 w (s, refl, y) in
+              (v, read-alike ℕ-sum (W K) (chosen order s) t (ap readTuple e ∙ q) v z, h),
+          λ w (t′, q, x).
+              let lt : length t′ ≡ table b .tapes + placeAfter (seconds (turned qs)) (table a .tapes) =
+              weighs-length ℕ-sum K t′ w x ∙ sym width ∙ exchanged-width (table a .tapes) (table b .tapes) qs (j .join .in-range) in
               let (s, ls, e) = exchanged-back (table a .tapes) (table b .tapes) qs (j .join .in-range)
               (subst (λ n. T (within n (table a .tapes) (turned qs))) (sym (hb .tapes))
               (subst (λ n. T (within (table b₁ .tapes) n (turned qs))) (sym (ha .tapes)) (k .join .in-range)))
-              (k .join .distinct-seconds) t lt in
-              let (v, z, h) = at-other s (ls ∙ sym (j .join .tapes)) .1 w (subst (λ t. W K t w) (sym e) x) in
-              (v, weighs t v .1 (s, e, z), h),
+              (k .join .distinct-seconds) t′ lt in
+              let (v, (s′, p, z), h) = at-other s (ls ∙ sym (j .join .tapes)) .1 w (t′, sym e, x) in
+              (v, (chosen order s′, chosen-alike order s′ s p ∙ e ∙ q, weighs (chosen order s′) v .1 (s′, refl, z)), h),
         );
       }
 
@@ -115,7 +121,7 @@ module _ (l l₁ : JoinLent) (ps ps₁ : List TapePair) (a a₁ b b₁ : Calls) 
 module _ (s : Slices) (l l₁ l₂ : JoinLent) (ps ps₁ ps₂ : List TapePair) (a a₁ c c₂ b b₁ b₂ : Calls) (x₁ : tapesOf ps₁ ≡ tapesOf ps) (x₂ : tapesOf ps₂ ≡ tapesOf ps)
     (ha : Alike a a₁) (hc : Alike c c₂) (hb₁ : Alike b b₁) (hb₂ : Alike b b₂) where
   first-parts : Gave (joining l ps (uniting a c s) b) → Gave (joining l₁ ps₁ a₁ b₁) → Gave (joining l₂ ps₂ c₂ b₂) → (t : Tuple)
-      → Level ℕ-sum (W (table (joining l ps (uniting a c s) b)) t) (λ w. W (table (joining l₁ ps₁ a₁ b₁)) t w ⊎ W (table (joining l₂ ps₂ c₂ b₂)) t w)
+      → Level ℕ-sum (WR (table (joining l ps (uniting a c s) b)) t) (λ w. WR (table (joining l₁ ps₁ a₁ b₁)) t w ⊎ WR (table (joining l₂ ps₂ c₂ b₂)) t w)
   first-parts g g₁ g₂ t =
       let j = joined-trees l ps (tapesOf ps) refl (uniting a c s) b g in
       let j₁ = joined-trees l₁ ps₁ (tapesOf ps) x₁ a₁ b₁ g₁ in
@@ -126,7 +132,7 @@ module _ (s : Slices) (l l₁ l₂ : JoinLent) (ps ps₁ ps₂ : List TapePair) 
       (table (joining l ps (uniting a c s) b)) (table (joining l₁ ps₁ a₁ b₁)) (table (joining l₂ ps₂ c₂ b₂)) t (j .join) (j₁ .join) (j₂ .join)
 
   second-parts : Gave (joining l ps b (uniting a c s)) → Gave (joining l₁ ps₁ b₁ a₁) → Gave (joining l₂ ps₂ b₂ c₂) → (t : Tuple)
-      → Level ℕ-sum (W (table (joining l ps b (uniting a c s))) t) (λ w. W (table (joining l₁ ps₁ b₁ a₁)) t w ⊎ W (table (joining l₂ ps₂ b₂ c₂)) t w)
+      → Level ℕ-sum (WR (table (joining l ps b (uniting a c s))) t) (λ w. WR (table (joining l₁ ps₁ b₁ a₁)) t w ⊎ WR (table (joining l₂ ps₂ b₂ c₂)) t w)
   second-parts g g₁ g₂ t =
       let j = joined-trees l ps (tapesOf ps) refl b (uniting a c s) g in
       let j₁ = joined-trees l₁ ps₁ (tapesOf ps) x₁ b₁ a₁ g₁ in
@@ -137,20 +143,20 @@ module _ (s : Slices) (l l₁ l₂ : JoinLent) (ps ps₁ ps₂ : List TapePair) 
       (table (joining l ps b (uniting a c s))) (table (joining l₁ ps₁ b₁ a₁)) (table (joining l₂ ps₂ b₂ c₂)) t (j .join) (j₁ .join) (j₂ .join)
 
 -- the lesser of two joins
-by-lesser : (c d e : Calls) → Formed (table d) → Formed (table e) → ((t : Tuple) → Level ℕ-sum (W (table c) t) (λ w. W (table d) t w ⊎ W (table e) t w)) → Lesser c d e
+by-lesser : (c d e : Calls) → Formed (table d) → Formed (table e) → ((t : Tuple) → Level ℕ-sum (WR (table c) t) (λ w. WR (table d) t w ⊎ WR (table e) t w)) → Lesser c d e
 by-lesser c d e f₁ f₂ h t = level-lesser ℕ-sum (table c) (table d) (table e) t f₁ f₂ (h t)
 
 -- a union of two joins
 by-union : (c d e : Calls) (s : Slices) → Gave (uniting d e s) → table c .tapes ≡ table d .tapes
-    → ((t : Tuple) → Level ℕ-sum (W (table c) t) (λ w. W (table d) t w ⊎ W (table e) t w)) → Alike c (uniting d e s)
+    → ((t : Tuple) → Level ℕ-sum (WR (table c) t) (λ w. WR (table d) t w ⊎ WR (table e) t w)) → Alike c (uniting d e s)
 by-union c d e s g n h =
     let u = united-trees d e s g in
     let U = table (uniting d e s) in
     record {
       tapes = n ∙ sym (u .tapes);
       weights = λ t.
-          let X : ℕ → Type 0 = λ w. W (table d) t w ⊎ W (table e) t w in
-          level-weight ℕ-sum (table c) t U t (level-trans ℕ-sum (W (table c) t) X (W U t) (h t) (level-of ℕ-sum X (W U t) (λ w. Iff·symm (u .weighs t w))));
+          let X : ℕ → Type 0 = λ w. WR (table d) t w ⊎ WR (table e) t w in
+          level-weight ℕ-sum (table c) t U t (level-trans ℕ-sum (WR (table c) t) X (WR U t) (h t) (level-of ℕ-sum X (WR U t) (λ w. Iff·symm (read-either ℕ-sum (W U) (W (table d)) (W (table e)) (u .weighs) t w))));
     }
 
 -- joins of tables with as many tapes have as many
@@ -189,11 +195,10 @@ by-steps l l₁ s s₁ work ps first later a a₁ b b₁ h ha hb g g₁ =
 pub demand-three : DemandThree
 demand-three _ _ (met l ps a b) (g, _) =
     let j = joined-trees l ps (tapesOf ps) refl a b g in
-    let J = table (joining l ps a b) in
-    λ t. (
-      join-least ℕ-sum (tapesOf ps) (table a) (table b) J (j .first) (j .second) (j .join) t,
-      join-nothing ℕ-sum (tapesOf ps) (table a) (table b) J (j .first) (j .second) (j .join) t,
-    )
+    join-met ℕ-sum (tapesOf ps) (table a) (table b) (table (joining l ps a b)) (j .first) (j .second) (j .join)
+demand-three _ _ (met-written l ps a b) (g, _) =
+    let j = joined-trees l ps (tapesOf ps) refl a b g in
+    join-met-written ℕ-sum (tapesOf ps) (table a) (table b) (table (joining l ps a b)) (j .first) (j .second) (j .join)
 demand-three _ _ (exchanged l l₁ ps ps₁ a a₁ b b₁ x ha hb) (g, (g₁, _)) = by-exchange l l₁ ps ps₁ a a₁ b b₁ x ha hb g g₁
 demand-three _ _ (exchanged-chosen l l₁ s ps ps₁ a a₁ b b₁ x ha hb) (g₂, (g₁, _)) =
     by-choice l l₁ ps ps₁ a a₁ b b₁ x ha hb (chosen-gave (joining l ps a b) (exchangedTapes (table a .tapes) (table b .tapes) (tapesOf ps)) s g₂) g₁ s g₂

@@ -1,6 +1,6 @@
--- Demand 3 as one claim over lists of calls: which lists are compared, and what is said of each.
+-- Demand 3 as one claim over lists of calls: which lists are compared, and what is said of each. Weights are compared
+-- after reading every tape (document 02, 2.5).
 use mathlib.Core.Path.{_≡_}
-use mathlib.Core.Logic.{_↔_}
 use mathlib.Core.List.{List, [], _∷_}
 use Prim.Native.Nat.{ℕ}
 use lib.ListN.{length}
@@ -9,11 +9,11 @@ use Rattle.automata.specs.OrderedSum.{ℕ-sum}
 use Rattle.automata.specs.Automaton.{Tuple}
 use Rattle.automata.specs.TapePair.{Pair, TapePair, tapesOf}
 use Rattle.automata.specs.Tapes.{chosen, seconds, turned}
-use Rattle.automata.specs.Paths.{LeastOf, LeastWeight, NoWeight, SameWeight}
+use Rattle.automata.specs.Paths.{SameWeight}
 use Rattle.automata.specs.Calls.Outcome.{Slices}
 use Rattle.automata.specs.Calls.Drop.{maskOf}
 use Rattle.laws.specs.JoinTapes.{exchangedTapes, SharedOut, laterOn}
-use Rattle.laws.specs.JoinLaws.{Sums, LesserWeight}
+use Rattle.laws.specs.JoinLaws.{GivesLeast, GivesWritten, LesserWeight}
 use Rattle.laws.specs.CallLaws.{JoinLent}
 use Rattle.laws.specs.CallTrees.{Calls, keeping, joining, uniting, choosing, dropping, Gave, table, NoLess, Again}
 
@@ -30,8 +30,11 @@ Lesser c d e = (t : Tuple) → LesserWeight ℕ-sum (table c) (table d) (table e
 
 -- c gives every tuple the least sum over all tuples of a and b that meet in it, and no weight exactly when none meet
 abbrev pub LeastSums : List Pair → Calls → Calls → Calls → Type 0
-LeastSums ps a b c = (t : Tuple) → ((w : ℕ) → LeastWeight ℕ-sum (table c) t w ↔ LeastOf ℕ-sum (Sums ℕ-sum ps (table a) (table b) t) w)
-    × (NoWeight ℕ-sum (table c) t ↔ ((w : ℕ) → ¬ Sums ℕ-sum ps (table a) (table b) t w))
+LeastSums ps a b c = GivesLeast ℕ-sum ps (table a) (table b) (table c)
+
+-- and so it does of tuples as they are written
+abbrev pub WrittenSums : List Pair → Calls → Calls → Calls → Type 0
+WrittenSums ps a b c = GivesWritten ℕ-sum ps (table a) (table b) (table c)
 
 -- every tuple of c has the weight that it has in d once its tapes stand in the order js
 abbrev pub Reordered : List ℕ → Calls → Calls → Type 0
@@ -55,6 +58,9 @@ stepwise l s s₁ work first later a b =
 pub data Compared : List Calls → Type 0 → Type 1 where
   -- the join law: the least sum over all tuples that meet
   met : (l : JoinLent) (ps : List TapePair) (a b : Calls) → Compared (joining l ps a b ∷ []) (LeastSums (tapesOf ps) a b (joining l ps a b))
+  -- the same of tuples as they are written
+  met-written : (l : JoinLent) (ps : List TapePair) (a b : Calls)
+      → Compared (joining l ps a b ∷ []) (WrittenSums (tapesOf ps) a b (joining l ps a b))
   -- exchanged: the second table first, the tapes of each pair exchanged
   exchanged : (l l₁ : JoinLent) (ps ps₁ : List TapePair) (a a₁ b b₁ : Calls) → tapesOf ps₁ ≡ turned (tapesOf ps) → Alike a a₁ → Alike b b₁
       → Compared (joining l ps a b ∷ joining l₁ ps₁ b₁ a₁ ∷ []) (Reordered (otherOrder (tapesOf ps) a b) (joining l ps a b) (joining l₁ ps₁ b₁ a₁))

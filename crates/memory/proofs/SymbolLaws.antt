@@ -1,4 +1,5 @@
--- The rule of the table of symbol numbers, at all of its entries by one computed test, and symbols by ranges.
+-- The rule of the table of symbol numbers, at all of its entries by one computed test, symbols by ranges, and symbols as
+-- they are compared.
 use mathlib.Core.Path.{_≡_, refl, sym, ap, subst, _∙_}
 use mathlib.Core.Bool.{Bool, true, false, not}
 use mathlib.Core.Option.{Option, none, some}
@@ -10,6 +11,7 @@ use lib.Dec.{T, eqb, leb, eqb→eq, leb→le}
 use lib.ListN.{length, getD}
 use borrow.Author.Tests.{ne-eqb, le-leb, lt-leb}
 use Rattle.automata.specs.Lists.{if, and, or, isSome, Each}
+use Rattle.automata.specs.TapePair.{reading}
 use Rattle.automata.specs.Symbols.{isLetter, isDigit, isSymbol, symbolNumber}
 use Rattle.automata.proofs.TestFacts.{and-T}
 use Rattle.memory.specs.Symbols.{entryOf, symbolEntry}
@@ -122,3 +124,20 @@ module _ (b : ℕ) (h : 48 ≤ b) where
       go : (t : Bool) → t ≡ or t false
       go true = refl
       go false = refl
+
+-- ---- symbols as they are compared
+module _ (b : ℕ) where
+  -- I as 1
+  pub read-I : b ≡ 73 → 49 ≡ reading b
+  unfolding reading
+  read-I e = rw e refl
+
+  -- O as 0
+  pub read-O : b ≡ 79 → 48 ≡ reading b
+  unfolding reading
+  read-O e = rw e refl
+
+  -- any other as it is written
+  pub read-other : (b ≡ 73 → ⊥) → (b ≡ 79 → ⊥) → b ≡ reading b
+  unfolding reading
+  read-other e f = rw (ne-eqb b 73 e, ne-eqb b 79 f) refl

@@ -1,6 +1,7 @@
-// Symbols: the bytes A to Z and 0 to 9, numbered 0 to 35 in that order.
+// Symbols: the bytes A to Z and 0 to 9, numbered 0 to 35 in that order, and how they are compared.
 ghost use mathlib.Core.Path.{_≡_};
 ghost use Rattle.automata.specs.Symbols.{isSymbol, symbolNumber};
+ghost use Rattle.automata.specs.TapePair.{reading};
 ghost use Rattle.memory.specs.Symbols.{symbolAs, symbolEntry};
 
 // The symbol number of each byte, 255 where it is no symbol.
@@ -299,4 +300,17 @@ pub fn is_symbol(b: u8) -> bool
     ensures { λ r. ⌜ r ≡ isSymbol b ⌝ }
 {
     ((65 <= b) & (b <= 90)) | ((48 <= b) & (b <= 57))
+}
+
+// A symbol as it is compared: I as 1, O as 0, any other as it is written.
+pub fn read_symbol(b: u8) -> u8
+    ensures { λ r. ⌜ r ≡ reading b ⌝ }
+{
+    if b == b'I' {
+        return b'1';
+    }
+    if b == b'O' {
+        return b'0';
+    }
+    b
 }

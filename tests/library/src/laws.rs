@@ -6,6 +6,9 @@
 //! counts as passed over. The last two compare tables byte for byte: given again by request 2.2; some pairs first
 //! because the same configurations are kept and reached in the same order, which is tested here and not proved.
 //!
+//! Weights are compared after reading every tape (request 2.5): those of marks, in tables with every label read. How
+//! often a join and the join exchanged give a tuple other weights as it is written is counted.
+//!
 //! With equal limits (request 2.4) joins and builds answer as document 01 words them with a single D, refused or not.
 //!
 //! For random tables and tuples, of a path (request 2.3): its weight is the one looked up, and there is none where that
@@ -18,12 +21,14 @@ use tomchoen_tests::calls::{intersect_work, join_work, Counts, JoinRequest, Path
 use tomchoen_tests::columns::project;
 use tomchoen_tests::generate::small_case;
 use tomchoen_tests::join_cases::{join_case, two_tables, JoinCase};
+use tomchoen_tests::labels::respelled;
 use tomchoen_tests::lookup::cells;
 use tomchoen_tests::memory::{encode, judge, LentTable, ARC_BYTES, STATE_BYTES};
 use tomchoen_tests::pairs::{pair_of, tapes_of, Pair, PairRecord, MOST_LIMIT};
 use tomchoen_tests::path::{Path, PATH_BYTES};
 use tomchoen_tests::path_cases::path_case;
 use tomchoen_tests::random::Random;
+use tomchoen_tests::reading::{marks_of, read_labels};
 use tomchoen_tests::refusal::Refusal;
 use tomchoen_tests::requests::{spelled, Outcome, Request};
 use tomchoen_tests::word_for_word::{join_with_one_limit, keep_with_one_limit};
@@ -118,12 +123,19 @@ fn weight(table: &LentTable, tuple: &Tuple) -> Option<u64> {
     }
 }
 
+/// The least weight of the tuples that fall together with a tuple: that of its marks in the table with every label read.
+fn weight_read(table: &LentTable, tuple: &Tuple) -> Option<u64> {
+    let automaton = judge(table).expect("a table that a call gave");
+    weight(&encode(&read_labels(&automaton)), &marks_of(tuple))
+}
+
 /// The lesser of two weights, none counting above every weight.
 fn lesser(one: Option<u64>, two: Option<u64>) -> Option<u64> {
     [one, two].into_iter().flatten().min()
 }
 
-/// Tuples to look up: what some paths spell, some of them with a symbol changed; those whose cells are few.
+/// Tuples to look up: what some paths spell, some of them with a symbol more or written otherwise; those whose cells are
+/// few.
 fn tuples(random: &mut Random, table: &LentTable) -> Vec<Tuple> {
     let automaton: Automaton = judge(table).expect("a table that a call gave");
     let few = |tuple: &Tuple| {
@@ -136,6 +148,9 @@ fn tuples(random: &mut Random, table: &LentTable) -> Vec<Tuple> {
             if random.chance(20) {
                 let at = random.below(tuple.len());
                 tuple[at].push(random.pick(b"AB"));
+            }
+            if random.chance(20) {
+                tuple = tuple.iter().map(|string| respelled(random, string)).collect();
             }
             tuple
         })
@@ -168,6 +183,7 @@ pub struct Found {
     pub paths: u64,
     pub refusals: u64,
     pub passed_over: u64,
+    pub other_as_written: u64,
     pub differences: Vec<String>,
 }
 
@@ -237,7 +253,8 @@ fn exchanged(found: &mut Found, random: &mut Random, subject: &Subject) {
         let second = second_strings(&tuple, n, m, pairs);
         let rest = (0..n).filter(|&tape| !pairs.iter().any(|pair| pair.0 as usize == tape + 1)).map(|tape| tuple[tape].clone());
         let other: Tuple = second.into_iter().chain(rest).collect();
-        found.same("exchanged", case, weight(&j, &tuple), weight(&k, &other));
+        found.same("exchanged", case, weight_read(&j, &tuple), weight_read(&k, &other));
+        found.other_as_written += u64::from(weight(&j, &tuple) != weight(&k, &other));
     }
 }
 
@@ -250,9 +267,9 @@ fn part_by_part(found: &mut Found, random: &mut Random, subject: &Subject, c: &L
     let Some([u, one, two]) = found.all([union(a, c), side(a, &of_one), side(c, &of_two)]) else { return };
     let Some([j, both]) = found.all([side(&u, &pairs), union(&one, &two)]) else { return };
     for tuple in tuples(random, &j).into_iter().chain(tuples(random, &one)).chain(tuples(random, &two)) {
-        let parts = lesser(weight(&one, &tuple), weight(&two, &tuple));
-        found.same("part by part", case, weight(&j, &tuple), parts);
-        found.same("a union of the joins", case, weight(&both, &tuple), parts);
+        let parts = lesser(weight_read(&one, &tuple), weight_read(&two, &tuple));
+        found.same("part by part", case, weight_read(&j, &tuple), parts);
+        found.same("a union of the joins", case, weight_read(&both, &tuple), parts);
     }
 }
 
@@ -269,7 +286,7 @@ fn some_first(found: &mut Found, random: &mut Random, subject: &Subject, early: 
     let Some([agreed]) = found.all([keep(&early, &kept, 0)]) else { return };
     let Some([steps]) = found.all([drop_tapes(&agreed, marked)]) else { return };
     for tuple in tuples(random, &j).into_iter().chain(tuples(random, &steps)) {
-        found.same("some pairs first", case, weight(&j, &tuple), weight(&steps, &tuple));
+        found.same("some pairs first", case, weight_read(&j, &tuple), weight_read(&steps, &tuple));
     }
     // the same configurations are kept, and they are reached in the same order
     found.same_table("some pairs first", case, &j, Some(&steps));

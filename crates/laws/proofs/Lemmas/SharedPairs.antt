@@ -1,7 +1,7 @@
 -- Pairs shared out to two lists, in any order: agreement and dropping by all pairs at once, and by the first and then
 -- the later ones.
 use mathlib.Core.Path.{_≡_, refl, sym, _∙_, ap, fun-ext, subst}
-use mathlib.Core.Logic.{_↔_, _⊎_, inl, inr, ⊎-elim}
+use mathlib.Core.Logic.{_↔_, inl, inr, ⊎-elim}
 use mathlib.Core.Bool.{Bool, false, not}
 use mathlib.Core.List.{List, [], _++_, map}
 use Prim.Native.Nat.{ℕ, zero, suc, _+_, _-_, _<_}
@@ -17,11 +17,11 @@ use Rattle.automata.specs.Tapes.{emptyTuple, Agree, seconds, moved, joined, dro
 use Rattle.automata.specs.IntersectCall.{distinct}
 use Rattle.automata.specs.Join.{within}
 use Rattle.laws.specs.JoinTapes.{SharedOut, laterOn}
+use Rattle.laws.specs.JoinLaws.{MeetWritten, SumsOf}
 use Rattle.automata.proofs.ListFacts
 use Rattle.automata.proofs.TestFacts.{T-false, T-same, T-or-left, T-or-right, or-T}
 use Rattle.automata.proofs.TapeFacts.{length-blank, length-dropAt, getD-dropAt, dropAt-twice, placeAfter-injective}
 use Rattle.automata.proofs.PairFacts.{agree-∈, ∈-agree, within-∈, agree-behind, drop-behind, distinct-eq, seconds-∈, ∈-seconds, tapes-placed}
-use Rattle.laws.proofs.Lemmas.Weights.{Meet}
 use Rattle.laws.proofs.Lemmas.ExchangedTapes.{joined-width}
 
 module _ (ps first : List Pair) (laterPairs : List TapePair) (h : SharedOut ps first (tapesOf laterPairs)) where
@@ -117,14 +117,14 @@ module _ (ps first : List Pair) (laterPairs : List TapePair) (h : SharedOut ps f
       open OrderedSum S using (W)
 
       pub meet-shared : (X Y : Tuple → W → Type 0) → ((u : Tuple) (a : W) → X u a → length u ≡ n) → (t : Tuple) (w : W)
-          → Meet S ps X Y t w
-          ↔ ((s : Tuple) × (dropAt (seconds (onward n)) s ≡ t) × Meet S first X Y s w × Agree (onward n) s s)
+          → SumsOf S X Y (λ u v. MeetWritten ps u v t) w
+          ↔ ((s : Tuple) × (dropAt (seconds (onward n)) s ≡ t) × SumsOf S X Y (λ u v. MeetWritten first u v s) w × Agree (onward n) s s)
       meet-shared X Y width t w = (
-        λ (u, v, a, b, x, y, g, et, ew).
+        λ (u, v, a, b, x, y, (g, et), ew).
             let l = width u a x in
             let (g₁, g₂) = agree-shared u v .0 g in
-            (joined first u v, drop-later u v l ∙ et, (u, v, a, b, x, y, g₁, refl, ew), agree-later u v l .1 g₂),
-        λ (s, e, (u, v, a, b, x, y, g₁, et, ew), g).
+            (joined first u v, drop-later u v l ∙ et, (u, v, a, b, x, y, (g₁, refl), ew), agree-later u v l .1 g₂),
+        λ (s, e, (u, v, a, b, x, y, (g₁, et), ew), g).
             let l = width u a x in (
               u,
               v,
@@ -132,8 +132,10 @@ module _ (ps first : List Pair) (laterPairs : List TapePair) (h : SharedOut ps f
               b,
               x,
               y,
-              agree-shared u v .1 (g₁, agree-later u v l .0 (subst (λ s. Agree (onward n) s s) (sym et) g)),
-              sym (drop-later u v l) ∙ ap (dropAt (seconds (onward n))) et ∙ e,
+              (
+                agree-shared u v .1 (g₁, agree-later u v l .0 (subst (λ s. Agree (onward n) s s) (sym et) g)),
+                sym (drop-later u v l) ∙ ap (dropAt (seconds (onward n))) et ∙ e,
+              ),
               ew,
             ),
       )

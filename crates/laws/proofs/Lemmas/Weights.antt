@@ -1,15 +1,13 @@
 -- Two sets of weights, each with a weight that is at most any of the other's: they have the same least one. And the
 -- sums of weights of tuples that meet, of any two sets.
-use mathlib.Core.Path.{_≡_, refl, subst}
+use mathlib.Core.Path.{_≡_, refl, sym, subst}
 use mathlib.Core.Logic.{_↔_, _⊎_, inl, inr, ⊎-elim}
-use mathlib.Core.List.{List}
 use Rattle.automata.specs.OrderedSum.{OrderedSum, _≼_, ≼-refl, ⊕-mono}
 use Rattle.automata.specs.Automaton.{Automaton, Tuple, Formed}
-use Rattle.automata.specs.TapePair.{Pair}
-use Rattle.automata.specs.Tapes.{Agree, joined}
-use Rattle.automata.specs.Paths.{Weighs, LeastOf, LeastWeight, SameWeight}
-use Rattle.laws.specs.JoinLaws.{LesserWeight}
-use Rattle.automata.proofs.TupleWeight.{has-least}
+use Rattle.automata.specs.Tapes.{ReadAlike}
+use Rattle.automata.specs.Paths.{Weighs, LeastOf, WeighsRead, LeastRead, SameWeight}
+use Rattle.laws.specs.JoinLaws.{SumsOf, LesserWeight}
+use Rattle.laws.proofs.Lemmas.ReadWeights.{read-alike, has-least-read}
 
 module _ (S : OrderedSum) where
   open OrderedSum S using (W, _⊕_, leq-trans, leq-antisym)
@@ -59,28 +57,32 @@ module _ (S : OrderedSum) where
   pub nothing-same : (X Y : W → Type 0) → Level X Y → ((w : W) → ¬ X w) ↔ ((w : W) → ¬ Y w)
   nothing-same X Y (f, g) = (λ n w y. let (v, x, _) = g w y in n v x, λ n w x. let (v, y, _) = f w x in n v y)
 
-  -- so two tuples have the same weight
-  pub level-weight : (A : Automaton W) (s : Tuple) (B : Automaton W) (t : Tuple) → Level (Weighs S A s) (Weighs S B t) → SameWeight S A s B t
-  level-weight A s B t h = record { least = least-same (Weighs S A s) (Weighs S B t) h; nothing = nothing-same (Weighs S A s) (Weighs S B t) h }
+  -- tuples that fall together are weighed alike after reading
+  pub read-level : (A : Automaton W) (s t : Tuple) → ReadAlike s t → Level (WeighsRead S A s) (WeighsRead S A t)
+  read-level A s t e = level-of (WeighsRead S A s) (WeighsRead S A t) (λ w. (read-alike S (Weighs S A) s t e w, read-alike S (Weighs S A) t s (sym e) w))
 
-  below-weight : (A : Automaton W) (s : Tuple) (B : Automaton W) (t : Tuple) → Formed A → ((w : W) → LeastWeight S A s w → LeastWeight S B t w)
-      → Below (Weighs S A s) (Weighs S B t)
-  below-weight A s B t f h w x = let (v, l) = has-least S A f s w x in (v, h v l .0, l .1 w x)
+  -- so two tuples have the same weight
+  pub level-weight : (A : Automaton W) (s : Tuple) (B : Automaton W) (t : Tuple) → Level (WeighsRead S A s) (WeighsRead S B t) → SameWeight S A s B t
+  level-weight A s B t h = record { least = least-same (WeighsRead S A s) (WeighsRead S B t) h; nothing = nothing-same (WeighsRead S A s) (WeighsRead S B t) h }
+
+  below-weight : (A : Automaton W) (s : Tuple) (B : Automaton W) (t : Tuple) → Formed A → ((w : W) → LeastRead S A s w → LeastRead S B t w)
+      → Below (WeighsRead S A s) (WeighsRead S B t)
+  below-weight A s B t f h w x = let (v, l) = has-least-read S A f s w x in (v, h v l .0, l .1 w x)
 
   -- and back, of well-formed automata
   pub weight-level : (A : Automaton W) (s : Tuple) (B : Automaton W) (t : Tuple) → Formed A → Formed B → SameWeight S A s B t
-      → Level (Weighs S A s) (Weighs S B t)
+      → Level (WeighsRead S A s) (WeighsRead S B t)
   weight-level A s B t fA fB h = (below-weight A s B t fA (λ w. h .least w .0), below-weight B t A s fB (λ w. h .least w .1))
 
   -- the lesser of two weights
-  pub level-lesser : (J J₁ J₂ : Automaton W) (t : Tuple) → Formed J₁ → Formed J₂ → Level (Weighs S J t) (λ w. Weighs S J₁ t w ⊎ Weighs S J₂ t w)
+  pub level-lesser : (J J₁ J₂ : Automaton W) (t : Tuple) → Formed J₁ → Formed J₂ → Level (WeighsRead S J t) (λ w. WeighsRead S J₁ t w ⊎ WeighsRead S J₂ t w)
       → LesserWeight S J J₁ J₂ t
   level-lesser J J₁ J₂ t f₁ f₂ h =
-      let X : W → Type 0 = Weighs S J t in
-      let Y : W → Type 0 = λ w. Weighs S J₁ t w ⊎ Weighs S J₂ t w in
-      let Z : W → Type 0 = λ w. LeastWeight S J₁ t w ⊎ LeastWeight S J₂ t w in
+      let X : W → Type 0 = WeighsRead S J t in
+      let Y : W → Type 0 = λ w. WeighsRead S J₁ t w ⊎ WeighsRead S J₂ t w in
+      let Z : W → Type 0 = λ w. LeastRead S J₁ t w ⊎ LeastRead S J₂ t w in
       let k : Level Y Z = (
-        λ w. ⊎-elim (λ x. let (v, l) = has-least S J₁ f₁ t w x in (v, inl l, l .1 w x)) (λ x. let (v, l) = has-least S J₂ f₂ t w x in (v, inr l, l .1 w x)),
+        λ w. ⊎-elim (λ x. let (v, l) = has-least-read S J₁ f₁ t w x in (v, inl l, l .1 w x)) (λ x. let (v, l) = has-least-read S J₂ f₂ t w x in (v, inr l, l .1 w x)),
         below-of Z Y (λ w. ⊎-elim (λ l. inl (l .0)) (λ l. inr (l .0))),
       ) in
       record {
@@ -92,35 +94,31 @@ module _ (S : OrderedSum) where
             ));
       }
 
-  -- ---- tuples that meet
+  -- ---- sums of weights of tuples that meet
 
-  -- a tuple of each set that meet in t, at weights that add up to w
-  abbrev pub Meet : List Pair → (Tuple → W → Type 0) → (Tuple → W → Type 0) → Tuple → W → Type 0
-  Meet ps X Y t w = (u : Tuple) × (v : Tuple) × (a : W) × (b : W) × X u a × Y v b × Agree ps u v × (joined ps u v ≡ t) × (a ⊕ b ≡ w)
-
-  meet-below : (ps : List Pair) (X X′ Y Y′ : Tuple → W → Type 0) → ((u : Tuple) → Below (X u) (X′ u)) → ((v : Tuple) → Below (Y v) (Y′ v))
-      → (t : Tuple) → Below (Meet ps X Y t) (Meet ps X′ Y′ t)
-  meet-below ps X X′ Y Y′ f g t w (u, v, a, b, x, y, r, et, ew) =
+  sums-below : (X X′ Y Y′ : Tuple → W → Type 0) (meet : Tuple → Tuple → Type 0) → ((u : Tuple) → Below (X u) (X′ u)) → ((v : Tuple) → Below (Y v) (Y′ v))
+      → Below (SumsOf S X Y meet) (SumsOf S X′ Y′ meet)
+  sums-below X X′ Y Y′ meet f g w (u, v, a, b, x, y, m, e) =
       let (a′, x′, h) = f u a x in
       let (b′, y′, k) = g v b y in
-      (a′ ⊕ b′, (u, v, a′, b′, x′, y′, r, et, refl), subst (λ w. _≼_ S (a′ ⊕ b′) w) ew (⊕-mono S a′ a b′ b h k))
+      (a′ ⊕ b′, (u, v, a′, b′, x′, y′, m, refl), subst (λ w. _≼_ S (a′ ⊕ b′) w) e (⊕-mono S a′ a b′ b h k))
 
-  pub meet-level : (ps : List Pair) (X X′ Y Y′ : Tuple → W → Type 0) → ((u : Tuple) → Level (X u) (X′ u)) → ((v : Tuple) → Level (Y v) (Y′ v))
-      → (t : Tuple) → Level (Meet ps X Y t) (Meet ps X′ Y′ t)
-  meet-level ps X X′ Y Y′ f g t = (meet-below ps X X′ Y Y′ (λ u. f u .0) (λ v. g v .0) t, meet-below ps X′ X Y′ Y (λ u. f u .1) (λ v. g v .1) t)
+  pub sums-level : (X X′ Y Y′ : Tuple → W → Type 0) (meet : Tuple → Tuple → Type 0) → ((u : Tuple) → Level (X u) (X′ u)) → ((v : Tuple) → Level (Y v) (Y′ v))
+      → Level (SumsOf S X Y meet) (SumsOf S X′ Y′ meet)
+  sums-level X X′ Y Y′ meet f g = (sums-below X X′ Y Y′ meet (λ u. f u .0) (λ v. g v .0), sums-below X′ X Y′ Y meet (λ u. f u .1) (λ v. g v .1))
 
   -- the first set is either of two
-  pub meet-either₁ : (ps : List Pair) (X X′ Y : Tuple → W → Type 0) (t : Tuple) (w : W)
-      → Meet ps (λ u a. X u a ⊎ X′ u a) Y t w ↔ (Meet ps X Y t w ⊎ Meet ps X′ Y t w)
-  meet-either₁ ps X X′ Y t w = (
-    λ (u, v, a, b, x, y, r, et, ew). ⊎-elim (λ x. inl (u, v, a, b, x, y, r, et, ew)) (λ x. inr (u, v, a, b, x, y, r, et, ew)) x,
-    ⊎-elim (λ (u, v, a, b, x, y, r, et, ew). (u, v, a, b, inl x, y, r, et, ew)) (λ (u, v, a, b, x, y, r, et, ew). (u, v, a, b, inr x, y, r, et, ew)),
+  pub sums-either₁ : (X X′ Y : Tuple → W → Type 0) (meet : Tuple → Tuple → Type 0) (w : W)
+      → SumsOf S (λ u a. X u a ⊎ X′ u a) Y meet w ↔ (SumsOf S X Y meet w ⊎ SumsOf S X′ Y meet w)
+  sums-either₁ X X′ Y meet w = (
+    λ (u, v, a, b, x, y, m, e). ⊎-elim (λ x. inl (u, v, a, b, x, y, m, e)) (λ x. inr (u, v, a, b, x, y, m, e)) x,
+    ⊎-elim (λ (u, v, a, b, x, y, m, e). (u, v, a, b, inl x, y, m, e)) (λ (u, v, a, b, x, y, m, e). (u, v, a, b, inr x, y, m, e)),
   )
 
   -- the second is
-  pub meet-either₂ : (ps : List Pair) (X Y Y′ : Tuple → W → Type 0) (t : Tuple) (w : W)
-      → Meet ps X (λ v b. Y v b ⊎ Y′ v b) t w ↔ (Meet ps X Y t w ⊎ Meet ps X Y′ t w)
-  meet-either₂ ps X Y Y′ t w = (
-    λ (u, v, a, b, x, y, r, et, ew). ⊎-elim (λ y. inl (u, v, a, b, x, y, r, et, ew)) (λ y. inr (u, v, a, b, x, y, r, et, ew)) y,
-    ⊎-elim (λ (u, v, a, b, x, y, r, et, ew). (u, v, a, b, x, inl y, r, et, ew)) (λ (u, v, a, b, x, y, r, et, ew). (u, v, a, b, x, inr y, r, et, ew)),
+  pub sums-either₂ : (X Y Y′ : Tuple → W → Type 0) (meet : Tuple → Tuple → Type 0) (w : W)
+      → SumsOf S X (λ v b. Y v b ⊎ Y′ v b) meet w ↔ (SumsOf S X Y meet w ⊎ SumsOf S X Y′ meet w)
+  sums-either₂ X Y Y′ meet w = (
+    λ (u, v, a, b, x, y, m, e). ⊎-elim (λ y. inl (u, v, a, b, x, y, m, e)) (λ y. inr (u, v, a, b, x, y, m, e)) y,
+    ⊎-elim (λ (u, v, a, b, x, y, m, e). (u, v, a, b, x, inl y, m, e)) (λ (u, v, a, b, x, y, m, e). (u, v, a, b, x, inr y, m, e)),
   )

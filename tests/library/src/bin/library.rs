@@ -147,9 +147,9 @@ fn run(options: &Options) -> io::Result<u64> {
         println!("difference: {difference}");
     }
     if options.laws > 0 {
-        let laws::Found { compared, tables, paths, refusals, passed_over, .. } = found;
+        let laws::Found { compared, tables, paths, refusals, passed_over, other_as_written, .. } = found;
         print!("laws: {compared} weights compared, {tables} tables compared, {paths} paths compared, ");
-        println!("{refusals} refusals compared, {passed_over} passed over");
+        println!("{refusals} refusals compared, {passed_over} passed over; {other_as_written} other weights as written");
     }
     Ok(differences + found.differences.len() as u64)
 }
