@@ -5,11 +5,11 @@ use mathlib.Core.List.{List, [], _∷_, map}
 use Prim.Native.Nat.{ℕ, zero, suc, _-_, _≤_}
 use native.Mathlib.Omega.{arith}
 use lib.Dec.{eqb, eqb→eq, leb, leb→le}
-use lib.ListN.{length, length-map, getD}
+use lib.ListN.{length, length-map, getD, List·getD-map}
 use Rattle.automata.specs.Lists.{here, there, _∈_, if}
 use Rattle.automata.specs.Automaton.{Symbol, Tuple}
 use Rattle.automata.specs.TapePair.{readAs, excepted, reading}
-use Rattle.automata.specs.Tapes.{emptyTuple, spell, dropAt, chosen, readTuple, ReadAlike}
+use Rattle.automata.specs.Tapes.{emptyTuple, spell, chosen, readTuple, ReadAlike}
 use Rattle.automata.proofs.ListFacts
 use Rattle.automata.proofs.TestFacts.{all-∈}
 
@@ -39,11 +39,9 @@ reading-le c = go readAs exceptions-le
 
 -- a string of a tuple that is read
 pub read-at : (t : Tuple) (k : ℕ) → getD (readTuple t) k [] ≡ map reading (getD t k [])
-read-at [] k = refl
-read-at (x ∷ t) zero = refl
-read-at (x ∷ t) (suc k) = read-at t k
+read-at t k = List·getD-map (map reading) t k []
 
--- reading goes tape by tape: it keeps empty tuples, spelling, and the tapes that are left
+-- reading goes tape by tape: it keeps empty tuples, spelling, and the tapes that are chosen
 pub read-blank : (n : ℕ) → readTuple (emptyTuple n) ≡ emptyTuple n
 read-blank zero = refl
 read-blank (suc n) = ap {B = Tuple} (λ r. [] ∷ r) (read-blank n)
@@ -53,17 +51,6 @@ read-spell [] t = refl
 read-spell (x ∷ l) [] = refl
 read-spell (x ∷ l) (s ∷ t) = ap₂ (λ z zs. z ∷ zs) (ListFacts.map-append reading x s) (read-spell l t)
 
-pub read-drop : (d : ℕ → Bool) (t : Tuple) → readTuple (dropAt d t) ≡ dropAt d (readTuple t)
-read-drop d [] = refl
-read-drop d (x ∷ t) = go (d zero) (read-drop (λ k. d (suc k)) t)
-  where
-    go : (b : Bool) → readTuple (dropAt (λ k. d (suc k)) t) ≡ dropAt (λ k. d (suc k)) (readTuple t)
-        → readTuple (if b (dropAt (λ k. d (suc k)) t) (x ∷ dropAt (λ k. d (suc k)) t))
-        ≡ if b (dropAt (λ k. d (suc k)) (readTuple t)) (map reading x ∷ dropAt (λ k. d (suc k)) (readTuple t))
-    go true e = e
-    go false e = ap {B = Tuple} (λ r. map reading x ∷ r) e
-
--- and the tapes that are chosen
 pub read-chosen : (js : List ℕ) (t : Tuple) → readTuple (chosen js t) ≡ chosen js (readTuple t)
 read-chosen [] t = refl
 read-chosen (j ∷ js) t = ap₂ {C = Tuple} (λ x xs. x ∷ xs) (sym (read-at t (j - 1))) (read-chosen js t)

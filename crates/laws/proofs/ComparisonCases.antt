@@ -113,7 +113,7 @@ pub record Example : Type 1 where
   pub compared : Compared calls says
   pub gave : All Gave calls
 
--- one comparison of each kind
+-- a comparison of each kind; of an exchanged join also one of tables that write a mark otherwise
 pub examples : List Example
 unfolding readingOf reached edges trimmed starts candidate candidates out reachedConfigs delayed assemble intersectBy intersect intersectOn intersectCall
     crossProduct product closingTables viable join fitted union project dropTapes readTable decodeTable tableOf put build conclude given buildWork productWork joinWork

@@ -6,8 +6,9 @@
 //! counts as passed over. The last two compare tables byte for byte: given again by request 2.2; some pairs first
 //! because the same configurations are kept and reached in the same order, which is tested here and not proved.
 //!
-//! Weights are compared after reading every tape (request 2.5): those of marks, in tables with every label read. How
-//! often a join and the join exchanged give a tuple other weights as it is written is counted.
+//! Weights are compared after reading every tape (request 2.5): those of marks, in tables with every label read. Part by
+//! part and some pairs first they are compared as written, too, since the first table's writing is kept there. How often
+//! a join and the join exchanged give a tuple other weights as it is written is counted.
 //!
 //! With equal limits (request 2.4) joins and builds answer as document 01 words them with a single D, refused or not.
 //!
@@ -267,9 +268,11 @@ fn part_by_part(found: &mut Found, random: &mut Random, subject: &Subject, c: &L
     let Some([u, one, two]) = found.all([union(a, c), side(a, &of_one), side(c, &of_two)]) else { return };
     let Some([j, both]) = found.all([side(&u, &pairs), union(&one, &two)]) else { return };
     for tuple in tuples(random, &j).into_iter().chain(tuples(random, &one)).chain(tuples(random, &two)) {
-        let parts = lesser(weight_read(&one, &tuple), weight_read(&two, &tuple));
-        found.same("part by part", case, weight_read(&j, &tuple), parts);
-        found.same("a union of the joins", case, weight_read(&both, &tuple), parts);
+        for weight in [weight_read, weight] {
+            let parts = lesser(weight(&one, &tuple), weight(&two, &tuple));
+            found.same("part by part", case, weight(&j, &tuple), parts);
+            found.same("a union of the joins", case, weight(&both, &tuple), parts);
+        }
     }
 }
 
@@ -286,7 +289,9 @@ fn some_first(found: &mut Found, random: &mut Random, subject: &Subject, early: 
     let Some([agreed]) = found.all([keep(&early, &kept, 0)]) else { return };
     let Some([steps]) = found.all([drop_tapes(&agreed, marked)]) else { return };
     for tuple in tuples(random, &j).into_iter().chain(tuples(random, &steps)) {
-        found.same("some pairs first", case, weight_read(&j, &tuple), weight_read(&steps, &tuple));
+        for weight in [weight_read, weight] {
+            found.same("some pairs first", case, weight(&j, &tuple), weight(&steps, &tuple));
+        }
     }
     // the same configurations are kept, and they are reached in the same order
     found.same_table("some pairs first", case, &j, Some(&steps));

@@ -4,7 +4,7 @@ use mathlib.Core.Path.{_≡_, refl, sym, _∙_, ap, ap₂}
 use mathlib.Core.Logic.{_↔_}
 use mathlib.Core.Bool.{Bool, true, false}
 use mathlib.Core.List.{List, [], _∷_, _++_, map}
-use Prim.Native.Nat.{ℕ, zero, suc, _+_, _-_, _<_}
+use Prim.Native.Nat.{ℕ, suc, _+_, _-_, _<_}
 use native.Mathlib.Omega.{arith}
 use lib.ListN.{length, getD, List·getD-append, length-append, length-map}
 use lib.Seq.{getD-append-add}
@@ -21,7 +21,7 @@ use Rattle.laws.specs.JoinTapes.{keptAs, exchangedTapes}
 use Rattle.laws.specs.JoinLaws.{Meet, SumsOf}
 use Rattle.automata.proofs.ListFacts
 use Rattle.automata.proofs.TestFacts.{true-T}
-use Rattle.automata.proofs.TapeFacts.{length-dropAt, getD-dropAt}
+use Rattle.automata.proofs.TapeFacts.{map-dropAt, length-dropAt, getD-dropAt}
 use Rattle.automata.proofs.ReadingFacts.{read-at, read-length, read-chosen, chosen-alike}
 use Rattle.automata.proofs.PairFacts.{agree-∈, within-∈, agree-turned, read-joined, joined-alike, joined-injective}
 use Rattle.automata.proofs.Meeting.{meeting}
@@ -35,16 +35,6 @@ listed z f k (x ∷ v) h =
     let first : suc k ≡ suc (k + 0) = omega arith in
     ap₂ (λ y ys. y ∷ ys) (ap f first ∙ h 0 (omega arith))
     (listed z f (suc k) v (λ i l. let next : suc (suc k + i) ≡ suc (k + suc i) = omega arith in ap f next ∙ h (suc i) (omega arith)))
-
-map-if : {A : Type 0} (f : ℕ → A) (b : Bool) (r s : List ℕ) → map f (if b r s) ≡ if b (map f r) (map f s)
-map-if f true r s = refl
-map-if f false r s = refl
-
-map-dropAt : {A : Type 0} (f : ℕ → A) (d : ℕ → Bool) (xs : List ℕ) → map f (dropAt d xs) ≡ dropAt d (map f xs)
-map-dropAt f d [] = refl
-map-dropAt f d (x ∷ xs) =
-    map-if f (d zero) (dropAt (λ k. d (suc k)) xs) (x ∷ dropAt (λ k. d (suc k)) xs)
-    ∙ ap (λ r. if (d zero) r (f x ∷ r)) (map-dropAt f (λ k. d (suc k)) xs)
 
 -- as many tapes as both have, without those dropped
 pub joined-width : (ps : List Pair) (u v : Tuple) (n m : ℕ) → length u ≡ n → length v ≡ m → length (joined ps u v) ≡ n + placeAfter (seconds ps) m
