@@ -1,6 +1,6 @@
 -- Laws of the first line of an input and of the program's steps.
-pub mod FirstLaws
-pub mod CutLaws
-pub mod RefusalLaws
-pub mod PrintLaws
-pub mod KeptLaws
+pub mod FirstFacts
+pub mod CutFacts
+pub mod RefusalFacts
+pub mod PrintFacts
+pub mod KeptFacts

@@ -5,10 +5,10 @@ use Prim.Native.Nat.{ℕ, _*_, _≤_}
 use lib.ListN.{length, take, drop}
 use Rattle.automata.specs.Answer.{_>>=_, Answer, ok, refused}
 use Rattle.automata.specs.AgreeText.{readPairs}
-use Rattle.memory.specs.Answers.{refusalNumber}
-use Rattle.pair_line.specs.declared.line.PairLine.{PairLine}
-use Rattle.pair_line.specs.declared.line.PairLine.the-variants as line
-use Rattle.pair_line.specs.PairBytes.{pairBytes}
+use Rattle.table.specs.Answers.{refusalNumber}
+use Rattle.agree_line.specs.declared.line.PairLine.{PairLine}
+use Rattle.agree_line.specs.declared.line.PairLine.the-variants as line
+use Rattle.agree_line.specs.PairBytes.{pairBytes}
 
 -- the bytes of the pairs and the rest of the input, as they are told, or the refusal
 abbrev pub lineAs : List ℕ → List ℕ → PairLine → Answer (List ℕ × List ℕ)

@@ -1,8 +1,8 @@
 // Keeping the paths of a table that agree, from its text to the text that is written.
 use crate::write_refusal;
 use intersect::call::intersect;
-use memory::answer::Counts;
-use memory::answer::TableAnswer;
+use table::answer::Counts;
+use table::answer::TableAnswer;
 use text::WriteAnswer;
 use text::read;
 use text::write;
@@ -10,7 +10,7 @@ ghost use Prim.Native.Nat.{_≤_};
 ghost use lib.ListN.{length};
 ghost use Rattle.automata.specs.Memory.{decodeTable};
 ghost use Rattle.automata.specs.AgreeText.{writeOutput};
-ghost use Rattle.memory.specs.Answers.{lent};
+ghost use Rattle.table.specs.Answers.{lent};
 ghost use Rattle.pairs.specs.PairBytes.{pairsOf};
 ghost use Rattle.agree_text.specs.Kept.{keptOf, keptText};
 ghost use Rattle.agree_text.specs.Wrote.{Wrote};

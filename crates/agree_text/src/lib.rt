@@ -2,20 +2,21 @@
 pub mod keep;
 
 use crate::keep::keep_text;
-use memory::answer::Refusal;
-use memory::answer::refusal_number;
-use memory::bytes::copy_into;
-use memory::pair::PAIR;
-use pair_line::line::PairLine;
-use pair_line::line::read_line;
-use pair_line::pair::store_pairs;
+use agree_line::line::PairLine;
+use agree_line::line::read_line;
+use agree_line::pair::store_pairs;
+use table::answer::Refusal;
+use table::answer::refusal_number;
+use table::bytes::copy_into;
+use table::layout::NEWLINE;
+use table::pair::PAIR;
 use text_columns::decimal::write_decimal;
 ghost use Prim.Native.Nat.{_≤_};
 ghost use lib.ListN.{length};
 ghost use Rattle.automata.specs.Answer.{refused};
 ghost use Rattle.automata.specs.AgreeText.{writeOutput};
 ghost use Rattle.automata.specs.Agree.{agree};
-ghost use Rattle.memory.specs.Answers.{refusalNumber};
+ghost use Rattle.table.specs.Answers.{refusalNumber};
 ghost use Rattle.agree_text.specs.FirstLine.{FirstLine};
 ghost use Rattle.agree_text.specs.Wrote.{Wrote};
 
@@ -40,7 +41,7 @@ pub fn write_refusal(output: &mut [u8], r: Refusal) -> usize
     let word = [114u8, 101, 102, 117, 115, 101, 100];
     copy_into(output, 0, &word);
     write_decimal(output, 7, 4, refusal_number(r) as usize);
-    output[11] = 10;
+    output[11] = NEWLINE;
     12
 }
 

@@ -7,8 +7,9 @@ use Rattle.automata.specs.Answer.{ok}
 use Rattle.automata.specs.Automaton.{Automaton}
 use Rattle.automata.specs.Table.{WellFormed}
 use Rattle.automata.specs.Memory.{Memory, Holds, Sound, decodeTable, tableOf}
-use Rattle.automata.proofs.FormatLaws.{length-many}
-use Rattle.automata.proofs.MemoryLaws.{decode-only, stateRecord-lawful, arcRecord-lawful, arcRecord-width}
+use Rattle.automata.proofs.FormatFacts.{length-many}
+use Rattle.automata.proofs.MemoryFacts.{decode-only, stateRecord-lawful, arcRecord-lawful, arcRecord-width}
+use Rattle.automata.specs.Layout.{arcSize, stateSize}
 
 -- the automaton that memory holds is the one that it decodes to
 pub tableOf-is : (m : Memory) (A : Automaton ℕ) → decodeTable m ≡ ok A → tableOf m ≡ A
@@ -34,23 +35,23 @@ module _ (m : Memory) (s : Sound m) where
   sound-holds = decode-only m (tableOf m) sound-decoded .1
 
   -- every record is wholly lent
-  pub sound-states-lent : 10 * m .states ≤ length (m .stateBytes)
+  pub sound-states-lent : stateSize * m .states ≤ length (m .stateBytes)
   sound-states-lent =
       let t = tableOf m in
       let h = sound-holds in
       let e = ap length (h .stateBytes) ∙ length-many stateRecord-lawful (t .states) (sound-well-formed .states) in
-      let f : length (take (m .states * 10) (m .stateBytes)) ≡ min (m .states * 10) (length (m .stateBytes)) = length-take (m .states * 10) (m .stateBytes) in
+      let f : length (take (m .states * stateSize) (m .stateBytes)) ≡ min (m .states * stateSize) (length (m .stateBytes)) = length-take (m .states * stateSize) (m .stateBytes) in
       let g = h .states in
       omega (arith, e, f, g)
 
-  pub sound-arcs-lent : 80 * m .arcs ≤ length (m .arcBytes)
+  pub sound-arcs-lent : arcSize * m .arcs ≤ length (m .arcBytes)
   sound-arcs-lent =
       let t = tableOf m in
       let h = sound-holds in
       let c = sound-well-formed .counts in
-      let e : length (take (m .arcs * 80) (m .arcBytes)) ≡ length (t .arcs) * 80
+      let e : length (take (m .arcs * arcSize) (m .arcBytes)) ≡ length (t .arcs) * arcSize
       = ap length (h .arcBytes) ∙ length-many (arcRecord-lawful (t .tapes) (length (t .states)) (c .statesFit)) (t .arcs) (sound-well-formed .arcs)
       ∙ ap (λ (k : ℕ). length (t .arcs) * k) (arcRecord-width (t .tapes) (length (t .states)) (c .tapesFit)) in
-      let f : length (take (m .arcs * 80) (m .arcBytes)) ≡ min (m .arcs * 80) (length (m .arcBytes)) = length-take (m .arcs * 80) (m .arcBytes) in
+      let f : length (take (m .arcs * arcSize) (m .arcBytes)) ≡ min (m .arcs * arcSize) (length (m .arcBytes)) = length-take (m .arcs * arcSize) (m .arcBytes) in
       let g = h .arcs in
       omega (arith, e, f, g)

@@ -2,8 +2,10 @@
 // of its byte; all other bytes of the line are for the reader alone. A string stands between {, with the byte 10 behind it, and }. The string of a
 // table has a capital letter for a name, which stands before the {, with a blank between. Anything else is a comment: a line of one begins with the
 // byte #. No string and no comment holds one of the bytes >, { and }.
-use memory::answer::Counts;
-use memory::answer::TableAnswer;
+use table::answer::Counts;
+use table::answer::TableAnswer;
+use table::layout::ARC_SIZE;
+use table::layout::STATE_SIZE;
 ghost use Prim.Native.Nat.{_≤_};
 ghost use lib.ListN.{length};
 
@@ -182,11 +184,11 @@ pub fn bytes_of(n: usize, size: usize) -> usize {
     if 1000000 <= n {
         return n;
     }
-    if size == 10 {
-        return n * 10;
+    if size == STATE_SIZE {
+        return n * STATE_SIZE;
     }
-    if size == 80 {
-        return n * 80;
+    if size == ARC_SIZE {
+        return n * ARC_SIZE;
     }
     n
 }

@@ -1,9 +1,9 @@
 // What is printed of a case.
 use crate::input::bytes_of;
-use memory::answer::Counts;
-use memory::answer::TableAnswer;
-use memory::answer::refusal_number;
-use memory::judge::all_zero;
+use table::answer::Counts;
+use table::answer::TableAnswer;
+use table::answer::refusal_number;
+use table::judge::all_zero;
 use text::WriteAnswer;
 
 // A blank and a number.

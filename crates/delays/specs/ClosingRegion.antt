@@ -8,19 +8,20 @@ use mathlib.Core.Option.{some}
 use mathlib.Core.List.{List, [], _∷_, map}
 use lib.Dec.{eqb}
 use lib.ListN.{length, getD, getElem?}
-use Rattle.memory.specs.Region.{part}
-use Rattle.memory.specs.Endian.{le}
+use Rattle.table.specs.Region.{part}
+use Rattle.table.specs.Endian.{le}
 use Rattle.automata.specs.Lists.{if, and}
 use Rattle.automata.specs.Closing.{origin, missing, Closing, ClosingTables, closingTables, withDelay≤, viable}
 use Rattle.automata.specs.Leftover.{Leftover}
 use Rattle.automata.specs.Config.{Config}
 use Rattle.automata.specs.Memory.{Memory, tableOf}
-use Rattle.relaxation.specs.Column.{column, Outside}
-use Rattle.relaxation.specs.Edges.{edges}
-use Rattle.relaxation.specs.Lowered.{Least}
-use Rattle.memory.specs.declared.pair.Pair.{Pair}
-use Rattle.memory.specs.declared.pair.PairList.{PairList}
-use Rattle.memory.specs.Pairs.{pairsAs, noPair}
+use Rattle.automata.specs.Layout.{delaysSize}
+use Rattle.delays_relaxation.specs.Column.{column, Outside}
+use Rattle.delays_relaxation.specs.Edges.{edges}
+use Rattle.delays_relaxation.specs.Lowered.{Least}
+use Rattle.table.specs.declared.pair.Pair.{Pair}
+use Rattle.table.specs.declared.pair.PairList.{PairList}
+use Rattle.table.specs.Pairs.{pairsAs, noPair}
 
 -- the closing delays of a pair, of the table or where reversed of its reversal, stand in the columns at place at and
 -- four bytes behind
@@ -83,5 +84,5 @@ pub record Lengths (k : ℕ) (firsts seconds : List ℕ) (ls : List Leftover) : 
 -- r is the test of the definition, for all tables that the region holds and all configurations with these lengths
 abbrev pub Tests : ℕ → ℕ → ℕ → List ℕ → List ℕ → List ℕ → Bool → Type 0
 Tests base q k firsts seconds w r =
-    (T : ClosingTables) (n : ℕ) (c : Config) → HoldsClosing T base n w → base + 64 * n ≤ length w → q < n → length (T .closings) ≡ k → c .state ≡ q → Lengths k firsts seconds (c .leftovers)
+    (T : ClosingTables) (n : ℕ) (c : Config) → HoldsClosing T base n w → base + delaysSize * n ≤ length w → q < n → length (T .closings) ≡ k → c .state ≡ q → Lengths k firsts seconds (c .leftovers)
     → r ≡ viable T c

@@ -1,22 +1,24 @@
 // The closing delays of all pairs in a region of the work space, and the test for viable configurations that reads them.
 
-use memory::answer::Counts;
-use memory::bytes::get16;
-use memory::pair::Pair;
-use memory::pair::PairList;
-use memory::record::InputState;
-use relaxation::least_delays;
-use relaxation::listing::list_arcs;
+use delays_relaxation::least_delays;
+use delays_relaxation::listing::list_arcs;
+use table::answer::Counts;
+use table::bytes::get16;
+use table::layout::DELAYS_SIZE;
+use table::pair::Pair;
+use table::pair::PairList;
+use table::record::InputState;
 ghost use mathlib.Core.Path.{_≡_};
 ghost use Prim.Native.Nat.{_+_, _*_, _≤_, _<_};
 ghost use lib.ListN.{length, getD};
 ghost use Rattle.automata.specs.Closing.{withDelay≤};
 ghost use Rattle.automata.specs.Memory.{Sound};
-ghost use Rattle.memory.specs.Answers.{lent};
-ghost use Rattle.relaxation.specs.Column.{Room};
-ghost use Rattle.relaxation.specs.Edges.{edges, Readable};
-ghost use Rattle.relaxation.specs.Lowered.{FillsLeast};
-ghost use Rattle.memory.specs.Pairs.{Named, Within, noPair};
+ghost use Rattle.automata.specs.Layout.{delaysSize};
+ghost use Rattle.table.specs.Answers.{lent};
+ghost use Rattle.delays_relaxation.specs.Column.{Room};
+ghost use Rattle.delays_relaxation.specs.Edges.{edges, Readable};
+ghost use Rattle.delays_relaxation.specs.Lowered.{FillsLeast};
+ghost use Rattle.table.specs.Pairs.{Named, Within, noPair};
 ghost use Rattle.delays.specs.ClosingRegion.{ClosesPair, ClosesPairs, closableAt, viableAt, WritesClosing, Tests};
 
 // The closing delays of a pair, of the table or, where `reversed`, of its reversal: the least, and the least of the
@@ -165,7 +167,7 @@ fn write_tables(
     work: &mut [u8],
     base: usize,
 )
-    requires { ⌜ Sound (lent counts (now states) (now arcs)) × (base + 64 * counts .states ≤ length (now work)) × Named (counts .tapes) pairs ⌝ }
+    requires { ⌜ Sound (lent counts (now states) (now arcs)) × (base + delaysSize * counts .states ≤ length (now work)) × Named (counts .tapes) pairs ⌝ }
     ensures { λ _. ⌜ WritesClosing (lent counts (now (states .entry)) (now (arcs .entry))) pairs base (now (work .exit)) (now (work .entry)) ⌝ }
 {
     mark_reaching(
@@ -201,7 +203,7 @@ pub fn closing_tables(
     work: &mut [u8],
     base: usize,
 )
-    requires { ⌜ Sound (lent counts (now states) (now arcs)) × (base + 64 * counts .states ≤ length (now work)) × Named (counts .tapes) pairs ⌝ }
+    requires { ⌜ Sound (lent counts (now states) (now arcs)) × (base + delaysSize * counts .states ≤ length (now work)) × Named (counts .tapes) pairs ⌝ }
     ensures { λ _. ⌜ WritesClosing (lent counts (now (states .entry)) (now (arcs .entry))) pairs base (now (work .exit)) (now (work .entry)) ⌝ }
 {
     let mut order = [65535u16; 8192];
@@ -218,8 +220,14 @@ pub fn viable(
     firsts: [u8; 4],
     seconds: [u8; 4],
 ) -> bool
-    requires { ⌜ (used ≤ 4) × (base + 64 * state .0 + 64 ≤ length (now work)) ⌝ }
+    requires { ⌜ (used ≤ 4) × (base + delaysSize * state .0 + delaysSize ≤ length (now work)) ⌝ }
     ensures { λ r. ⌜ Tests base (state .0) used firsts seconds (now (work .entry)) r ⌝ }
 {
-    viable_at(work, base + 64 * state.0 as usize, used, firsts, seconds)
+    viable_at(
+        work,
+        base + DELAYS_SIZE * state.0 as usize,
+        used,
+        firsts,
+        seconds,
+    )
 }

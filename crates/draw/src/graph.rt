@@ -1,10 +1,14 @@
 // The graph of a table, as Graphviz reads it.
-use memory::answer::Counts;
-use memory::answer::Refusal;
-use memory::answer::TableAnswer;
-use memory::answer::refusal_number;
-use memory::bytes::get16;
-use memory::bytes::get32;
+use table::answer::Counts;
+use table::answer::Refusal;
+use table::answer::TableAnswer;
+use table::answer::refusal_number;
+use table::bytes::get16;
+use table::bytes::get32;
+use table::layout::ARC_SIZE;
+use table::layout::LABEL_SIZE;
+use table::layout::STATE_SIZE;
+use table::layout::WEIGHT_SIZE;
 
 // Bytes to standard output.
 fn put(text: &[u8]) {
@@ -18,10 +22,10 @@ fn put_number(n: u64) {
 
 // A weight of a state, where it is there: a line of the node's label that begins with a word.
 fn put_weight(states: &[u8], at: usize, word: &[u8]) {
-    if states.len() < 5 {
+    if states.len() < WEIGHT_SIZE {
         return;
     }
-    if states.len() - 5 < at {
+    if states.len() - WEIGHT_SIZE < at {
         return;
     }
     if states[at] == 1 {
@@ -49,9 +53,9 @@ fn put_state(states: &[u8], q: usize, at: usize) {
     put(b" [label=\"");
     put_number(q as u64);
     put_weight(states, at, b"\\nin ");
-    put_weight(states, at + 5, b"\\nout ");
+    put_weight(states, at + WEIGHT_SIZE, b"\\nout ");
     put(b"\"");
-    put_outline(states, at + 5);
+    put_outline(states, at + WEIGHT_SIZE);
     put(b"];\n");
 }
 
@@ -62,10 +66,10 @@ fn size_of(length: u8) -> usize {
 
 // The label in the nine bytes at a place, `-` where it is empty; a colon before it where it is not the first.
 fn put_label(arcs: &[u8], at: usize, first: bool) {
-    if arcs.len() < 9 {
+    if arcs.len() < LABEL_SIZE {
         return;
     }
-    if arcs.len() - 9 < at {
+    if arcs.len() - LABEL_SIZE < at {
         return;
     }
     if !first {
@@ -89,17 +93,17 @@ fn put_labels(arcs: &[u8], start: usize, tapes: usize) {
             return;
         }
         put_label(arcs, at, left == tapes);
-        at += 9;
+        at += LABEL_SIZE;
         left -= 1;
     }
 }
 
 // The edge of the arc whose record stands at `at`.
 fn put_arc(arcs: &[u8], at: usize, tapes: usize) {
-    if arcs.len() < 80 {
+    if arcs.len() < ARC_SIZE {
         return;
     }
-    if arcs.len() - 80 < at {
+    if arcs.len() - ARC_SIZE < at {
         return;
     }
     put(b"  ");
@@ -120,7 +124,7 @@ fn put_states(states: &[u8], count: usize) {
         if 1024 <= q {
             return;
         }
-        put_state(states, q, 10 * q);
+        put_state(states, q, STATE_SIZE * q);
         q += 1;
     }
 }
@@ -134,7 +138,7 @@ fn put_arcs(arcs: &[u8], count: usize, tapes: usize) {
             return;
         }
         put_arc(arcs, at, tapes);
-        at += 80;
+        at += ARC_SIZE;
         left -= 1;
     }
 }

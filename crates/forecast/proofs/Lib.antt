@@ -1,4 +1,4 @@
 -- Laws that belong to no one function.
-pub mod CallLaws
-pub mod ToldLaws
-pub mod PairLaws
+pub mod CallFacts
+pub mod ToldFacts
+pub mod PairFacts

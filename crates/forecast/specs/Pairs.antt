@@ -12,8 +12,8 @@ use Rattle.automata.specs.Closing.{origin, missing}
 use Rattle.automata.specs.Reversal.{reversal}
 use Rattle.automata.specs.Memory.{Memory, tableOf}
 use Rattle.automata.specs.Forecast.{Forecast, needs, reaching, toldCapped}
-use Rattle.relaxation.specs.Column.{column}
-use Rattle.relaxation.specs.Edges.{edges}
+use Rattle.delays_relaxation.specs.Column.{column}
+use Rattle.delays_relaxation.specs.Edges.{edges}
 use Rattle.forecast_counts.specs.Counts.{toFinal, fromInitial, marksFrom, greatestOf}
 use Rattle.forecast_counts.specs.Symbols.{symbolsFrom}
 

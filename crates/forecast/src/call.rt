@@ -4,14 +4,15 @@ use forecast_records::ForecastAnswer;
 use forecast_records::RECORD;
 use forecast_records::no_forecasts;
 use forecast_records::put_forecasts;
-use memory::answer::Counts;
-use memory::answer::Judged;
-use memory::bytes::zero;
-use memory::judge::judge;
-use memory::pair::PAIR;
 use pairs::PairsJudged;
 use pairs::in_turn;
 use pairs::judge_tapes;
+use table::answer::Counts;
+use table::answer::Judged;
+use table::bytes::zero;
+use table::judge::judge;
+use table::layout::DELAYS_SIZE;
+use table::pair::PAIR;
 ghost use mathlib.Core.Path.{_≡_};
 ghost use mathlib.Core.List.{List};
 ghost use Prim.Native.Nat.{_/_, _≤_};
@@ -24,7 +25,7 @@ ghost use Rattle.automata.specs.TapePair.{Pair, tapesOf};
 ghost use Rattle.automata.specs.Calls.Outcome.{cleared};
 ghost use Rattle.automata.specs.Calls.Work.{forecastWork};
 ghost use Rattle.automata.specs.Calls.Forecast.{forecastAnswer, forecastRecorded, foretoldOf, recordBytes, recordedOf};
-ghost use Rattle.memory.specs.Answers.{judgedAs, lent};
+ghost use Rattle.table.specs.Answers.{judgedAs, lent};
 ghost use Rattle.pairs.specs.PairBytes.{pairsOf};
 ghost use Rattle.pairs.specs.PairTests.{inTurn};
 ghost use Rattle.pairs.specs.Judgement.{TapesJudged, TapesListed};
@@ -32,7 +33,7 @@ ghost use Rattle.forecast_records.specs.Values.{answerAs};
 ghost use Rattle.forecast.specs.Outcome.{Recordable, recorded};
 
 // The bytes of work space that a forecast needs for each state.
-const STATE_WORK: usize = 64;
+const STATE_WORK: usize = DELAYS_SIZE;
 
 // Whether there is room for what is told, and work space of so many bytes is enough for so many states.
 fn has_space(room: bool, states: usize, work: usize) -> bool

@@ -1,6 +1,7 @@
 // The forecasts of a list of pairs, of a table that is known to be one.
 use delays::close_pair;
 use delays::mark_reaching;
+use delays_relaxation::listing::list_arcs;
 use forecast_counts::FROM_INITIAL;
 use forecast_counts::LEAST_BEFORE;
 use forecast_counts::TO_FINAL;
@@ -12,10 +13,9 @@ use forecast_counts::symbols_used;
 use forecast_records::Forecast;
 use forecast_records::ForecastList;
 use forecast_records::no_forecasts;
-use memory::answer::Counts;
-use memory::pair::Pair;
-use memory::pair::PairList;
-use relaxation::listing::list_arcs;
+use table::answer::Counts;
+use table::pair::Pair;
+use table::pair::PairList;
 ghost use mathlib.Core.Path.{_≡_};
 ghost use mathlib.Core.Bool.{false};
 ghost use mathlib.Core.List.{map};
@@ -26,9 +26,10 @@ ghost use Rattle.automata.specs.Memory.{Sound, tableOf};
 ghost use Rattle.automata.specs.Forecast.{needs, pathStates, toldCapped};
 ghost use Rattle.automata.specs.ForecastCall.{forecastOf};
 ghost use Rattle.automata.specs.Calls.Work.{forecastWork};
-ghost use Rattle.memory.specs.Answers.{lent};
-ghost use Rattle.memory.specs.Pairs.{Within, Named, tapesAs, pairsAs};
-ghost use Rattle.relaxation.specs.Edges.{ReadableArcs};
+ghost use Rattle.automata.specs.Layout.{delaysSize};
+ghost use Rattle.table.specs.Answers.{lent};
+ghost use Rattle.table.specs.Pairs.{Within, Named, tapesAs, pairsAs};
+ghost use Rattle.delays_relaxation.specs.Edges.{ReadableArcs};
 ghost use Rattle.forecast_counts.specs.Symbols.{ShortLabels};
 ghost use Rattle.forecast_records.specs.Values.{forecastAs, forecastsAs};
 ghost use Rattle.forecast.specs.Pairs.{Marked, delayBy, neededBy};
@@ -88,7 +89,7 @@ fn needed(
     states: usize,
     found: usize,
 ) -> Forecast
-    requires { ⌜ ReadableArcs states (now arcs) count false first second × ShortLabels (now arcs) count first second × (64 * states ≤ length (now work)) × (states ≤ 1024) × (found ≤ 1024) × (delayBy first second count (now arcs) states (now work) found < 65536) ⌝ }
+    requires { ⌜ ReadableArcs states (now arcs) count false first second × ShortLabels (now arcs) count first second × (delaysSize * states ≤ length (now work)) × (states ≤ 1024) × (found ≤ 1024) × (delayBy first second count (now arcs) states (now work) found < 65536) ⌝ }
     ensures { λ r. ⌜ forecastAs r ≡ neededBy first second count (now (arcs .entry)) states (now (work .entry)) found ⌝ }
 {
     let greatest = greatest_delay(arcs, count, first, second, work, states);

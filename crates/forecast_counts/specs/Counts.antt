@@ -5,11 +5,12 @@ use mathlib.Core.Bool.{Bool, false, not}
 use mathlib.Core.List.{List, [], _∷_}
 use lib.Dec.{eqb, ltb}
 use lib.ListN.{getD}
-use Rattle.memory.specs.Region.{part}
-use Rattle.memory.specs.Endian.{le}
+use Rattle.automata.specs.Layout.{delaysSize}
+use Rattle.table.specs.Region.{part}
+use Rattle.table.specs.Endian.{le}
 use Rattle.automata.specs.Lists.{if, and, or}
 use Rattle.automata.specs.Closing.{endless, missing}
-use Rattle.relaxation.specs.declared.Edge.{Edge}
+use Rattle.delays_relaxation.specs.declared.Edge.{Edge}
 
 -- ---- the places in a state's 64 bytes
 
@@ -42,7 +43,7 @@ onPathAt at w = and (not (eqb (le (part (at + fromInitial) 2 w)) missing)) (not 
 -- the marks of n states from place at on
 unfoldable pub marksFrom : ℕ → ℕ → List ℕ → List Bool
 marksFrom at zero w = []
-marksFrom at (suc n) w = onPathAt at w ∷ marksFrom (at + 64) n w
+marksFrom at (suc n) w = onPathAt at w ∷ marksFrom (at + delaysSize) n w
 
 -- ---- cycles of both signs
 
@@ -57,7 +58,7 @@ bothAt at w = or (endlessAt (at + oppositeBefore) at w) (endlessAt (at + leastBe
 -- at some of n states from place at on
 unfoldable pub bothFrom : ℕ → ℕ → List ℕ → Bool
 bothFrom at zero w = false
-bothFrom at (suc n) w = let rest = bothFrom (at + 64) n w in or (bothAt at w) rest
+bothFrom at (suc n) w = let rest = bothFrom (at + delaysSize) n w in or (bothAt at w) rest
 
 -- ---- delays of arcs
 
@@ -67,7 +68,7 @@ delaySize up down = max (up - down) (down - up)
 
 -- an arc lies on a successful path: both its states do
 abbrev pub arcOnPath : ℕ → ℕ → List ℕ → Bool
-arcOnPath source target w = and (onPathAt (64 * source) w) (onPathAt (64 * target) w)
+arcOnPath source target w = and (onPathAt (delaysSize * source) w) (onPathAt (delaysSize * target) w)
 
 -- the greater of a size and a number, where the arc lies on a successful path; else the number
 abbrev pub raised : Bool → ℕ → ℕ → ℕ

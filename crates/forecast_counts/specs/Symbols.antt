@@ -3,29 +3,30 @@ use Prim.Native.Nat.{ℕ, zero, suc, _+_, _*_, _<_, _≤_}
 use mathlib.Core.List.{List, [], _∷_, _++_, map}
 use lib.Dec.{eqb}
 use lib.ListN.{length, getD, set}
-use Rattle.memory.specs.Region.{part}
+use Rattle.table.specs.Region.{part}
 use Rattle.automata.specs.Lists.{if}
 use Rattle.automata.specs.TapePair.{reading}
+use Rattle.automata.specs.Layout.{arcSize, labelSize, labelsPlace, symbolsPlace}
 
 -- ---- the labels
 
 -- the label of tape i, counted from 0, in the arc record at place at, as it is compared
 abbrev pub labelAt : ℕ → ℕ → List ℕ → List ℕ
-labelAt i at arcs = map reading (part (at + 9 + 9 * i) (getD arcs (at + 8 + 9 * i) 0) arcs)
+labelAt i at arcs = map reading (part (at + symbolsPlace + labelSize * i) (getD arcs (at + labelsPlace + labelSize * i) 0) arcs)
 
 -- those of two tapes of n arcs from place at on, one after the other
 unfoldable pub symbolsFrom : ℕ → ℕ → ℕ → ℕ → List ℕ → List ℕ
 symbolsFrom first second at zero arcs = []
 symbolsFrom first second at (suc n) arcs =
-    (labelAt first at arcs ++ labelAt second at arcs) ++ symbolsFrom first second (at + 80) n arcs
+    (labelAt first at arcs ++ labelAt second at arcs) ++ symbolsFrom first second (at + arcSize) n arcs
 
 -- the first records are wholly lent, the tapes are of eight, and the labels on them have at most 8 symbols
 pub record ShortLabels (arcs : List ℕ) (count first second : ℕ) : Type 0 where
-  pub lent : 80 * count ≤ length arcs
+  pub lent : arcSize * count ≤ length arcs
   pub first-tape : first < 8
   pub second-tape : second < 8
-  pub first-short : (k : ℕ) → k < count → getD arcs (80 * k + 8 + 9 * first) 0 ≤ 8
-  pub second-short : (k : ℕ) → k < count → getD arcs (80 * k + 8 + 9 * second) 0 ≤ 8
+  pub first-short : (k : ℕ) → k < count → getD arcs (arcSize * k + labelsPlace + labelSize * first) 0 ≤ 8
+  pub second-short : (k : ℕ) → k < count → getD arcs (arcSize * k + labelsPlace + labelSize * second) 0 ≤ 8
 
 -- ---- the table of symbols seen
 

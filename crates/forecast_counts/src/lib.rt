@@ -1,9 +1,14 @@
 // What a forecast of space counts: in the work space, where each state has 64 bytes, and in the arc records.
 
-use memory::bytes::get16;
-use memory::symbol::read_symbol;
-use relaxation::Edge;
-use relaxation::edge_at;
+use delays_relaxation::Edge;
+use delays_relaxation::edge_at;
+use table::bytes::get16;
+use table::layout::ARC_SIZE;
+use table::layout::DELAYS_SIZE;
+use table::layout::LABEL_SIZE;
+use table::layout::LABELS_PLACE;
+use table::layout::SYMBOLS_PLACE;
+use table::symbol::read_symbol;
 ghost use mathlib.Core.Path.{_≡_};
 ghost use mathlib.Core.Bool.{false};
 ghost use Prim.Native.Nat.{_+_, _*_, _≤_, _<_};
@@ -15,8 +20,9 @@ ghost use Rattle.automata.specs.TapePair.{reading};
 ghost use Rattle.automata.specs.Explore.{insertAll};
 ghost use Rattle.automata.specs.Trim.{rank};
 ghost use Rattle.automata.specs.Forecast.{cappedSum};
-ghost use Rattle.relaxation.specs.Edges.{edges, ReadableArcs};
-ghost use Rattle.memory.specs.Region.{part};
+ghost use Rattle.automata.specs.Layout.{arcSize, delaysSize, labelSize, labelsPlace};
+ghost use Rattle.delays_relaxation.specs.Edges.{edges, ReadableArcs};
+ghost use Rattle.table.specs.Region.{part};
 ghost use Rattle.forecast_counts.specs.Symbols.{labelAt, symbolsFrom, ShortLabels, noted, marked};
 ghost use Rattle.forecast_counts.specs.Counts.{onPathAt, marksFrom, endlessAt, bothAt, bothFrom, delaySize, arcOnPath, raised, greatestOf, cut};
 
@@ -60,7 +66,7 @@ fn one_if(so: bool) -> usize
 
 // How many of the first states lie on successful paths.
 pub fn path_states(work: &[u8], states: usize) -> usize
-    requires { ⌜ 64 * states ≤ length (now work) ⌝ }
+    requires { ⌜ delaysSize * states ≤ length (now work) ⌝ }
     ensures { λ r. ⌜ r ≡ rank (marksFrom 0 states (now (work .entry))) states ⌝ }
 {
     let mut found: usize = 0;
@@ -69,7 +75,7 @@ pub fn path_states(work: &[u8], states: usize) -> usize
     while 0 < left {
         let on = on_path(work, at);
         found += one_if(on);
-        at += 64;
+        at += DELAYS_SIZE;
         left -= 1;
     }
     found
@@ -99,7 +105,7 @@ fn both_at(work: &[u8], at: usize) -> bool
 
 // Whether cycles of both signs meet at one of the first states.
 pub fn meets_both(work: &[u8], states: usize) -> bool
-    requires { ⌜ 64 * states ≤ length (now work) ⌝ }
+    requires { ⌜ delaysSize * states ≤ length (now work) ⌝ }
     ensures { λ r. ⌜ r ≡ bothFrom 0 states (now (work .entry)) ⌝ }
 {
     let mut at: usize = 0;
@@ -108,7 +114,7 @@ pub fn meets_both(work: &[u8], states: usize) -> bool
         if both_at(work, at) {
             return true;
         }
-        at += 64;
+        at += DELAYS_SIZE;
         left -= 1;
     }
     false
@@ -123,18 +129,18 @@ fn delay_size(up: u8, down: u8) -> u8
 
 // Whether both states of an arc lie on successful paths.
 fn arc_on_path(work: &[u8], e: Edge) -> bool
-    requires { ⌜ (64 * e .source + 64 ≤ length (now work)) × (64 * e .target + 64 ≤ length (now work)) ⌝ }
+    requires { ⌜ (delaysSize * e .source + delaysSize ≤ length (now work)) × (delaysSize * e .target + delaysSize ≤ length (now work)) ⌝ }
     ensures { λ r. ⌜ r ≡ arcOnPath (e .source) (e .target) (now (work .entry)) ⌝ }
 {
-    if !on_path(work, 64 * e.source as usize) {
+    if !on_path(work, DELAYS_SIZE * e.source as usize) {
         return false;
     }
-    on_path(work, 64 * e.target as usize)
+    on_path(work, DELAYS_SIZE * e.target as usize)
 }
 
 // The greater of a number and the size of an arc's delay, where the arc lies on a successful path; else the number.
 fn raise(work: &[u8], e: Edge, best: u8) -> u8
-    requires { ⌜ (64 * e .source + 64 ≤ length (now work)) × (64 * e .target + 64 ≤ length (now work)) ⌝ }
+    requires { ⌜ (delaysSize * e .source + delaysSize ≤ length (now work)) × (delaysSize * e .target + delaysSize ≤ length (now work)) ⌝ }
     ensures { λ r. ⌜ r ≡ raised (arcOnPath (e .source) (e .target) (now (work .entry))) (delaySize (e .up) (e .down)) best ⌝ }
 {
     let size = delay_size(e.up, e.down);
@@ -154,7 +160,7 @@ pub fn greatest_delay(
     work: &[u8],
     states: usize,
 ) -> u8
-    requires { ⌜ ReadableArcs states (now arcs) count false first second × (64 * states ≤ length (now work)) ⌝ }
+    requires { ⌜ ReadableArcs states (now arcs) count false first second × (delaysSize * states ≤ length (now work)) ⌝ }
     ensures { λ r. ⌜ r ≡ greatestOf (marksFrom 0 states (now (work .entry))) (edges false first second 0 count (now (arcs .entry))) ⌝ }
 {
     let mut best: u8 = 0;
@@ -163,7 +169,7 @@ pub fn greatest_delay(
     while 0 < left {
         let e = edge_at(arcs, from, false, first, second);
         best = raise(work, e, best);
-        from += 80;
+        from += ARC_SIZE;
         left -= 1;
     }
     best
@@ -187,11 +193,11 @@ fn note_bytes(seen: &mut [u8], bytes: &[u8], at: usize, count: usize)
 
 // The symbols of an arc's label on one tape are noted.
 fn note_label(seen: &mut [u8], arcs: &[u8], at: usize, tape: usize)
-    requires { ⌜ (length (now seen) ≡ 256) × (at + 80 ≤ length (now arcs)) × (tape < 8) × (getD (now arcs) (at + 8 + 9 * tape) 0 ≤ 8) ⌝ }
+    requires { ⌜ (length (now seen) ≡ 256) × (at + arcSize ≤ length (now arcs)) × (tape < 8) × (getD (now arcs) (at + labelsPlace + labelSize * tape) 0 ≤ 8) ⌝ }
     ensures { λ _. ⌜ now (seen .exit) ≡ noted (now (seen .entry)) (labelAt tape at (now (arcs .entry))) ⌝ }
 {
-    let count = arcs[at + 8 + 9 * tape] as usize;
-    note_bytes(seen, arcs, at + 9 + 9 * tape, count);
+    let count = arcs[at + LABELS_PLACE + LABEL_SIZE * tape] as usize;
+    note_bytes(seen, arcs, at + SYMBOLS_PLACE + LABEL_SIZE * tape, count);
 }
 
 // Those of all labels on two tapes.
@@ -204,7 +210,7 @@ fn note_arcs(seen: &mut [u8], arcs: &[u8], count: usize, first: usize, second: u
     while 0 < left {
         note_label(seen, arcs, from, first);
         note_label(seen, arcs, from, second);
-        from += 80;
+        from += ARC_SIZE;
         left -= 1;
     }
 }

@@ -6,7 +6,7 @@ use Rattle.automata.specs.Lists.{if}
 use Rattle.automata.specs.Answer.{_>>=_, Answer, ok}
 use Rattle.automata.specs.Forecast as automata
 use Rattle.automata.specs.Forecast.{number, over, mixed, needs}
-use Rattle.memory.specs.Answers.{judgedAs}
+use Rattle.table.specs.Answers.{judgedAs}
 use Rattle.forecast_records.specs.declared.Forecast.{Forecast}
 use Rattle.forecast_records.specs.declared.ForecastList.{ForecastList}
 use Rattle.forecast_records.specs.declared.ForecastAnswer.{ForecastAnswer}

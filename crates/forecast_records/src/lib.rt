@@ -1,12 +1,12 @@
 // Forecasts by value, and in lent bytes for callers in C.
-use memory::answer::Judged;
-use memory::bytes::put16;
+use table::answer::Judged;
+use table::bytes::put16;
 ghost use mathlib.Core.Path.{_≡_};
 ghost use Prim.Native.Nat.{_+_, _*_, _≤_};
 ghost use lib.ListN.{length};
 ghost use Rattle.automata.specs.Calls.Forecast.{forecastSize, forecastParts, forecastRecord, forecastRecords};
 ghost use Rattle.automata.specs.Calls.Outcome.{overwrite};
-ghost use Rattle.memory.specs.Region.{splice};
+ghost use Rattle.table.specs.Region.{splice};
 ghost use Rattle.forecast_records.specs.Values.{noForecasts, forecastAs, forecastsAs};
 
 // The bytes of a record, and what it tells: a delay and a number, a delay and "over", or mixed.

@@ -12,13 +12,13 @@ use borrow.Author.Tests.{ne-eqb}
 use Rattle.automata.specs.Leftover as automata
 use Rattle.automata.proofs.ListFacts.{place-bound, place-default}
 use Rattle.automata.proofs.Membership.{place-map⁻¹}
-use Rattle.memory.specs.Region.{part}
-use Rattle.configuration.specs.declared.leftover.Leftover.{Leftover}
-use Rattle.configuration.specs.Leftovers.{sided, leftoverAs, blank, outside, Good, leftoverAt}
-use Rattle.configuration.specs.Configs.{Config, configAs, GoodConfig, configBytes, configAt}
-use Rattle.configuration.proofs.RoundLaws.{length-config, load-row}
-use Rattle.configuration.proofs.TestLaws.{kept-length, good-at, length-leftovers}
-use Rattle.trimming.specs.Rows.{RowOf}
+use Rattle.table.specs.Region.{part}
+use Rattle.intersect_config.specs.declared.leftover.Leftover.{Leftover}
+use Rattle.intersect_config.specs.Leftovers.{sided, leftoverAs, blank, outside, Good, leftoverAt, leftoverSize}
+use Rattle.intersect_config.specs.Configs.{Config, configAs, GoodConfig, configBytes, configAt, rowSize}
+use Rattle.intersect_config.proofs.RoundFacts.{length-config, load-row}
+use Rattle.intersect_config.proofs.TestFacts.{kept-length, good-at, length-leftovers}
+use Rattle.intersect_trim.specs.Rows.{RowOf}
 
 -- a leftover is none where it has no symbols
 sided-none : (b : Bool) (r : List ℕ) → eqb (length r) 0 ≡ automata.sameLeftover (sided b r) automata.nothing
@@ -37,10 +37,10 @@ module _ (used : ℕ) (d : Config) (few : used ≤ 4) (g : GoodConfig used d) (r
 
   loaded : configAt 0 row ≡ d
   unfolding part
-  loaded = load-row used 0 d row g (take-at (configBytes d) rest 298 (length-config used d g))
+  loaded = load-row used 0 d row g (take-at (configBytes d) rest rowSize (length-config used d g))
 
   -- the length bytes of its leftovers
-  len-at : (h : ℕ) → h < 4 → getD row (3 + 74 * h) 0 ≡ getD (d .leftovers) h outside .len
+  len-at : (h : ℕ) → h < 4 → getD row (3 + leftoverSize * h) 0 ≡ getD (d .leftovers) h outside .len
   unfolding configAt leftoverAt
   len-at zero i = ap (λ (c : Config). getD (c .leftovers) 0 outside .len) loaded
   len-at (suc zero) i = ap (λ (c : Config). getD (c .leftovers) 1 outside .len) loaded
@@ -52,7 +52,7 @@ module _ (used : ℕ) (d : Config) (few : used ≤ 4) (g : GoodConfig used d) (r
   many = length-leftovers used d g few
 
   used-at : (h : ℕ) (l : automata.Leftover) → getElem? (configAs used d .leftovers) h ≡ some l
-      → eqb (getD row (3 + 74 * h) 0) 0 ≡ automata.sameLeftover l automata.nothing
+      → eqb (getD row (3 + leftoverSize * h) 0) 0 ≡ automata.sameLeftover l automata.nothing
   used-at h l e =
       let (x, p, q) = place-map⁻¹ leftoverAs (take used (d .leftovers)) h e in
       let b : h < used = omega (arith, place-bound (configAs used d .leftovers) h e, many) in
@@ -60,7 +60,7 @@ module _ (used : ℕ) (d : Config) (few : used ≤ 4) (g : GoodConfig used d) (r
       ap (λ (n : ℕ). eqb n 0) (len-at h (omega arith)) ∙ leftover-none (getD (d .leftovers) h outside) (good-at h d (g .four, g .each) (omega arith))
       ∙ ap (λ (z : Leftover). automata.sameLeftover (leftoverAs z) automata.nothing) y ∙ ap (λ (z : automata.Leftover). automata.sameLeftover z automata.nothing) q
 
-  unused-at : (h : ℕ) → h < 4 → length (configAs used d .leftovers) ≤ h → getD row (3 + 74 * h) 0 ≡ 0
+  unused-at : (h : ℕ) → h < 4 → length (configAs used d .leftovers) ≤ h → getD row (3 + leftoverSize * h) 0 ≡ 0
   unfolding blank
   unused-at h i k =
       let b : used ≤ h = omega (arith, many) in

@@ -6,9 +6,10 @@ use lib.ListN.{length}
 use Rattle.automata.specs.TapePair.{limitsFit}
 use Rattle.automata.specs.Memory.{Memory, Sound}
 use Rattle.automata.specs.Calls.Work.{buildWork}
-use Rattle.memory.specs.declared.pair.PairList.{PairList}
-use Rattle.memory.specs.Pairs.{Named, pairsAs}
-use Rattle.workspace.specs.Room.{lentSpace}
+use Rattle.automata.specs.Layout.{arcSize, stateSize}
+use Rattle.table.specs.declared.pair.PairList.{PairList}
+use Rattle.table.specs.Pairs.{Named, pairsAs}
+use Rattle.intersect_room.specs.Room.{lentSpace}
 
 -- a table, at most four pairs of its tapes by value with limits in range, and work space for slices of so many bytes
 pub record Intersectable (m : Memory) (pairs : PairList) (forStates forArcs work : ℕ) : Type 0 where
@@ -16,4 +17,4 @@ pub record Intersectable (m : Memory) (pairs : PairList) (forStates forArcs work
   pub named : Named (m .tapes) pairs
   pub four : length (pairs .pairs) ≡ 4
   pub limits-fit : limitsFit (pairsAs pairs) ≡ true
-  pub work-fits : buildWork (lentSpace (forStates / 10) (forArcs / 80)) (m .states) ≤ work
+  pub work-fits : buildWork (lentSpace (forStates / stateSize) (forArcs / arcSize)) (m .states) ≤ work

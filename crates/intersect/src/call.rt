@@ -1,19 +1,21 @@
 // The call: a refusal before any configuration is reached, the search, the answer that it settles, and work space cleared.
 use crate::step::reach;
+use intersect_offers::plan::Plan;
 use intersect_result::prepare::prepare;
-use memory::answer::Counts;
-use memory::answer::Judged;
-use memory::answer::TableAnswer;
-use memory::bytes::zero;
-use offers::plan::Plan;
 use pairs::PairsJudged;
 use pairs::judge_pairs;
+use table::answer::Counts;
+use table::answer::Judged;
+use table::answer::TableAnswer;
+use table::bytes::zero;
+use table::layout::ARC_SIZE;
+use table::layout::STATE_SIZE;
 ghost use mathlib.Core.Path.{_≡_};
 ghost use mathlib.Core.List.{List};
 ghost use Rattle.automata.specs.TapePair.{TapePair};
 ghost use Rattle.automata.specs.Calls.Outcome.{spaceOf, put, madeOf, builtOf, slicesOf};
 ghost use Rattle.automata.specs.Calls.Intersect.{intersectAnswer, intersectOutcome};
-ghost use Rattle.memory.specs.Answers.{lent, tableAs};
+ghost use Rattle.table.specs.Answers.{lent, tableAs};
 ghost use Rattle.pairs.specs.PairBytes.{pairsOf};
 ghost use Rattle.pairs.specs.Judgement.{KeepJudged, Listed};
 
@@ -35,8 +37,8 @@ fn build(
         states,
         arcs,
         listed,
-        out_states.len() / 10,
-        out_arcs.len() / 80,
+        out_states.len() / STATE_SIZE,
+        out_arcs.len() / ARC_SIZE,
         work.len(),
     );
     let judged = prepared.judged;

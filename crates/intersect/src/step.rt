@@ -1,20 +1,23 @@
 // The auto-intersection behind its tests: the search over the configurations, and the answer that it settles.
-use exploration::explore::explore;
+use intersect_offers::plan::Plan;
 use intersect_result::finish::settle;
-use memory::answer::Counts;
-use memory::answer::TableAnswer;
-use memory::pair::PairList;
-use offers::plan::Plan;
-use workspace::room::room_for;
+use intersect_room::room::room_for;
+use intersect_search::explore::explore;
+use table::answer::Counts;
+use table::answer::TableAnswer;
+use table::layout::ARC_SIZE;
+use table::layout::STATE_SIZE;
+use table::pair::PairList;
 ghost use mathlib.Core.Path.{_≡_};
 ghost use Prim.Native.Nat.{_/_};
 ghost use lib.ListN.{length};
 ghost use Rattle.automata.specs.Calls.Outcome.{spaceOf, put, madeOf, slicesOf};
 ghost use Rattle.automata.specs.Calls.JoinSteps.{intersectStep};
-ghost use Rattle.memory.specs.Answers.{lent, tableAs};
-ghost use Rattle.memory.specs.Pairs.{pairsAs};
-ghost use Rattle.workspace.specs.Room.{Divides};
-ghost use Rattle.offers.specs.Plans.{Explorable, pairsIn, viableIn};
+ghost use Rattle.automata.specs.Layout.{arcSize, stateSize};
+ghost use Rattle.table.specs.Answers.{lent, tableAs};
+ghost use Rattle.table.specs.Pairs.{pairsAs};
+ghost use Rattle.intersect_room.specs.Room.{Divides};
+ghost use Rattle.intersect_offers.specs.Plans.{Explorable, pairsIn, viableIn};
 ghost use Rattle.intersect_result.specs.Searched.{tableBy};
 ghost use Rattle.intersect.specs.Step.{Intersectable};
 
@@ -27,7 +30,7 @@ pub fn reach(
     out_arcs: &mut [u8],
     work: &mut [u8],
 ) -> TableAnswer
-    requires { ⌜ Explorable plan (now states) (now arcs) (length (now work)) × Divides (length (now «out_states») / 10) (length (now «out_arcs») / 80) (plan .counts .states) (length (now work)) (plan .room) ⌝ }
+    requires { ⌜ Explorable plan (now states) (now arcs) (length (now work)) × Divides (length (now «out_states») / stateSize) (length (now «out_arcs») / arcSize) (plan .counts .states) (length (now work)) (plan .room) ⌝ }
     ensures { λ r. ⌜ madeOf (tableAs r) (now («out_states» .exit)) (now («out_arcs» .exit)) ≡ put (tableBy (lent (plan .counts) (now (states .entry)) (now (arcs .entry))) (pairsIn plan) (viableIn plan (now (states .entry)) (now (arcs .entry))) (spaceOf (slicesOf (now («out_states» .entry)) (now («out_arcs» .entry))))) (slicesOf (now («out_states» .entry)) (now («out_arcs» .entry))) ⌝ }
 {
     let head = explore(plan, states, arcs, work);
@@ -63,8 +66,8 @@ pub fn intersect_step(
     ensures { λ r. ⌜ madeOf (tableAs r) (now («out_states» .exit)) (now («out_arcs» .exit)) ≡ intersectStep (lent counts (now (states .entry)) (now (arcs .entry))) (pairsAs pairs) (slicesOf (now («out_states» .entry)) (now («out_arcs» .entry))) ⌝ }
 {
     let answer = room_for(
-        out_states.len() / 10,
-        out_arcs.len() / 80,
+        out_states.len() / STATE_SIZE,
+        out_arcs.len() / ARC_SIZE,
         counts.states,
         work.len(),
     );

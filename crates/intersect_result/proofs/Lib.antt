@@ -1,5 +1,5 @@
 -- Laws of the result of an auto-intersection.
-pub mod KeepLaws
-pub mod FinishLaws
-pub mod PrepareLaws
-pub mod CallLaws
+pub mod KeepFacts
+pub mod FinishFacts
+pub mod PrepareFacts
+pub mod CallFacts

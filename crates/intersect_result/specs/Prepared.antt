@@ -9,12 +9,12 @@ use Rattle.automata.specs.Memory.{Memory, Sound, tableOf}
 use Rattle.automata.specs.TapePair.{TapePair, limitsFit}
 use Rattle.automata.specs.IntersectCall.{intersectOn}
 use Rattle.automata.specs.Calls.Intersect.{intersectAnswer}
-use Rattle.memory.specs.declared.answer.Judged.the-variants.{Fine}
-use Rattle.memory.specs.Answers.{judgedAs}
-use Rattle.memory.specs.Pairs.{pairsAs, Named}
+use Rattle.table.specs.declared.answer.Judged.the-variants.{Fine}
+use Rattle.table.specs.Answers.{judgedAs}
+use Rattle.table.specs.Pairs.{pairsAs, Named}
 use Rattle.pairs.specs.declared.PairsJudged.{PairsJudged}
 use Rattle.pairs.specs.Judgement.{KeepJudged}
-use Rattle.workspace.specs.Room.{lentSpace, Divides}
+use Rattle.intersect_room.specs.Room.{lentSpace, Divides}
 use Rattle.intersect_result.specs.declared.prepare.Prepared.{Prepared}
 
 -- The first refusal is the call's, and where there is none the call goes on to reach configurations; what then is known of its parts.

@@ -12,11 +12,12 @@ use Rattle.automata.specs.Config.{Config}
 use Rattle.automata.specs.Memory.{Memory, Sound, tableOf}
 use Rattle.automata.specs.Intersect.{reachedConfigs, delayed, intersectBy}
 use Rattle.automata.specs.Calls.Outcome.{TableCounts, spaceOf, put, madeOf, slicesOf}
-use Rattle.memory.specs.Region.{rows}
-use Rattle.edges.specs.Edges.{HoldsEdges}
-use Rattle.trimming.specs.Rows.{RowsOf}
-use Rattle.workspace.specs.declared.room.Room.{Room}
-use Rattle.workspace.specs.Room.{Divides}
+use Rattle.automata.specs.Layout.{arcSize, configSize, stateSize}
+use Rattle.table.specs.Region.{rows}
+use Rattle.intersect_edges.specs.Edges.{HoldsEdges}
+use Rattle.intersect_trim.specs.Rows.{RowsOf}
+use Rattle.intersect_room.specs.declared.room.Room.{Room}
+use Rattle.intersect_room.specs.Room.{Divides}
 use Rattle.intersect_result.specs.Standing.{edgesOf}
 
 -- the reached configurations of an intersection of the table in m, or more than there is room for
@@ -29,7 +30,7 @@ pub record Reached (m : Memory) (ps : List TapePair) (v : Config → Bool) (room
   pub many : reached ≡ length (foundIn m ps v room)
   pub number : arcs ≡ length (edgesOf m ps v (foundIn m ps v room))
   pub delay : late ≡ delayed (tableOf m) ps v (foundIn m ps v room)
-  pub placed : RowsOf (length (tableOf m .states)) (foundIn m ps v room) (rows 0 320 (length (foundIn m ps v room)) w)
+  pub placed : RowsOf (length (tableOf m .states)) (foundIn m ps v room) (rows 0 configSize (length (foundIn m ps v room)) w)
   pub held : HoldsEdges (room .edges) (room .arcs) (edgesOf m ps v (foundIn m ps v room)) w
 
 -- what a search tells: whether there are more than there is room for, and else what they are
@@ -40,7 +41,7 @@ pub record Searched (m : Memory) (ps : List TapePair) (v : Config → Bool) (roo
 -- a search was made of the table in m, whose room is that of the work space w for slices of so many bytes
 pub record Settleable (m : Memory) (room : Room) (full late : Bool) (reached arcs : ℕ) (w : List ℕ) (forStates forArcs : ℕ) : Type 0 where
   pub sound : Sound m
-  pub divides : Divides (forStates / 10) (forArcs / 80) (m .states) (length w) room
+  pub divides : Divides (forStates / stateSize) (forArcs / arcSize) (m .states) (length w) room
   pub pairs : List TapePair
   pub test : Config → Bool
   pub searched : Searched m pairs test room full late reached arcs w

@@ -1,13 +1,13 @@
 // The answer of an auto-intersection, by what the search over its configurations left in work space.
 use crate::keep::keep;
-use memory::answer::Counts;
-use memory::answer::Refusal;
-use memory::answer::TableAnswer;
-use trimming::result::write_arcs;
-use trimming::result::write_states;
-use workspace::room::Room;
+use intersect_room::room::Room;
+use intersect_trim::result::write_arcs;
+use intersect_trim::result::write_states;
+use table::answer::Counts;
+use table::answer::Refusal;
+use table::answer::TableAnswer;
 ghost use lib.ListN.{length};
-ghost use Rattle.memory.specs.Answers.{lent, tableAs};
+ghost use Rattle.table.specs.Answers.{lent, tableAs};
 ghost use Rattle.intersect_result.specs.Standing.{Finishable, Finished};
 ghost use Rattle.intersect_result.specs.Searched.{Settleable, Settled};
 

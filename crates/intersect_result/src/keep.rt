@@ -1,7 +1,7 @@
 // The configurations that are kept: those from which a final one is reached.
-use edges::mark::mark_coaccessible;
-use trimming::final_marks::mark_final;
-use trimming::rank::number_marked;
+use intersect_edges::mark::mark_coaccessible;
+use intersect_trim::final_marks::mark_final;
+use intersect_trim::rank::number_marked;
 ghost use Prim.Native.Nat.{_≤_};
 ghost use lib.ListN.{length};
 ghost use Rattle.intersect_result.specs.Standing.{Laid, Kept};

@@ -1,13 +1,13 @@
 // What is judged before any configuration is reached: the table, the pairs with their limits, the work space.
-use memory::answer::Counts;
-use memory::answer::Judged;
-use memory::judge::judge;
-use memory::pair::PairList;
+use intersect_room::room::Room;
+use intersect_room::room::room_for;
 use pairs::PairsJudged;
 use pairs::in_turn;
-use workspace::room::Room;
-use workspace::room::room_for;
-ghost use Rattle.memory.specs.Answers.{lent};
+use table::answer::Counts;
+use table::answer::Judged;
+use table::judge::judge;
+use table::pair::PairList;
+ghost use Rattle.table.specs.Answers.{lent};
 ghost use Rattle.intersect_result.specs.Prepared.{PreparesFor};
 
 // The first refusal, and where there is none the pairs by value and the parts of the work space.

@@ -16,9 +16,9 @@ use Rattle.automata.specs.Memory.{Memory, Sound, tableOf}
 use Rattle.automata.specs.Join.{within, joinSteps}
 use Rattle.automata.specs.Calls.Work.{joinWork}
 use Rattle.automata.specs.Calls.Join.{lentTo, joinAnswer}
-use Rattle.memory.specs.declared.answer.Judged.{Judged}
-use Rattle.memory.specs.declared.answer.Judged.the-variants.{Fine}
-use Rattle.memory.specs.Answers.{judgedAs}
+use Rattle.table.specs.declared.answer.Judged.{Judged}
+use Rattle.table.specs.declared.answer.Judged.the-variants.{Fine}
+use Rattle.table.specs.Answers.{judgedAs}
 use Rattle.pairs.specs.declared.PairsJudged.{PairsJudged}
 use Rattle.pairs.specs.Judgement.{JoinJudged}
 

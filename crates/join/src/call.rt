@@ -1,18 +1,20 @@
 // The call: a refusal before any step, the steps, and the product's space and the work space cleared.
 use crate::judge::judge_join;
 use join_steps::steps::join_steps;
-use memory::answer::Counts;
-use memory::answer::Judged;
-use memory::answer::TableAnswer;
-use memory::bytes::zero;
 use pairs::PairsJudged;
 use pairs::judge_join_pairs;
+use table::answer::Counts;
+use table::answer::Judged;
+use table::answer::TableAnswer;
+use table::bytes::zero;
+use table::layout::ARC_SIZE;
+use table::layout::STATE_SIZE;
 ghost use mathlib.Core.Path.{_≡_};
 ghost use mathlib.Core.List.{List};
 ghost use Rattle.automata.specs.TapePair.{TapePair};
 ghost use Rattle.automata.specs.Calls.Outcome.{spaceOf, put, madeOf, joinedOf, slicesOf};
 ghost use Rattle.automata.specs.Calls.Join.{joinAnswer, joinOutcome};
-ghost use Rattle.memory.specs.Answers.{lent, tableAs};
+ghost use Rattle.table.specs.Answers.{lent, tableAs};
 ghost use Rattle.pairs.specs.PairBytes.{pairsOf};
 ghost use Rattle.pairs.specs.Judgement.{JoinJudged};
 ghost use Rattle.join.specs.Judged.{Listed};
@@ -43,10 +45,10 @@ fn build(
         second_states,
         second_arcs,
         listed,
-        product_states.len() / 10,
-        product_arcs.len() / 80,
-        out_states.len() / 10,
-        out_arcs.len() / 80,
+        product_states.len() / STATE_SIZE,
+        product_arcs.len() / ARC_SIZE,
+        out_states.len() / STATE_SIZE,
+        out_arcs.len() / ARC_SIZE,
         work.len(),
     );
     match judged {

@@ -1,17 +1,17 @@
 // What is judged before any step of a join: the first table, the second, their width, the pairs with their limits, the
 // work space.
 use crate::room::work_enough;
-use memory::answer::Counts;
-use memory::answer::Judged;
-use memory::answer::Refusal;
-use memory::judge::judge;
 use pairs::PairsJudged;
+use table::answer::Counts;
+use table::answer::Judged;
+use table::answer::Refusal;
+use table::judge::judge;
 ghost use mathlib.Core.Path.{_≡_};
 ghost use Prim.Native.Nat.{_+_};
 ghost use lib.Dec.{leb};
 ghost use Rattle.automata.specs.Limits.{maxTapes};
-ghost use Rattle.memory.specs.Answers.{judgedAs, lent};
-ghost use Rattle.workspace.specs.Room.{lentSpace};
+ghost use Rattle.table.specs.Answers.{judgedAs, lent};
+ghost use Rattle.intersect_room.specs.Room.{lentSpace};
 ghost use Rattle.join.specs.Judged.{inTurn, PreparesFor};
 
 // Whether tables with n and m tapes have at most eight together.

@@ -1,5 +1,5 @@
 -- Laws of a join's steps.
-pub mod MaskLaws
-pub mod DropLaws
-pub mod KeepLaws
-pub mod StepLaws
+pub mod MaskFacts
+pub mod DropFacts
+pub mod KeepFacts
+pub mod StepFacts

@@ -9,10 +9,11 @@ use Rattle.automata.specs.Tapes.{seconds, placeAfter}
 use Rattle.automata.specs.Memory.{Memory, Sound}
 use Rattle.automata.specs.Join.{within}
 use Rattle.automata.specs.Calls.Work.{joinWork}
-use Rattle.memory.specs.declared.pair.PairList.{PairList}
-use Rattle.memory.specs.Pairs.{pairsAs, Named}
+use Rattle.automata.specs.Layout.{arcSize, stateSize}
+use Rattle.table.specs.declared.pair.PairList.{PairList}
+use Rattle.table.specs.Pairs.{pairsAs, Named}
 use Rattle.pairs.specs.Judgement.{Sided}
-use Rattle.workspace.specs.Room.{lentSpace}
+use Rattle.intersect_room.specs.Room.{lentSpace}
 use Rattle.intersect.specs.Step.{Intersectable}
 
 -- a table of which the second tapes of these pairs can be dropped: a tape is left
@@ -35,4 +36,4 @@ pub record Joinable (a b : Memory) (pairs : PairList) (forProductStates forProdu
   pub sided : Sided (a .tapes) (b .tapes) pairs
   pub inside : T (within (a .tapes) (b .tapes) (tapesOf (pairsAs pairs)))
   pub limits-fit : limitsFit (pairsAs pairs) ≡ true
-  pub work-fits : joinWork (lentSpace (forProductStates / 10) (forProductArcs / 80)) (lentSpace (forStates / 10) (forArcs / 80)) ≤ work
+  pub work-fits : joinWork (lentSpace (forProductStates / stateSize) (forProductArcs / arcSize)) (lentSpace (forStates / stateSize) (forArcs / arcSize)) ≤ work

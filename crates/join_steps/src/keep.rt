@@ -1,10 +1,10 @@
 // The steps of a join after its product: what agrees on pairs of the product's tapes, and the second tapes dropped.
 use crate::mask::second_tapes;
-use columns::drop::drop_in_place;
 use intersect::step::intersect_step;
-use memory::answer::Counts;
-use memory::answer::TableAnswer;
-use memory::pair::PairList;
+use table::answer::Counts;
+use table::answer::TableAnswer;
+use table::pair::PairList;
+use tapes::drop::drop_in_place;
 ghost use mathlib.Core.Path.{_≡_};
 ghost use lib.ListN.{length};
 ghost use Rattle.automata.specs.Answer.{ok};
@@ -12,8 +12,8 @@ ghost use Rattle.automata.specs.TapePair.{tapesOf};
 ghost use Rattle.automata.specs.Tapes.{seconds};
 ghost use Rattle.automata.specs.Calls.Outcome.{madeOf, slicesOf, andThen};
 ghost use Rattle.automata.specs.Calls.JoinSteps.{intersectStep, dropStep};
-ghost use Rattle.memory.specs.Answers.{lent, countsAs, tableAs};
-ghost use Rattle.memory.specs.Pairs.{pairsAs};
+ghost use Rattle.table.specs.Answers.{lent, countsAs, tableAs};
+ghost use Rattle.table.specs.Pairs.{pairsAs};
 ghost use Rattle.join_steps.specs.Steps.{SecondsDroppable, Keepable};
 
 // The table in `states` and `arcs` without the second tapes of the pairs, where it stands.

@@ -1,12 +1,12 @@
 // The second tapes of a list of pairs as a mask: bit k marks tape k + 1.
-use memory::pair::PairList;
+use table::pair::PairList;
 ghost use mathlib.Core.Path.{_≡_};
 ghost use Prim.Native.Nat.{_+_, _≤_, _<_};
 ghost use Rattle.automata.specs.Lists.{if};
 ghost use Rattle.automata.specs.TapePair.{tapesOf};
 ghost use Rattle.automata.specs.Tapes.{seconds};
 ghost use Rattle.automata.specs.Calls.Drop.{maskBits, maskOf};
-ghost use Rattle.memory.specs.Pairs.{pairsAs};
+ghost use Rattle.table.specs.Pairs.{pairsAs};
 
 // Whether the tape at a place is the second one of a pair.
 fn is_second(pairs: PairList, place: u8) -> bool

@@ -1,18 +1,18 @@
 // The steps of a join: the product, what agrees on the moved pairs, and the second tapes dropped. The first step that
 // refuses decides.
 use crate::keep::keep_firsts;
-use memory::answer::Counts;
-use memory::answer::TableAnswer;
-use memory::pair::PairList;
 use pairs::moved_pairs;
 use product::call::product_step;
+use table::answer::Counts;
+use table::answer::TableAnswer;
+use table::pair::PairList;
 ghost use mathlib.Core.Path.{_≡_};
 ghost use lib.ListN.{length};
 ghost use Rattle.automata.specs.Memory.{tableOf};
 ghost use Rattle.automata.specs.Calls.Outcome.{madeOf, slicesOf};
 ghost use Rattle.automata.specs.Calls.JoinSteps.{joinByCalls};
-ghost use Rattle.memory.specs.Answers.{lent, tableAs};
-ghost use Rattle.memory.specs.Pairs.{pairsAs};
+ghost use Rattle.table.specs.Answers.{lent, tableAs};
+ghost use Rattle.table.specs.Pairs.{pairsAs};
 ghost use Rattle.join_steps.specs.Steps.{Joinable};
 
 // All steps, the product into its space and the result into `out_states` and `out_arcs`.

@@ -32,8 +32,8 @@ use Rattle.automata.proofs.RecordFacts.{All-map}
 use Rattle.automata.proofs.AnswerFacts.{bind-pass, judge-pass}
 use Rattle.automata.proofs.AutomatonFacts.{initialOf-lt}
 use Rattle.automata.proofs.SequenceFacts.{first-reads, many-reads}
-use Rattle.automata.proofs.FormatLaws.{pair-lawful}
-use Rattle.automata.proofs.NumberLaws.{little-lawful}
+use Rattle.automata.proofs.FormatFacts.{pair-lawful}
+use Rattle.automata.proofs.NumberFacts.{little-lawful}
 use Rattle.automata.proofs.WellFormedFacts.{well-formed}
 use Rattle.automata.proofs.SoundFacts.{sound-decoded, sound-well-formed, sound-holds}
 use Rattle.laws.specs.LeastPath.{LeastPaths}

@@ -63,7 +63,7 @@ use Rattle.laws.specs.CallsRefused.{
   CallsRefused,
 }
 use Rattle.automata.proofs.AnswerFacts.{refused≢ok, then-refuses}
-use Rattle.automata.proofs.MemoryLaws.{decode-only}
+use Rattle.automata.proofs.MemoryFacts.{decode-only}
 use Rattle.laws.proofs.Lemmas.Judging.{bind-cases, then-on}
 use Rattle.laws.proofs.TableRefused.{read-refused, table-refused}
 use Rattle.laws.proofs.BuildRefused.{build-call-refused, forecast-refused}

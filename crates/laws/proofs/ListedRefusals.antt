@@ -19,6 +19,7 @@ use Rattle.automata.specs.TableText.{headerLine, stateLine, arcLine, isEmpty}
 use Rattle.automata.specs.Memory.{Memory, stateRecord, arcRecord, decodeTable}
 use Rattle.automata.specs.Calls.Outcome.{spaceOf}
 use Rattle.automata.specs.Calls.Lookup.{linesFrom, lines}
+use Rattle.automata.specs.Layout.{newline}
 use Rattle.laws.specs.TableRefused.{ReadRefused, read-header, read-states, read-arcs, read-state-line, read-arc-line, read-trailing}
 use Rattle.laws.specs.Refused.{
   BuildRefused,
@@ -187,7 +188,7 @@ write-listed _ (write-space _) = (omega arith, omega arith)
 -- the text of a tuple is refused by 1 only
 lines-listed : (s x : List ℕ) → Fine (linesFrom s x)
 lines-listed s [] = fine-check (isEmpty s) 1 [] (omega arith, omega arith)
-lines-listed s (b ∷ x) = go (eqb b 10) (lines-listed [] x) (lines-listed (s ++ (b ∷ [])) x)
+lines-listed s (b ∷ x) = go (eqb b newline) (lines-listed [] x) (lines-listed (s ++ (b ∷ [])) x)
   where
     go : (c : Bool) → Fine (linesFrom [] x) → Fine (linesFrom (s ++ (b ∷ [])) x)
         → Fine {A = Tuple} (elim c [ true ↦ linesFrom [] x >>= λ t. ok (s ∷ t) | false ↦ linesFrom (s ++ (b ∷ [])) x ])

@@ -37,7 +37,7 @@ use Rattle.laws.specs.TableRefused.{
 use borrow.Author.Tests.{leb-true, leb-false, le-leb, lt-leb}
 use Rattle.automata.proofs.TestFacts
 use Rattle.automata.proofs.AnswerFacts.{refused≢ok, then-refuses}
-use Rattle.automata.proofs.TableLaws.{countsFit→Counts, Counts→countsFit}
+use Rattle.automata.proofs.TableFacts.{countsFit→Counts, Counts→countsFit}
 use Rattle.laws.proofs.Lemmas.Judging.{bind-cases, then-on, require-cases, require-refuses, require-goes-on}
 
 -- ---- one line or record, and several

@@ -1,3 +1,3 @@
 -- Laws of a lookup as it is called.
-pub mod JudgeLaws
-pub mod CallLaws
+pub mod JudgeFacts
+pub mod CallFacts

@@ -2,7 +2,7 @@
 use mathlib.Core.Option.{Option, none, some}
 use Prim.Native.Nat.{ℕ}
 use Rattle.automata.specs.Answer.{_>>=_, Answer, ok, refused}
-use Rattle.memory.specs.Answers.{refusalNumber}
+use Rattle.table.specs.Answers.{refusalNumber}
 use Rattle.lookup.specs.declared.call.WeightAnswer.{WeightAnswer}
 use Rattle.lookup.specs.declared.call.WeightAnswer.the-variants.{Weight, Nothing, Refused}
 

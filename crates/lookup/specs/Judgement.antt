@@ -7,12 +7,12 @@ use Rattle.automata.specs.Answer.{_>>=_, Answer, ok}
 use Rattle.automata.specs.Automaton.{Automaton, Tuple}
 use Rattle.automata.specs.Memory.{Memory, Sound, decodeTable}
 use Rattle.automata.specs.Calls.Lookup.{lines}
-use Rattle.memory.specs.declared.answer.Judged.the-variants.{Fine}
-use Rattle.memory.specs.Answers.{judgedAs}
-use Rattle.tuple.specs.declared.Strings.{Strings}
-use Rattle.tuple.specs.declared.judge.TupleJudged.{TupleJudged}
-use Rattle.tuple.specs.Strings.{Stands}
-use Rattle.tuple.specs.Judgement.{tupleTests}
+use Rattle.table.specs.declared.answer.Judged.the-variants.{Fine}
+use Rattle.table.specs.Answers.{judgedAs}
+use Rattle.lookup_tuple.specs.declared.Strings.{Strings}
+use Rattle.lookup_tuple.specs.declared.judge.TupleJudged.{TupleJudged}
+use Rattle.lookup_tuple.specs.Strings.{Stands}
+use Rattle.lookup_tuple.specs.Judgement.{tupleTests}
 
 -- the first refusal of the table, the text and the tuple, else what is answered of a table and a tuple
 abbrev pub answerBy : {X : Type 0} → Memory → List ℕ → (Automaton ℕ → Tuple → Answer X) → Answer X

@@ -1,18 +1,18 @@
 // The call: the table, the tuple and the work space judged in this order, the least weight, and work space cleared.
 use crate::judge::cell_count;
 use crate::judge::judge_call;
-use cells::answer::Weight64;
-use cells::fill::least_weight;
-use memory::answer::Counts;
-use memory::answer::Judged;
-use memory::answer::Refusal;
-use memory::bytes::zero;
+use lookup_cells::answer::Weight64;
+use lookup_cells::fill::least_weight;
+use table::answer::Counts;
+use table::answer::Judged;
+use table::answer::Refusal;
+use table::bytes::zero;
 ghost use mathlib.Core.Path.{_≡_};
 ghost use Rattle.automata.specs.Answer.{ok};
 ghost use Rattle.automata.specs.Calls.Outcome.{foundOf};
 ghost use Rattle.automata.specs.Calls.Lookup.{lookupAnswer, lookupOutcome};
-ghost use Rattle.memory.specs.Answers.{judgedAs, lent};
-ghost use Rattle.cells.specs.Answers.{optionAs};
+ghost use Rattle.table.specs.Answers.{judgedAs, lent};
+ghost use Rattle.lookup_cells.specs.Answers.{optionAs};
 ghost use Rattle.lookup.specs.Answers.{weightAs, noneAfter};
 
 // The bytes of work space for each work cell.

@@ -1,16 +1,16 @@
 // The judgement of a call that reads a table and the text of a tuple, and how many work cells such a call has.
-use memory::answer::Counts;
-use memory::answer::Judged;
-use memory::judge::judge;
-use tuple::Strings;
-use tuple::judge::TupleJudged;
-use tuple::judge::judge_tuple;
-use tuple::judge::no_strings;
-use tuple::size::combinations;
+use lookup_tuple::Strings;
+use lookup_tuple::judge::TupleJudged;
+use lookup_tuple::judge::judge_tuple;
+use lookup_tuple::judge::no_strings;
+use lookup_tuple::size::combinations;
+use table::answer::Counts;
+use table::answer::Judged;
+use table::judge::judge;
 ghost use mathlib.Core.Path.{_≡_};
 ghost use Prim.Native.Nat.{_*_, _≤_};
-ghost use Rattle.memory.specs.Answers.{lent};
-ghost use Rattle.tuple.specs.Positions.{positions, ShortStrings};
+ghost use Rattle.table.specs.Answers.{lent};
+ghost use Rattle.lookup_tuple.specs.Positions.{positions, ShortStrings};
 ghost use Rattle.lookup.specs.Judgement.{JudgedCall};
 
 // The table, then the tuple.

@@ -1,6 +1,6 @@
 -- Laws that belong to no one function.
-pub mod ListLaws
-pub mod PairLaws
-pub mod TestLaws
-pub mod CallLaws
-pub mod TurnLaws
+pub mod ListFacts
+pub mod PairFacts
+pub mod TestFacts
+pub mod CallFacts
+pub mod TurnFacts

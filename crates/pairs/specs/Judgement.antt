@@ -8,11 +8,11 @@ use lib.Dec.{ltb}
 use Rattle.automata.specs.Lists.{if}
 use Rattle.automata.specs.Answer.{Answer}
 use Rattle.automata.specs.TapePair as automata
-use Rattle.memory.specs.declared.answer.Judged.the-variants.{Fine}
-use Rattle.memory.specs.declared.pair.Pair.{Pair}
-use Rattle.memory.specs.declared.pair.PairList.{PairList}
-use Rattle.memory.specs.Answers.{judgedAs}
-use Rattle.memory.specs.Pairs.{pairsAs, noPair, Named}
+use Rattle.table.specs.declared.answer.Judged.the-variants.{Fine}
+use Rattle.table.specs.declared.pair.Pair.{Pair}
+use Rattle.table.specs.declared.pair.PairList.{PairList}
+use Rattle.table.specs.Answers.{judgedAs}
+use Rattle.table.specs.Pairs.{pairsAs, noPair, Named}
 use Rattle.pairs.specs.declared.PairsJudged.{PairsJudged}
 use Rattle.pairs.specs.PairTests.{tests, pairsAnswer, joinPairsAnswer, tapesAnswer}
 

@@ -4,7 +4,7 @@ use Prim.Native.Nat.{ℕ, _+_}
 use mathlib.Core.List.{List, [], _∷_}
 use lib.ListN.{getD}
 use Rattle.automata.specs.TapePair.{TapePair}
-use Rattle.memory.specs.declared.pair.Pair as memory
+use Rattle.table.specs.declared.pair.Pair as memory
 
 -- the bytes of a pair
 abbrev pub pairSize : ℕ

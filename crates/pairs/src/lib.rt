@@ -1,12 +1,12 @@
 // Lists of pairs of tapes as they are lent, three bytes a pair: judged over the whole list, and read into an array of
 // four by value.
-use memory::answer::Judged;
-use memory::answer::Refusal;
-use memory::bytes::copy_into;
-use memory::pair::MAX_LIMIT;
-use memory::pair::PAIR;
-use memory::pair::Pair;
-use memory::pair::PairList;
+use table::answer::Judged;
+use table::answer::Refusal;
+use table::bytes::copy_into;
+use table::pair::MAX_LIMIT;
+use table::pair::PAIR;
+use table::pair::Pair;
+use table::pair::PairList;
 ghost use mathlib.Core.Path.{_≡_};
 ghost use mathlib.Core.Bool.{true};
 ghost use mathlib.Core.List.{map};
@@ -19,9 +19,9 @@ ghost use Rattle.automata.specs.TapePair.{tapesOf, limitsFit};
 ghost use Rattle.automata.specs.IntersectCall.{distinct, named};
 ghost use Rattle.automata.specs.Projection.{isTape};
 ghost use Rattle.automata.specs.Join.{within, separate};
-ghost use Rattle.memory.specs.declared.answer.Judged.the-variants as judged;
-ghost use Rattle.memory.specs.Answers.{judgedAs};
-ghost use Rattle.memory.specs.Pairs.{pairsAs};
+ghost use Rattle.table.specs.declared.answer.Judged.the-variants as judged;
+ghost use Rattle.table.specs.Answers.{judgedAs};
+ghost use Rattle.table.specs.Pairs.{pairsAs};
 ghost use Rattle.pairs.specs.PairTests.{inTurn};
 ghost use Rattle.pairs.specs.PairBytes.{pairSize, pairsOf, pairAt};
 ghost use Rattle.pairs.specs.Judgement.{Settled, KeepJudged, JoinJudged, TapesJudged, Movable, Moved, movedAt};

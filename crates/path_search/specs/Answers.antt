@@ -3,7 +3,7 @@ use mathlib.Core.Option.{Option, none, some}
 use Prim.Native.Nat.{ℕ}
 use Rattle.automata.specs.Answer.{Answer, ok, refused}
 use Rattle.automata.specs.Calls.LeastPath.{Told}
-use Rattle.memory.specs.Answers.{refusalNumber}
+use Rattle.table.specs.Answers.{refusalNumber}
 use Rattle.path_search.specs.declared.answer.PathTold.{PathTold}
 use Rattle.path_search.specs.declared.answer.PathAnswer.{PathAnswer}
 use Rattle.path_search.specs.declared.answer.PathAnswer.the-variants.{Path, Nothing, Refused}

@@ -3,3 +3,6 @@ pub mod Answers
 pub mod Searchable
 pub mod Trail
 pub mod Traced
+pub mod Search
+pub mod FirstPath
+pub mod Tight

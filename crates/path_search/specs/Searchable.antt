@@ -3,12 +3,12 @@ use mathlib.Core.Path.{_≡_}
 use mathlib.Core.List.{List}
 use Prim.Native.Nat.{ℕ, _*_, _≤_, _<_}
 use lib.ListN.{length, getD}
-use Rattle.memory.specs.declared.answer.Counts.{Counts}
-use Rattle.tuple.specs.declared.Strings.{Strings}
-use Rattle.cell_moves.specs.declared.spot.Spans.{Spans}
-use Rattle.cell_moves.specs.Distances.{far, cellsOf}
-use Rattle.cell_moves.specs.Spots.{spotOf, Placed, Positive}
-use Rattle.distances.specs.Pushes.{Ready}
+use Rattle.table.specs.declared.answer.Counts.{Counts}
+use Rattle.lookup_tuple.specs.declared.Strings.{Strings}
+use Rattle.lookup_moves.specs.declared.spot.Spans.{Spans}
+use Rattle.lookup_moves.specs.Distances.{far, cellsOf}
+use Rattle.lookup_moves.specs.Spots.{spotOf, Placed, Positive}
+use Rattle.lookup_cells.specs.Pushes.{Ready}
 
 -- eight numbers of combinations, none too large
 pub record Spannable (spans : Spans) : Type 0 where

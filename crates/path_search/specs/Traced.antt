@@ -7,10 +7,10 @@ use Rattle.automata.specs.Automaton.{Tuple}
 use Rattle.automata.specs.Memory.{Memory, Sound}
 use Rattle.automata.specs.LeastPath.{Account}
 use Rattle.automata.specs.Calls.Work.{pathWork}
-use Rattle.memory.specs.declared.answer.Counts.{Counts}
-use Rattle.tuple.specs.declared.Strings.{Strings}
-use Rattle.tuple.specs.Strings.{Stands}
-use Rattle.cell_moves.specs.declared.spot.Spans.{Spans}
+use Rattle.table.specs.declared.answer.Counts.{Counts}
+use Rattle.lookup_tuple.specs.declared.Strings.{Strings}
+use Rattle.lookup_tuple.specs.Strings.{Stands}
+use Rattle.lookup_moves.specs.declared.spot.Spans.{Spans}
 use Rattle.path_search.specs.Trail.{countBack, runBack}
 
 -- the bytes hold a table, a tuple with a string for each of its tapes stands in the text, and the work space of so many

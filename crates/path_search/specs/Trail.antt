@@ -6,12 +6,13 @@ use Prim.Native.Nat.{ℕ, zero, suc, _+_, _*_, _%_, _≤_, _<_}
 use lib.Dec.{eqb}
 use lib.ListN.{length}
 use Rattle.automata.specs.Lists.{if}
-use Rattle.memory.specs.declared.answer.Counts.{Counts}
-use Rattle.cell_moves.specs.declared.spot.Spans.{Spans}
-use Rattle.cell_moves.specs.Moves.{Labelled}
-use Rattle.breadth_first.specs.Search.{noArc, markAt}
-use Rattle.distances.specs.Pushes.{sourceOf}
-use Rattle.tight_paths.specs.Tight.{shiftOf, cellBefore}
+use Rattle.automata.specs.Layout.{arcSize, labelsPlace}
+use Rattle.table.specs.declared.answer.Counts.{Counts}
+use Rattle.lookup_moves.specs.declared.spot.Spans.{Spans}
+use Rattle.lookup_moves.specs.Moves.{Labelled}
+use Rattle.path_search.specs.Search.{noArc, markAt}
+use Rattle.lookup_cells.specs.Pushes.{sourceOf}
+use Rattle.path_search.specs.Tight.{shiftOf, cellBefore}
 use Rattle.path_search.specs.Searchable.{Spannable}
 
 -- the arcs of a table, labelled, each with one of its states as source, and numbers of combinations
@@ -20,8 +21,8 @@ pub record Retraceable (c : Counts) (arcs : List ℕ) (spans : Spans) : Type 0 w
   pub some-combination : 0 < spans .all
   pub few-tapes : c .tapes ≤ 8
   pub few-arcs : c .arcs ≤ 8192
-  pub lent : 80 * c .arcs ≤ length arcs
-  pub labelled : (e : ℕ) → e < c .arcs → Labelled arcs (80 * e + 8)
+  pub lent : arcSize * c .arcs ≤ length arcs
+  pub labelled : (e : ℕ) → e < c .arcs → Labelled arcs (arcSize * e + labelsPlace)
   pub source : (e : ℕ) → e < c .arcs → sourceOf arcs e < c .states
   pub fits : c .states * spans .all < 18446744073709551616
 

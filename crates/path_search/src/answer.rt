@@ -1,5 +1,5 @@
 // What the search for the path behind a weight answers.
-use memory::answer::Refusal;
+use table::answer::Refusal;
 
 // The weight, the starting state of the path and its number of arcs.
 pub struct PathTold {

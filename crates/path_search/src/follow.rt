@@ -3,18 +3,18 @@ use crate::answer::Reached;
 use crate::enter::enter_cell;
 use crate::tight::shift_of;
 use crate::tight::tight_to;
-use cell_moves::spot::Spans;
-use memory::answer::Counts;
-use tuple::Strings;
+use lookup_moves::spot::Spans;
+use lookup_tuple::Strings;
+use table::answer::Counts;
 ghost use mathlib.Core.Path.{_≡_};
 ghost use Prim.Native.Nat.{_*_, _/_, _<_};
 ghost use lib.ListN.{length};
-ghost use Rattle.adjacency.specs.Chains.{Chained};
-ghost use Rattle.cell_moves.specs.Distances.{cellsOf};
-ghost use Rattle.breadth_first.specs.Search.{searchOf, follow, followArcs};
-ghost use Rattle.breadth_first.specs.FirstPath.{Kept};
-ghost use Rattle.distances.specs.Pushes.{sourceOf};
-ghost use Rattle.tight_paths.specs.Tight.{nextCell};
+ghost use Rattle.table_adjacency.specs.Chains.{Chained};
+ghost use Rattle.lookup_moves.specs.Distances.{cellsOf};
+ghost use Rattle.path_search.specs.Search.{searchOf, follow, followArcs};
+ghost use Rattle.path_search.specs.FirstPath.{Kept};
+ghost use Rattle.lookup_cells.specs.Pushes.{sourceOf};
+ghost use Rattle.path_search.specs.Tight.{nextCell};
 ghost use Rattle.path_search.specs.Searchable.{Searchable, Weights};
 
 // Arc e from a cell of its source. Tells how many cells are found.

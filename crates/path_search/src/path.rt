@@ -8,15 +8,15 @@ use crate::search::enter_starts;
 use crate::search::search;
 use crate::trail::count_arcs;
 use crate::trail::write_arcs;
-use adjacency::chain_arcs;
-use cell_moves::spot::Spans;
-use cell_moves::spot::spans_of;
-use cells::answer::Weight64;
-use cells::ends::least_from;
-use cells::fill::fill_cells;
-use memory::answer::Counts;
-use memory::answer::Refusal;
-use tuple::Strings;
+use lookup_cells::answer::Weight64;
+use lookup_cells::ends::least_from;
+use lookup_cells::fill::fill_cells;
+use lookup_moves::spot::Spans;
+use lookup_moves::spot::spans_of;
+use lookup_tuple::Strings;
+use table::answer::Counts;
+use table::answer::Refusal;
+use table_adjacency::chain_arcs;
 ghost use mathlib.Core.Path.{_≡_};
 ghost use mathlib.Core.Option.{some};
 ghost use Prim.Native.Nat.{_*_, _≤_, _<_};
@@ -27,13 +27,14 @@ ghost use Rattle.automata.specs.LeastPath.{leastPath};
 ghost use Rattle.automata.specs.LeastPathCall.{listed};
 ghost use Rattle.automata.specs.Memory.{tableOf};
 ghost use Rattle.automata.specs.Calls.LeastPath.{placesIn, toldAnswer, pathIn};
-ghost use Rattle.adjacency.specs.Chains.{Chainable};
-ghost use Rattle.memory.specs.Answers.{lent};
-ghost use Rattle.tuple.specs.Strings.{Stands};
-ghost use Rattle.cell_moves.specs.Distances.{cellsOf};
-ghost use Rattle.breadth_first.specs.Search.{searchOf, enterStarts, searchFrom};
-ghost use Rattle.breadth_first.specs.FirstPath.{Kept};
-ghost use Rattle.tight_paths.specs.Tight.{nextCell, startCell, endCell};
+ghost use Rattle.automata.specs.Layout.{stateSize};
+ghost use Rattle.table_adjacency.specs.Chains.{Chainable};
+ghost use Rattle.table.specs.Answers.{lent};
+ghost use Rattle.lookup_tuple.specs.Strings.{Stands};
+ghost use Rattle.lookup_moves.specs.Distances.{cellsOf};
+ghost use Rattle.path_search.specs.Search.{searchOf, enterStarts, searchFrom};
+ghost use Rattle.path_search.specs.FirstPath.{Kept};
+ghost use Rattle.path_search.specs.Tight.{nextCell, startCell, endCell};
 ghost use Rattle.path_search.specs.Answers.{reachedAs, pathAs};
 ghost use Rattle.path_search.specs.Searchable.{Searchable, Weights};
 ghost use Rattle.path_search.specs.Trail.{Retraceable, countBack, CanCount, CanWalk};
@@ -50,7 +51,7 @@ fn search_cells(
     least: u64,
     work: &mut [u8],
 ) -> Searched
-    requires { ⌜ (10 * counts .states ≤ length (now states)) × Searchable counts (now arcs) (now text) strings spans × Chainable (counts .states) (counts .arcs) (now arcs) 1024 8192 × Weights (counts .states * spans .all) (now work) × Kept (counts .states * spans .all) (searchOf (cellsOf (now work)) 0) ⌝ }
+    requires { ⌜ (stateSize * counts .states ≤ length (now states)) × Searchable counts (now arcs) (now text) strings spans × Chainable (counts .states) (counts .arcs) (now arcs) 1024 8192 × Weights (counts .states * spans .all) (now work) × Kept (counts .states * spans .all) (searchOf (cellsOf (now work)) 0) ⌝ }
     ensures { λ r. ⌜ ((reachedAs (r .end), searchOf (cellsOf (now (work .exit))) (r .found)) ≡ searchFrom (counts .states * spans .all) (nextCell counts (now (arcs .entry)) (now (text .entry)) strings spans (cellsOf (now (work .entry)))) (counts .arcs) (endCell (now (states .entry)) (spans .all) (cellsOf (now (work .entry)))) (counts .states * spans .all) 0 (enterStarts (counts .states * spans .all) (startCell (counts .states) (now (states .entry)) (spans .all) (cellsOf (now (work .entry))) least) (counts .states) 0 (searchOf (cellsOf (now (work .entry))) 0))) × (length (now (work .exit)) ≡ length (now (work .entry))) ⌝ }
 {
     let mut first = [0u16; 1024];

@@ -5,24 +5,26 @@ use crate::answer::Searched;
 use crate::enter::NO_ARC;
 use crate::enter::enter_cell;
 use crate::follow::follow_arcs;
-use cell_moves::cell::cell_number;
-use cell_moves::cell::weight_at;
-use cell_moves::spot::Spans;
-use cells::ends::from_state;
-use memory::answer::Counts;
-use memory::record::Weight;
-use memory::record::load_state;
-use tuple::Strings;
+use lookup_cells::ends::from_state;
+use lookup_moves::cell::cell_number;
+use lookup_moves::cell::weight_at;
+use lookup_moves::spot::Spans;
+use lookup_tuple::Strings;
+use table::answer::Counts;
+use table::layout::STATE_SIZE;
+use table::record::Weight;
+use table::record::load_state;
 ghost use mathlib.Core.Path.{_≡_};
 ghost use Prim.Native.Nat.{_+_, _*_, _/_, _≤_, _<_};
 ghost use lib.ListN.{length};
-ghost use Rattle.adjacency.specs.Chains.{Chained};
-ghost use Rattle.cell_moves.specs.Distances.{cellsOf};
-ghost use Rattle.breadth_first.specs.Search.{noArc, searchOf, entered, enterStarts, searchFrom};
-ghost use Rattle.breadth_first.specs.FirstPath.{Kept};
-ghost use Rattle.tight_paths.specs.Tight.{nextCell, startCell, endCell};
+ghost use Rattle.table_adjacency.specs.Chains.{Chained};
+ghost use Rattle.lookup_moves.specs.Distances.{cellsOf};
+ghost use Rattle.path_search.specs.Search.{noArc, searchOf, entered, enterStarts, searchFrom};
+ghost use Rattle.path_search.specs.FirstPath.{Kept};
+ghost use Rattle.path_search.specs.Tight.{nextCell, startCell, endCell};
 ghost use Rattle.path_search.specs.Answers.{reachedAs};
 ghost use Rattle.path_search.specs.Searchable.{Searchable, Weights};
+ghost use Rattle.automata.specs.Layout.{stateSize};
 
 // The cell of state q at the first combination, where a least path starts there. Tells how many cells are found.
 fn enter_start(
@@ -34,7 +36,7 @@ fn enter_start(
     found: usize,
     work: &mut [u8],
 ) -> usize
-    requires { ⌜ (10 * count ≤ length (now states)) × (q < count) × (0 < all) × Weights (count * all) (now work) × Kept (count * all) (searchOf (cellsOf (now work)) found) ⌝ }
+    requires { ⌜ (stateSize * count ≤ length (now states)) × (q < count) × (0 < all) × Weights (count * all) (now work) × Kept (count * all) (searchOf (cellsOf (now work)) found) ⌝ }
     ensures { λ r. ⌜ (searchOf (cellsOf (now (work .exit))) r ≡ entered (count * all) noArc (startCell count (now (states .entry)) all (cellsOf (now (work .entry))) least q) (searchOf (cellsOf (now (work .entry))) found)) × (length (now (work .exit)) ≡ length (now (work .entry))) ⌝ }
 {
     if from_state(states, q, all, work) != least {
@@ -46,7 +48,7 @@ fn enter_start(
 
 // Those of so many states.
 pub fn enter_starts(states: &[u8], count: usize, all: usize, least: u64, work: &mut [u8]) -> usize
-    requires { ⌜ (10 * count ≤ length (now states)) × (0 < all) × Weights (count * all) (now work) × Kept (count * all) (searchOf (cellsOf (now work)) 0) ⌝ }
+    requires { ⌜ (stateSize * count ≤ length (now states)) × (0 < all) × Weights (count * all) (now work) × Kept (count * all) (searchOf (cellsOf (now work)) 0) ⌝ }
     ensures { λ r. ⌜ (searchOf (cellsOf (now (work .exit))) r ≡ enterStarts (count * all) (startCell count (now (states .entry)) all (cellsOf (now (work .entry))) least) count 0 (searchOf (cellsOf (now (work .entry))) 0)) × (length (now (work .exit)) ≡ length (now (work .entry))) ⌝ }
 {
     let mut found: usize = 0;
@@ -60,10 +62,10 @@ pub fn enter_starts(states: &[u8], count: usize, all: usize, least: u64, work: &
 
 // Whether a least path ends at a cell.
 fn is_end(states: &[u8], all: usize, here: usize, work: &[u8]) -> bool
-    requires { ⌜ (0 < all) × (10 * (here / all) + 10 ≤ length (now states)) × (8 * here + 8 ≤ length (now work)) ⌝ }
+    requires { ⌜ (0 < all) × (stateSize * (here / all) + stateSize ≤ length (now states)) × (8 * here + 8 ≤ length (now work)) ⌝ }
     ensures { λ r. ⌜ r ≡ endCell (now (states .entry)) all (cellsOf (now (work .entry))) here ⌝ }
 {
-    let state = load_state(states, 10 * (here / all));
+    let state = load_state(states, STATE_SIZE * (here / all));
     let last = state.last;
     let Weight::Present(w) = last else {
         return false;
@@ -87,7 +89,7 @@ pub fn search(
     found: usize,
     work: &mut [u8],
 ) -> Searched
-    requires { ⌜ (10 * counts .states ≤ length (now states)) × Searchable counts (now arcs) (now text) strings spans × Weights (counts .states * spans .all) (now work) × Kept (counts .states * spans .all) (searchOf (cellsOf (now work)) found) × Chained (counts .states) (counts .arcs) (now arcs) (now first) (now next) ⌝ }
+    requires { ⌜ (stateSize * counts .states ≤ length (now states)) × Searchable counts (now arcs) (now text) strings spans × Weights (counts .states * spans .all) (now work) × Kept (counts .states * spans .all) (searchOf (cellsOf (now work)) found) × Chained (counts .states) (counts .arcs) (now arcs) (now first) (now next) ⌝ }
     ensures { λ r. ⌜ ((reachedAs (r .end), searchOf (cellsOf (now (work .exit))) (r .found)) ≡ searchFrom (counts .states * spans .all) (nextCell counts (now (arcs .entry)) (now (text .entry)) strings spans (cellsOf (now (work .entry)))) (counts .arcs) (endCell (now (states .entry)) (spans .all) (cellsOf (now (work .entry)))) (counts .states * spans .all) 0 (searchOf (cellsOf (now (work .entry))) found)) × (length (now (work .exit)) ≡ length (now (work .entry))) ⌝ }
 {
     let cells = counts.states * spans.all;

@@ -1,38 +1,42 @@
 // Tight arcs: where an arc leads from a cell such that its weight and the least weight there make the least weight
 // here.
 use crate::answer::Reached;
-use cell_moves::cell::cell_number;
-use cell_moves::cell::weight_at;
-use cell_moves::moves::Step;
-use cell_moves::moves::moved_back;
-use cell_moves::spot::Spans;
-use cell_moves::spot::spot_at;
-use memory::answer::Counts;
-use memory::bytes::get16;
-use memory::bytes::get32;
-use tuple::Strings;
+use lookup_moves::cell::cell_number;
+use lookup_moves::cell::weight_at;
+use lookup_moves::moves::Step;
+use lookup_moves::moves::moved_back;
+use lookup_moves::spot::Spans;
+use lookup_moves::spot::spot_at;
+use lookup_tuple::Strings;
+use table::answer::Counts;
+use table::bytes::get16;
+use table::bytes::get32;
+use table::layout::ARC_SIZE;
+use table::layout::LABEL_SIZE;
+use table::layout::LABELS_PLACE;
 ghost use mathlib.Core.Path.{_≡_};
 ghost use Prim.Native.Nat.{_+_, _*_, _≤_, _<_};
-ghost use Rattle.cell_moves.specs.Distances.{cellsOf};
-ghost use Rattle.cell_moves.specs.Moves.{Labelled};
-ghost use Rattle.distances.specs.Pushes.{backBy};
-ghost use Rattle.cell_moves.specs.Spots.{spotOf};
-ghost use Rattle.tight_paths.specs.Tight.{shiftOf, endThere, tightTo};
+ghost use Rattle.lookup_moves.specs.Distances.{cellsOf};
+ghost use Rattle.lookup_moves.specs.Moves.{Labelled};
+ghost use Rattle.lookup_cells.specs.Pushes.{backBy};
+ghost use Rattle.lookup_moves.specs.Spots.{spotOf};
+ghost use Rattle.path_search.specs.Tight.{shiftOf, endThere, tightTo};
 ghost use Rattle.path_search.specs.Answers.{reachedAs};
 ghost use Rattle.path_search.specs.Searchable.{Searchable, Weights, Spannable};
+ghost use Rattle.automata.specs.Layout.{arcSize, labelsPlace};
 
 // By how much the labels of arc e move the number of a combination, with so many combinations behind each string.
 pub fn shift_of(counts: Counts, arcs: &[u8], e: usize, spans: Spans) -> usize
-    requires { ⌜ Labelled (now arcs) (80 * e + 8) × (counts .tapes ≤ 8) × Spannable spans ⌝ }
+    requires { ⌜ Labelled (now arcs) (arcSize * e + labelsPlace) × (counts .tapes ≤ 8) × Spannable spans ⌝ }
     ensures { λ r. ⌜ r ≡ shiftOf counts (now (arcs .entry)) (spans .spans) e ⌝ }
 {
     let behind = spans.spans;
     let mut shift: usize = 0;
-    let mut at = 80 * e + 8;
+    let mut at = ARC_SIZE * e + LABELS_PLACE;
     let mut h: usize = 0;
     while h < counts.tapes {
         shift += arcs[at] as usize * behind[h];
-        at += 9;
+        at += LABEL_SIZE;
         h += 1;
     }
     shift
@@ -57,7 +61,7 @@ fn ends_at(
     let behind = spot.spans;
     let step = moved_back(
         arcs,
-        80 * e + 8,
+        ARC_SIZE * e + LABELS_PLACE,
         counts.tapes,
         text,
         &starts,
@@ -88,7 +92,7 @@ pub fn tight_to(
     if spans.all <= to {
         return Reached::Nowhere;
     }
-    let at = 80 * e;
+    let at = ARC_SIZE * e;
     let there = cell_number(get16(arcs, at + 2) as usize, spans.all, to);
     if get32(arcs, at + 4) as u64 + weight_at(work, there) != weight_at(work, here) {
         return Reached::Nowhere;

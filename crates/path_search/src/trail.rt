@@ -2,19 +2,20 @@
 // to write their numbers.
 use crate::enter::NO_ARC;
 use crate::tight::shift_of;
-use cell_moves::cell::weight_at;
-use cell_moves::spot::Spans;
-use memory::answer::Counts;
-use memory::bytes::get16;
-use memory::bytes::put16;
+use lookup_moves::cell::weight_at;
+use lookup_moves::spot::Spans;
+use table::answer::Counts;
+use table::bytes::get16;
+use table::bytes::put16;
+use table::layout::ARC_SIZE;
 ghost use mathlib.Core.Path.{_≡_};
 ghost use mathlib.Core.List.{[]};
 ghost use Prim.Native.Nat.{_*_, _≤_};
 ghost use lib.ListN.{length};
 ghost use Rattle.automata.specs.Calls.LeastPath.{entries};
 ghost use Rattle.automata.specs.Calls.Outcome.{overwrite};
-ghost use Rattle.cell_moves.specs.Distances.{cellsOf};
-ghost use Rattle.tight_paths.specs.Tight.{cellBefore};
+ghost use Rattle.lookup_moves.specs.Distances.{cellsOf};
+ghost use Rattle.path_search.specs.Tight.{cellBefore};
 ghost use Rattle.path_search.specs.Trail.{Retraceable, Behind, countBack, runBack, CanCount, CanWalk};
 
 // The cell from which arc e leads to another.
@@ -22,7 +23,7 @@ fn cell_before(counts: Counts, arcs: &[u8], e: usize, spans: Spans, there: usize
     requires { ⌜ Retraceable counts (now arcs) spans × Behind counts (now arcs) spans e there ⌝ }
     ensures { λ r. ⌜ r ≡ cellBefore counts (now (arcs .entry)) spans e there ⌝ }
 {
-    let source = get16(arcs, 80 * e) as usize;
+    let source = get16(arcs, ARC_SIZE * e) as usize;
     source * spans.all + (there % spans.all - shift_of(counts, arcs, e, spans))
 }
 

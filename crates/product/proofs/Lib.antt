@@ -1,6 +1,6 @@
 -- Laws of the aligned product as it is called.
 pub mod SideModel
 pub mod MoveModel
-pub mod CrossLaws
-pub mod SettleLaws
-pub mod CallLaws
+pub mod CrossFacts
+pub mod SettleFacts
+pub mod CallFacts

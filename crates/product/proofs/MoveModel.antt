@@ -22,21 +22,22 @@ use Rattle.automata.proofs.ListFacts.{place-bound, place-default, map-place}
 use Rattle.automata.proofs.RecordFacts.{writeAll-append}
 use Rattle.automata.proofs.WellFormedFacts.{all-place}
 use Rattle.automata.proofs.SoundFacts.{sound-holds}
-use Rattle.memory.specs.Region.{part}
-use Rattle.memory.specs.Endian.{le, toLe}
-use Rattle.memory.specs.Records.{optionOf, stateAs, stateBytes}
-use Rattle.memory.specs.declared.record.Weight.{Weight}
-use Rattle.memory.specs.declared.record.Weight.the-variants.{Absent, Present}
-use Rattle.memory.specs.declared.record.State.{State}
-use Rattle.memory.proofs.Laws.{part-part}
-use Rattle.memory.proofs.EndianLaws.{le-toLe}
-use Rattle.chains.specs.Chain.{fronts}
-use Rattle.chains.proofs.Meaning.{code-at}
-use Rattle.memory.proofs.EncodedLaws.{state-encoded}
-use Rattle.alignment.specs.declared.vertex.Vertex.{Vertex}
-use Rattle.alignment.specs.declared.vertex.Move.{Move}
-use Rattle.alignment.specs.Vertices.{placeNumber, vertexOf, vertexBytes, vertexAt, rowOf, HoldsVertices, VertexBelow}
-use Rattle.alignment.specs.Moves.{moveAt, Carries, by-both, by-second, by-first, RecordOf}
+use Rattle.automata.specs.Layout.{stepSize, vertexSize, labelSize, labelsSize}
+use Rattle.table.specs.Region.{part}
+use Rattle.table.specs.Endian.{le, toLe}
+use Rattle.table.specs.Records.{optionOf, stateAs, stateBytes}
+use Rattle.table.specs.declared.record.Weight.{Weight}
+use Rattle.table.specs.declared.record.Weight.the-variants.{Absent, Present}
+use Rattle.table.specs.declared.record.State.{State}
+use Rattle.table.proofs.RegionFacts.{part-part}
+use Rattle.table.proofs.EndianFacts.{le-toLe}
+use Rattle.search_chains.specs.Chain.{fronts}
+use Rattle.search_chains.proofs.Meaning.{code-at}
+use Rattle.table.proofs.EncodedFacts.{state-encoded}
+use Rattle.product_search.specs.declared.vertex.Vertex.{Vertex}
+use Rattle.product_search.specs.declared.vertex.Move.{Move}
+use Rattle.product_search.specs.Vertices.{placeNumber, vertexOf, vertexBytes, vertexAt, rowOf, HoldsVertices, VertexBelow}
+use Rattle.product_search.specs.Moves.{moveAt, Carries, by-both, by-second, by-first, RecordOf}
 use Rattle.product_records.specs.Sums.{placeState, plus, plusState, vertexSum, stateFits, sideSum, moveSum, sideLabels, moveFront, moveLabels, moveRecord, verticesAt, movesAt, VertexFits, MoveFits}
 use Rattle.product_records.specs.Results.{statesFit, stateRecords, Vertices, movesFit, moveRecords, Moves}
 use Rattle.product.proofs.SideModel.{SideOf, place-model, place-fits, place-number, side-follows, side-stays}
@@ -103,12 +104,12 @@ module _ (a b : Memory) (sa : Sound a) (sb : Sound b) where
         λ i. record { first = r .0 i; second = r .1 i }
 
     -- the rows are those of the states
-    pub vertices-held : (at : ℕ) (cs : List product.Vertex) → All Below cs → fronts at 16 4 (length cs) w ≡ map rowOf cs → verticesAt at (length cs) w ≡ map vertexOf cs
+    pub vertices-held : (at : ℕ) (cs : List product.Vertex) → All Below cs → fronts at vertexSize 4 (length cs) w ≡ map rowOf cs → verticesAt at (length cs) w ≡ map vertexOf cs
     unfolding verticesAt fronts
     vertices-held at [] h e = refl
     vertices-held at (c ∷ cs) h e =
         ap₂ (λ (v : Vertex) (vs : List Vertex). v ∷ vs) (row-vertex at c (h .0) (ap (λ (rs : List (List ℕ)). getD rs 0 []) e))
-        (vertices-held (at + 16) cs (h .1) (ap (λ (rs : List (List ℕ)). drop 1 rs) e))
+        (vertices-held (at + stepSize) cs (h .1) (ap (λ (rs : List (List ℕ)). drop 1 rs) e))
 
   -- the places of the states are within the bytes
   pub vertices-fit : (cs : List product.Vertex) → All Below cs → Vertices (a .stateBytes) (b .stateBytes) (map vertexOf cs)
@@ -179,17 +180,17 @@ module _ (a b : Memory) (sa : Sound a) (sb : Sound b) where
   }
 
   -- ---- a move as an arc, between states cs that stand in w
-  module _ (few : A .tapes + B .tapes ≤ 8) (w : List ℕ) (cs : List product.Vertex) (bound : All Below cs) (long : 16 * length cs ≤ length w) (held : HoldsVertices cs w) where
+  module _ (few : A .tapes + B .tapes ≤ 8) (w : List ℕ) (cs : List product.Vertex) (bound : All Below cs) (long : vertexSize * length cs ≤ length w) (held : HoldsVertices cs w) where
     -- the row of a state
     row-of : (q : ℕ) (c : product.Vertex) → getElem? cs q ≡ some c
-        → (le (part (16 * q) 2 w) ≡ placeNumber (c .0)) × (le (part (16 * q + 2) 2 w) ≡ placeNumber (c .1))
+        → (le (part (vertexSize * q) 2 w) ≡ placeNumber (c .0)) × (le (part (vertexSize * q + 2) 2 w) ≡ placeNumber (c .1))
     unfolding vertexBytes
     row-of q c at =
         let l = place-bound cs q at in
         let h = all-place Below cs bound q c at in
-        let z : q * 16 ≡ 16 * q = omega arith in
-        let e : part (16 * q) 4 w ≡ rowOf c = ap (λ (k : ℕ). part k 4 w) (sym z) ∙ code-at rowOf 16 4 cs w q c held at in
-        row-read (16 * q) w (placeNumber (c .0)) (placeNumber (c .1)) (place-number a sa (c .0) (h .0)) (place-number b sb (c .1) (h .1)) e
+        let z : q * vertexSize ≡ vertexSize * q = omega arith in
+        let e : part (vertexSize * q) 4 w ≡ rowOf c = ap (λ (k : ℕ). part k 4 w) (sym z) ∙ code-at rowOf vertexSize 4 cs w q c held at in
+        row-read (vertexSize * q) w (placeNumber (c .0)) (placeNumber (c .1)) (place-number a sa (c .0) (h .0)) (place-number b sb (c .1) (h .1)) e
 
     -- what is needed of a move: it is within the bytes, and its weight and its record are those of the arc
     record ArcOf (k : ℕ) (x : Edge (Content ℕ)) (m : Move) : Type 0 where
@@ -200,16 +201,16 @@ module _ (a b : Memory) (sa : Sound a) (sb : Sound b) where
 
     -- the labels of both sides
     labels-written : (i j p q : ℕ) (s : Content ℕ) (d : Sides i j p q s)
-        → sideLabels (a .arcBytes) (a .tapes) i ++ (sideLabels (b .arcBytes) (b .tapes) j ++ zeros (72 - 9 * a .tapes - 9 * b .tapes))
-        ≡ writeAll (labelRecord .write) (s .labels) ++ zeros ((8 - (A .tapes + B .tapes)) * 9)
+        → sideLabels (a .arcBytes) (a .tapes) i ++ (sideLabels (b .arcBytes) (b .tapes) j ++ zeros (labelsSize - labelSize * a .tapes - labelSize * b .tapes))
+        ≡ writeAll (labelRecord .write) (s .labels) ++ zeros ((8 - (A .tapes + B .tapes)) * labelSize)
     labels-written i j p q s d =
         let f = labelRecord .write in
         let x = writeAll f (d .first-labels) in
         let y = writeAll f (d .second-labels) in
-        let z : 72 - 9 * a .tapes - 9 * b .tapes ≡ (8 - (A .tapes + B .tapes)) * 9 = omega (arith, few, sound-holds a sa .tapes, sound-holds b sb .tapes) in
+        let z : labelsSize - labelSize * a .tapes - labelSize * b .tapes ≡ (8 - (A .tapes + B .tapes)) * labelSize = omega (arith, few, sound-holds a sa .tapes, sound-holds b sb .tapes) in
         (λ k. d .first .written k ++ (d .second .written k ++ zeros (z k)))
-        ∙ sym (append-assoc x y (zeros ((8 - (A .tapes + B .tapes)) * 9)))
-        ∙ ap (λ (l : List ℕ). l ++ zeros ((8 - (A .tapes + B .tapes)) * 9))
+        ∙ sym (append-assoc x y (zeros ((8 - (A .tapes + B .tapes)) * labelSize)))
+        ∙ ap (λ (l : List ℕ). l ++ zeros ((8 - (A .tapes + B .tapes)) * labelSize))
         (sym (writeAll-append f (d .first-labels) (d .second-labels)) ∙ ap (writeAll f) (sym (d .labels-are)))
 
     arc-of : (k : ℕ) (x : Edge (Content ℕ)) (m : Move) → RecordOf A B cs x m → ArcOf k x m
@@ -234,19 +235,19 @@ module _ (a b : Memory) (sa : Sound a) (sb : Sound b) where
 
     -- the edges stand from place at on
     abbrev Stand : ℕ → List (Edge (Content ℕ)) → Type 0
-    Stand at es = (j : ℕ) (x : Edge (Content ℕ)) → getElem? es j ≡ some x → RecordOf A B cs x (moveAt (at + 16 * j) w)
+    Stand at es = (j : ℕ) (x : Edge (Content ℕ)) → getElem? es j ≡ some x → RecordOf A B cs x (moveAt (at + stepSize * j) w)
 
     stand-first : (at : ℕ) (x : Edge (Content ℕ)) (es : List (Edge (Content ℕ))) → Stand at (x ∷ es) → RecordOf A B cs x (moveAt at w)
     stand-first at x es h = subst (λ (k : ℕ). RecordOf A B cs x (moveAt k w)) (omega arith) (h zero x refl)
 
-    stand-rest : (at : ℕ) (x : Edge (Content ℕ)) (es : List (Edge (Content ℕ))) → Stand at (x ∷ es) → Stand (at + 16) es
+    stand-rest : (at : ℕ) (x : Edge (Content ℕ)) (es : List (Edge (Content ℕ))) → Stand at (x ∷ es) → Stand (at + stepSize) es
     stand-rest at x es h j y e = subst (λ (k : ℕ). RecordOf A B cs y (moveAt k w)) (omega arith) (h (suc j) y e)
 
     -- their arcs are within the bytes
     pub moves-fit : (at : ℕ) (es : List (Edge (Content ℕ))) → Stand at es → Moves (a .stateBytes) (a .arcBytes) (b .stateBytes) (b .arcBytes) w (movesAt at (length es) w)
     unfolding Moves movesAt
     moves-fit at [] h = tt
-    moves-fit at (x ∷ es) h = (arc-of zero x (moveAt at w) (stand-first at x es h) .fits, moves-fit (at + 16) es (stand-rest at x es h))
+    moves-fit at (x ∷ es) h = (arc-of zero x (moveAt at w) (stand-first at x es h) .fits, moves-fit (at + stepSize) es (stand-rest at x es h))
 
     -- whether their weights are in range
     pub moves-judged : (at : ℕ) (es : List (Edge (Content ℕ))) → Stand at es
@@ -254,7 +255,7 @@ module _ (a b : Memory) (sa : Sound a) (sb : Sound b) where
     unfolding movesFit movesAt
     moves-judged at [] h = refl
     moves-judged at (x ∷ es) h =
-        ap₂ and (ap weightFits (arc-of zero x (moveAt at w) (stand-first at x es h) .weighs)) (moves-judged (at + 16) es (stand-rest at x es h))
+        ap₂ and (ap weightFits (arc-of zero x (moveAt at w) (stand-first at x es h) .weighs)) (moves-judged (at + stepSize) es (stand-rest at x es h))
 
     -- their records
     pub moves-encoded : (k at : ℕ) (es : List (Edge (Content ℕ))) → Stand at es
@@ -263,4 +264,4 @@ module _ (a b : Memory) (sa : Sound a) (sb : Sound b) where
     unfolding moveRecords movesAt
     moves-encoded k at [] h = refl
     moves-encoded k at (x ∷ es) h =
-        ap₂ (λ (u v : List ℕ). u ++ v) (arc-of k x (moveAt at w) (stand-first at x es h) .written) (moves-encoded k (at + 16) es (stand-rest at x es h))
+        ap₂ (λ (u v : List ℕ). u ++ v) (arc-of k x (moveAt at w) (stand-first at x es h) .written) (moves-encoded k (at + stepSize) es (stand-rest at x es h))

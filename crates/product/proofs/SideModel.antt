@@ -18,25 +18,26 @@ use Rattle.automata.specs.Table.{WellFormedState, WellFormedArc}
 use Rattle.automata.specs.Memory.{Memory, Sound, tableOf, zeros, labelRecord, arcRecord}
 use Rattle.automata.proofs.ListFacts.{place-bound, place-default}
 use Rattle.automata.proofs.TestFacts.{eqb-false}
-use Rattle.automata.proofs.FormatLaws.{length-many}
-use Rattle.automata.proofs.MemoryLaws.{labelRecord-lawful}
+use Rattle.automata.proofs.FormatFacts.{length-many}
+use Rattle.automata.proofs.MemoryFacts.{labelRecord-lawful}
 use Rattle.automata.proofs.SoundFacts.{sound-well-formed, sound-holds}
 use Rattle.automata.proofs.WellFormedFacts.{all-place}
-use Rattle.memory.specs.Region.{part}
-use Rattle.memory.specs.Endian.{le}
-use Rattle.memory.specs.declared.record.Weight.{Weight}
-use Rattle.memory.specs.declared.record.Weight.the-variants.{Absent, Present}
-use Rattle.memory.specs.Records.{optionOf, stateAs, stateAt, arcAs, arcAt, contentAt}
-use Rattle.memory.proofs.Laws.{part-part}
-use Rattle.memory.proofs.LoadedLaws.{zeros-label}
-use Rattle.memory.proofs.SoundLaws.{few-tapes, few-states, few-arcs, states-lent, arcs-lent, state-loaded, arc-bytes, arc-loaded}
-use Rattle.alignment.specs.Vertices.{placeNumber, PlaceBelow}
+use Rattle.automata.specs.Layout.{arcSize, stateSize, labelSize, labelsPlace}
+use Rattle.table.specs.Region.{part}
+use Rattle.table.specs.Endian.{le}
+use Rattle.table.specs.declared.record.Weight.{Weight}
+use Rattle.table.specs.declared.record.Weight.the-variants.{Absent, Present}
+use Rattle.table.specs.Records.{optionOf, stateAs, stateAt, arcAs, arcAt, contentAt}
+use Rattle.table.proofs.RegionFacts.{part-part}
+use Rattle.table.proofs.LoadedFacts.{zeros-label}
+use Rattle.table.proofs.SoundFacts.{few-tapes, few-states, few-arcs, states-lent, arcs-lent, state-loaded, arc-bytes, arc-loaded}
+use Rattle.product_search.specs.Vertices.{placeNumber, PlaceBelow}
 use Rattle.product_records.specs.Sums.{placeState, amount, sideSum, sideLabels, PlaceFits, SideFits}
 
 -- zeros are the records of empty labels
-blank-labels : (t : ℕ) → zeros (t * 9) ≡ writeAll (labelRecord .write) (emptyTuple t)
+blank-labels : (t : ℕ) → zeros (t * labelSize) ≡ writeAll (labelRecord .write) (emptyTuple t)
 blank-labels zero = refl
-blank-labels (suc t) = zeros-label t ∙ ap (λ (z : List ℕ). zeros 9 ++ z) (blank-labels t)
+blank-labels (suc t) = zeros-label t ∙ ap (λ (z : List ℕ). zeros labelSize ++ z) (blank-labels t)
 
 -- a weight that is there as a number
 amount-is : (w : Weight) (f : ℕ) → optionOf w ≡ some f → amount w ≡ f
@@ -76,7 +77,7 @@ module _ (m : Memory) (s : Sound m) where
       let l = below q h in
       rw (eqb-false q 65535 (not-ended q l), state-loaded m s q l)
 
-  place-there : (x : Option ℕ) → PlaceBelow (length (A .states)) x → (placeNumber x ≡ 65535 → ⊥) → 10 * placeNumber x + 10 ≤ length (m .stateBytes)
+  place-there : (x : Option ℕ) → PlaceBelow (length (A .states)) x → (placeNumber x ≡ 65535 → ⊥) → stateSize * placeNumber x + stateSize ≤ length (m .stateBytes)
   place-there none h e = absurd (e refl)
   place-there (some q) h e = omega (arith, below q h, states-lent m s)
 
@@ -85,7 +86,7 @@ module _ (m : Memory) (s : Sound m) where
   place-small (some q) h =
       let l = below q h in
       let e = state-loaded m s q l in
-      rw e (all-place WellFormedState (A .states) (sound-well-formed m s .states) q (stateAs (stateAt (10 * q) (m .stateBytes))) e)
+      rw e (all-place WellFormedState (A .states) (sound-well-formed m s .states) q (stateAs (stateAt (stateSize * q) (m .stateBytes))) e)
 
   -- its record is within the bytes
   pub place-fits : (x : Option ℕ) → PlaceBelow (length (A .states)) x → PlaceFits (m .stateBytes) (placeNumber x)
@@ -108,23 +109,23 @@ module _ (m : Memory) (s : Sound m) where
     formed : WellFormedArc (A .tapes) (length (A .states)) a
     formed = all-place (WellFormedArc (A .tapes) (length (A .states))) (A .arcs) (sound-well-formed m s .arcs) i a at
 
-    weight-model : le (part (80 * i + 4) 4 (m .arcBytes)) ≡ a .weight
+    weight-model : le (part (arcSize * i + 4) 4 (m .arcBytes)) ≡ a .weight
     unfolding arcAt contentAt
     weight-model =
-        ap (λ (x : Arc ℕ). x .weight) (Option·some-injective (arcAs (m .tapes) (arcAt (80 * i) (m .arcBytes))) a (sym (arc-loaded m s i there) ∙ at))
+        ap (λ (x : Arc ℕ). x .weight) (Option·some-injective (arcAs (m .tapes) (arcAt (arcSize * i) (m .arcBytes))) a (sym (arc-loaded m s i there) ∙ at))
 
-    labels-model : part (80 * i + 8) (9 * m .tapes) (m .arcBytes) ≡ writeAll (labelRecord .write) (a .labels)
+    labels-model : part (arcSize * i + labelsPlace) (labelSize * m .tapes) (m .arcBytes) ≡ writeAll (labelRecord .write) (a .labels)
     unfolding part
     labels-model =
         let x = writeAll (labelRecord .write) (a .labels) in
-        let z = zeros ((8 - m .tapes) * 9) in
-        let t : 8 + 9 * m .tapes ≤ 80 = omega (arith, few-tapes m s) in
-        let l : length x ≡ 9 * m .tapes = length-many labelRecord-lawful (a .labels) (formed .labels) ∙ (omega (arith, formed .width, sound-holds m s .tapes)) in
+        let z = zeros ((8 - m .tapes) * labelSize) in
+        let t : 8 + labelSize * m .tapes ≤ arcSize = omega (arith, few-tapes m s) in
+        let l : length x ≡ labelSize * m .tapes = length-many labelRecord-lawful (a .labels) (formed .labels) ∙ (omega (arith, formed .width, sound-holds m s .tapes)) in
         let d : getD (A .arcs) i a ≡ a = place-default (A .arcs) i a at in
-        sym (part-part 8 (9 * m .tapes) (80 * i) 80 (m .arcBytes) t)
-        ∙ ap (part 8 (9 * m .tapes)) (arc-bytes m s i there a)
-        ∙ ap (λ (b : Arc ℕ). part 8 (9 * m .tapes) (arcRecord (m .tapes) (m .states) .write b)) d
-        ∙ take-at x z (9 * m .tapes) l
+        sym (part-part labelsPlace (labelSize * m .tapes) (arcSize * i) arcSize (m .arcBytes) t)
+        ∙ ap (part labelsPlace (labelSize * m .tapes)) (arc-bytes m s i there a)
+        ∙ ap (λ (b : Arc ℕ). part labelsPlace (labelSize * m .tapes) (arcRecord (m .tapes) (m .states) .write b)) d
+        ∙ take-at x z (labelSize * m .tapes) l
 
     -- the side follows the arc
     pub side-follows : (x : Option ℕ) → PlaceBelow (length (A .states)) x → SideOf m i (placeNumber x) (a .weight) (a .labels)
@@ -148,7 +149,7 @@ module _ (m : Memory) (s : Sound m) where
   side-stays x f h e =
       let k : finalAt ℕ-sum (system A) x ≡ optionOf (placeState (m .stateBytes) (placeNumber x) .last) = sym (ap (λ (q : State ℕ). q .final) (place-model x h)) in
       let sum : amount (placeState (m .stateBytes) (placeNumber x) .last) ≡ f = amount-is (placeState (m .stateBytes) (placeNumber x) .last) f (sym k ∙ e) in
-      let nine : 9 * m .tapes ≡ A .tapes * 9 = omega (arith, sound-holds m s .tapes) in
+      let nine : labelSize * m .tapes ≡ A .tapes * labelSize = omega (arith, sound-holds m s .tapes) in
       let small : Each table.Weight (finalAt ℕ-sum (system A) x) = place-small x h .final in
       record {
         fits = record {

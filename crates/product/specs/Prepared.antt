@@ -11,11 +11,12 @@ use Rattle.automata.specs.Memory.{Memory, Sound, tableOf}
 use Rattle.automata.specs.Product.{crossProduct}
 use Rattle.automata.specs.Calls.Work.{productWork}
 use Rattle.automata.specs.Calls.Product.{productAnswer}
-use Rattle.memory.specs.declared.answer.Counts.{Counts}
-use Rattle.memory.specs.declared.answer.Judged.{Judged}
-use Rattle.memory.specs.declared.answer.Judged.the-variants.{Fine}
-use Rattle.memory.specs.Answers.{judgedAs}
-use Rattle.alignment.specs.declared.plan.Plan.{Plan}
+use Rattle.automata.specs.Layout.{vertexSize}
+use Rattle.table.specs.declared.answer.Counts.{Counts}
+use Rattle.table.specs.declared.answer.Judged.{Judged}
+use Rattle.table.specs.declared.answer.Judged.the-variants.{Fine}
+use Rattle.table.specs.Answers.{judgedAs}
+use Rattle.product_search.specs.declared.plan.Plan.{Plan}
 
 -- the space lent, in states and arcs
 abbrev pub spaceFor : ℕ → ℕ → Space
@@ -24,7 +25,7 @@ spaceFor states arcs = record { states = states; arcs = arcs }
 -- the plan of a search for so many states and arcs lent: 16 bytes of work space are kept for each state, and no more
 -- arcs are looked for than there is room for
 abbrev pub planOf : Counts → Counts → ℕ → ℕ → Plan
-planOf first second states arcs = record { first = first; second = second; states = min states 1024; arcs = min arcs 8192; base = 16 * states; limit = min arcs 8192 }
+planOf first second states arcs = record { first = first; second = second; states = min states 1024; arcs = min arcs 8192; base = vertexSize * states; limit = min arcs 8192 }
 
 -- The first refusal is the call's, and where there is none the call goes on to the product; what then is known of its parts.
 pub record Prepares (a b : Memory) (states arcs work : ℕ) (r : Judged) : Type 0 where

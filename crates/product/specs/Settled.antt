@@ -5,14 +5,15 @@ use mathlib.Core.List.{List}
 use Prim.Native.Nat.{ℕ, _+_, _/_, _≤_, _<_}
 use lib.ListN.{length}
 use Rattle.automata.specs.Space.{Space, stateCap, arcCap}
-use Rattle.alignment.specs.declared.plan.Plan.{Plan}
-use Rattle.alignment.specs.declared.head.Head.{Head}
-use Rattle.alignment.specs.Plans.{Explorable}
-use Rattle.alignment.specs.Exploring.{reachedIn, edgesIn, Held}
+use Rattle.automata.specs.Layout.{arcSize, stateSize}
+use Rattle.product_search.specs.declared.plan.Plan.{Plan}
+use Rattle.product_search.specs.declared.head.Head.{Head}
+use Rattle.product_search.specs.Plans.{Explorable}
+use Rattle.product_search.specs.Exploring.{reachedIn, edgesIn, Held}
 
 -- the space in slices of so many bytes
 abbrev pub spaceIn : ℕ → ℕ → Space
-spaceIn forStates forArcs = record { states = forStates / 10; arcs = forArcs / 80 }
+spaceIn forStates forArcs = record { states = forStates / stateSize; arcs = forArcs / arcSize }
 
 -- a search was made by a plan for slices of so many bytes
 pub record Settleable (p : Plan) (s1 a1 s2 a2 : List ℕ) (r : Head) (w : List ℕ) (forStates forArcs : ℕ) : Type 0 where

@@ -2,18 +2,20 @@
 use crate::finish::settle;
 use crate::prepare::plan_for;
 use crate::prepare::prepare;
-use alignment::explore::explore;
-use memory::answer::Counts;
-use memory::answer::Judged;
-use memory::answer::TableAnswer;
-use memory::bytes::zero;
+use product_search::explore::explore;
+use table::answer::Counts;
+use table::answer::Judged;
+use table::answer::TableAnswer;
+use table::bytes::zero;
+use table::layout::ARC_SIZE;
+use table::layout::STATE_SIZE;
 ghost use mathlib.Core.Path.{_≡_};
 ghost use lib.ListN.{length};
 ghost use Rattle.automata.specs.Memory.{tableOf};
 ghost use Rattle.automata.specs.Calls.Outcome.{spaceOf, put, madeOf, builtOf, slicesOf};
 ghost use Rattle.automata.specs.Calls.JoinSteps.{productStep};
 ghost use Rattle.automata.specs.Calls.Product.{productAnswer, productOutcome};
-ghost use Rattle.memory.specs.Answers.{lent, tableAs};
+ghost use Rattle.table.specs.Answers.{lent, tableAs};
 ghost use Rattle.product.specs.Multiplied.{Multipliable};
 
 // The product as a step of a join: of two tables that were judged, with enough work space. Work space is left as it is.
@@ -31,7 +33,12 @@ pub fn product_step(
     requires { ⌜ Multipliable (lent first (now «first_states») (now «first_arcs»)) (lent second (now «second_states») (now «second_arcs»)) (length (now «out_states»)) (length (now «out_arcs»)) (length (now work)) ⌝ }
     ensures { λ r. ⌜ madeOf (tableAs r) (now («out_states» .exit)) (now («out_arcs» .exit)) ≡ productStep (tableOf (lent first (now («first_states» .entry)) (now («first_arcs» .entry)))) (tableOf (lent second (now («second_states» .entry)) (now («second_arcs» .entry)))) (slicesOf (now («out_states» .entry)) (now («out_arcs» .entry))) ⌝ }
 {
-    let plan = plan_for(first, second, out_states.len() / 10, out_arcs.len() / 80);
+    let plan = plan_for(
+        first,
+        second,
+        out_states.len() / STATE_SIZE,
+        out_arcs.len() / ARC_SIZE,
+    );
     let head = explore(
         plan,
         first_states,
@@ -74,8 +81,8 @@ fn multiply(
         second,
         second_states,
         second_arcs,
-        out_states.len() / 10,
-        out_arcs.len() / 80,
+        out_states.len() / STATE_SIZE,
+        out_arcs.len() / ARC_SIZE,
         work.len(),
     );
     match judged {

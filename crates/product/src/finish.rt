@@ -1,18 +1,18 @@
 // The answer of a product, by what the search over its states left in work space.
-use alignment::head::Head;
-use alignment::plan::Plan;
-use memory::answer::Counts;
-use memory::answer::Refusal;
-use memory::answer::TableAnswer;
 use product_records::judge::sums_fit;
 use product_records::result::write_moves;
 use product_records::result::write_states;
+use product_search::head::Head;
+use product_search::plan::Plan;
+use table::answer::Counts;
+use table::answer::Refusal;
+use table::answer::TableAnswer;
 ghost use mathlib.Core.Path.{_≡_};
 ghost use lib.ListN.{length};
 ghost use Rattle.automata.specs.Calls.Outcome.{madeOf, slicesOf};
 ghost use Rattle.automata.specs.Calls.JoinSteps.{productStep};
-ghost use Rattle.memory.specs.Answers.{tableAs};
-ghost use Rattle.alignment.specs.Plans.{firstIn, secondIn};
+ghost use Rattle.table.specs.Answers.{tableAs};
+ghost use Rattle.product_search.specs.Plans.{firstIn, secondIn};
 ghost use Rattle.product.specs.Settled.{Settleable};
 
 // The answer: more states than there is room for (8), more arcs (9), a summed weight out of range (11), or the product. Nothing is written

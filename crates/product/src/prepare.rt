@@ -1,14 +1,17 @@
 // What is judged before any state of a product is reached: both tables, their tapes together, the work space; and the plan of the search.
-use alignment::plan::Plan;
-use memory::answer::Counts;
-use memory::answer::Judged;
-use memory::answer::Refusal;
-use memory::judge::judge;
+use product_search::plan::Plan;
+use table::answer::Counts;
+use table::answer::Judged;
+use table::answer::Refusal;
+use table::judge::judge;
+use table::layout::STEP_SIZE;
+use table::layout::VERTEX_SIZE;
 ghost use mathlib.Core.Path.{_≡_};
 ghost use Prim.Native.Nat.{_*_, _<_, min};
 ghost use lib.Dec.{leb};
 ghost use Rattle.automata.specs.Calls.Work.{productWork};
-ghost use Rattle.memory.specs.Answers.{lent};
+ghost use Rattle.automata.specs.Layout.{vertexSize};
+ghost use Rattle.table.specs.Answers.{lent};
 ghost use Rattle.product.specs.Prepared.{spaceFor, planOf, Prepares};
 
 // The lesser of two numbers.
@@ -20,7 +23,7 @@ fn lesser(a: usize, b: usize) -> usize
 
 // The plan of a search for so many states and arcs lent.
 pub fn plan_for(first: Counts, second: Counts, states: usize, arcs: usize) -> Plan
-    requires { ⌜ 16 * states < 18446744073709551616 ⌝ }
+    requires { ⌜ vertexSize * states < 18446744073709551616 ⌝ }
     ensures { λ r. ⌜ r ≡ planOf first second states arcs ⌝ }
 {
     let most_states = lesser(states, 1024);
@@ -30,7 +33,7 @@ pub fn plan_for(first: Counts, second: Counts, states: usize, arcs: usize) -> Pl
         second,
         states: most_states,
         arcs: most_arcs,
-        base: 16 * states,
+        base: VERTEX_SIZE * states,
         limit: most_arcs,
     }
 }
@@ -39,10 +42,10 @@ pub fn plan_for(first: Counts, second: Counts, states: usize, arcs: usize) -> Pl
 fn enough_work(states: usize, arcs: usize, work: usize) -> bool
     ensures { λ r. ⌜ r ≡ leb (productWork (spaceFor states arcs)) work ⌝ }
 {
-    if work / 16 < states {
+    if work / VERTEX_SIZE < states {
         return false;
     }
-    arcs <= (work - 16 * states) / 16
+    arcs <= (work - VERTEX_SIZE * states) / STEP_SIZE
 }
 
 // The tables, the first before the second, at most eight tapes together (12), and the work space (13).

@@ -1,4 +1,4 @@
 -- Laws of the records of a product.
-pub mod SumLaws
-pub mod RecordLaws
-pub mod ResultLaws
+pub mod SumFacts
+pub mod RecordFacts
+pub mod ResultFacts

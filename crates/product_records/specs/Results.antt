@@ -5,9 +5,9 @@ use Prim.Native.Nat.{ℕ}
 use Rattle.automata.specs.Lists.{all, All}
 use Rattle.automata.specs.Records.{writeAll}
 use Rattle.automata.specs.Table.{weightFits}
-use Rattle.memory.specs.Records.{stateBytes}
-use Rattle.alignment.specs.declared.vertex.Vertex.{Vertex}
-use Rattle.alignment.specs.declared.vertex.Move.{Move}
+use Rattle.table.specs.Records.{stateBytes}
+use Rattle.product_search.specs.declared.vertex.Vertex.{Vertex}
+use Rattle.product_search.specs.declared.vertex.Move.{Move}
 use Rattle.product_records.specs.Sums.{vertexSum, stateFits, moveSum, moveRecord, VertexFits, MoveFits}
 
 -- ---- states

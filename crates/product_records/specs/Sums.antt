@@ -9,16 +9,17 @@ use Rattle.automata.specs.Lists.{if, and}
 use Rattle.automata.specs.Table.{weightFits, WellFormedState}
 use Rattle.automata.specs.Product.{fitsAt}
 use Rattle.automata.specs.Memory.{zeros}
-use Rattle.memory.specs.Region.{part, splice}
-use Rattle.memory.specs.Endian.{le, toLe}
-use Rattle.memory.specs.Records.{optionOf, stateAs, stateAt}
-use Rattle.memory.specs.declared.record.Weight.{Weight}
-use Rattle.memory.specs.declared.record.Weight.the-variants.{Absent, Present}
-use Rattle.memory.specs.declared.record.State.{State}
-use Rattle.alignment.specs.declared.vertex.Vertex.{Vertex}
-use Rattle.alignment.specs.declared.vertex.Move.{Move}
-use Rattle.alignment.specs.Vertices.{vertexAt}
-use Rattle.alignment.specs.Moves.{moveAt}
+use Rattle.automata.specs.Layout.{arcSize, stateSize, stepSize, vertexSize, labelSize, labelsPlace, labelsSize}
+use Rattle.table.specs.Region.{part, splice}
+use Rattle.table.specs.Endian.{le, toLe}
+use Rattle.table.specs.Records.{optionOf, stateAs, stateAt}
+use Rattle.table.specs.declared.record.Weight.{Weight}
+use Rattle.table.specs.declared.record.Weight.the-variants.{Absent, Present}
+use Rattle.table.specs.declared.record.State.{State}
+use Rattle.product_search.specs.declared.vertex.Vertex.{Vertex}
+use Rattle.product_search.specs.declared.vertex.Move.{Move}
+use Rattle.product_search.specs.Vertices.{vertexAt}
+use Rattle.product_search.specs.Moves.{moveAt}
 
 -- ---- states
 
@@ -28,7 +29,7 @@ endedState = record { initial = Absent; last = Present 0 }
 
 -- the state of a side at a place, by the records of its states
 unfoldable pub placeState : List ℕ → ℕ → State
-placeState states k = if (eqb k 65535) endedState (stateAt (10 * k) states)
+placeState states k = if (eqb k 65535) endedState (stateAt (stateSize * k) states)
 
 -- two weights added, absent where either is
 abbrev pub plus : Weight → Weight → Weight
@@ -57,20 +58,20 @@ amount (Present w) = w
 
 -- what a side adds to the weight of a move: that of its arc, or the final weight of its place where its path ends or has ended
 unfoldable pub sideSum : List ℕ → List ℕ → ℕ → ℕ → ℕ
-sideSum states arcs k place = if (eqb k 65535) (amount (placeState states place .last)) (le (part (80 * k + 4) 4 arcs))
+sideSum states arcs k place = if (eqb k 65535) (amount (placeState states place .last)) (le (part (arcSize * k + 4) 4 arcs))
 
 -- the weight of a move from the row of its first state in w
 unfoldable pub moveSum : List ℕ → List ℕ → List ℕ → List ℕ → List ℕ → Move → ℕ
 moveSum s1 a1 s2 a2 w m =
-    sideSum s1 a1 (m .first) (le (part (16 * m .from .0) 2 w)) + sideSum s2 a2 (m .second) (le (part (16 * m .from .0 + 2) 2 w))
+    sideSum s1 a1 (m .first) (le (part (vertexSize * m .from .0) 2 w)) + sideSum s2 a2 (m .second) (le (part (vertexSize * m .from .0 + 2) 2 w))
 
 -- the records of the labels of a side with so many tapes: those of its arc, zeros where its path has ended
 unfoldable pub sideLabels : List ℕ → ℕ → ℕ → List ℕ
-sideLabels arcs tapes k = if (eqb k 65535) (zeros (9 * tapes)) (part (80 * k + 8) (9 * tapes) arcs)
+sideLabels arcs tapes k = if (eqb k 65535) (zeros (labelSize * tapes)) (part (arcSize * k + labelsPlace) (labelSize * tapes) arcs)
 
 -- bytes with the labels of a side's arc written over them from a place on; the same bytes where its path has ended
 unfoldable pub sideOver : List ℕ → ℕ → ℕ → ℕ → List ℕ → List ℕ
-sideOver arcs tapes k to out = if (eqb k 65535) out (splice to (part (80 * k + 8) (9 * tapes) arcs) out)
+sideOver arcs tapes k to out = if (eqb k 65535) out (splice to (part (arcSize * k + labelsPlace) (labelSize * tapes) arcs) out)
 
 -- the 8 bytes before the labels of a move of a weight
 unfoldable pub moveFront : Move → ℕ → List ℕ
@@ -78,7 +79,7 @@ moveFront m weight = toLe 2 (m .from .0) ++ (toLe 2 (m .to .0) ++ toLe 4 weight)
 
 -- the 72 bytes of its labels: those of the first side, of the second behind them, and zeros
 unfoldable pub moveLabels : List ℕ → List ℕ → ℕ → ℕ → Move → List ℕ
-moveLabels a1 a2 n k m = sideLabels a1 n (m .first) ++ (sideLabels a2 k (m .second) ++ zeros (72 - 9 * n - 9 * k))
+moveLabels a1 a2 n k m = sideLabels a1 n (m .first) ++ (sideLabels a2 k (m .second) ++ zeros (labelsSize - labelSize * n - labelSize * k))
 
 -- the record of a move as an arc
 unfoldable pub moveRecord : List ℕ → List ℕ → List ℕ → List ℕ → List ℕ → ℕ → ℕ → Move → List ℕ
@@ -89,18 +90,18 @@ moveRecord s1 a1 s2 a2 w n k m = moveFront m (moveSum s1 a1 s2 a2 w m) ++ moveLa
 -- the n rows from a place on
 unfoldable pub verticesAt : ℕ → ℕ → List ℕ → List Vertex
 verticesAt at zero w = []
-verticesAt at (suc n) w = vertexAt at w ∷ verticesAt (at + 16) n w
+verticesAt at (suc n) w = vertexAt at w ∷ verticesAt (at + vertexSize) n w
 
 -- the n moves from a place on
 unfoldable pub movesAt : ℕ → ℕ → List ℕ → List Move
 movesAt at zero w = []
-movesAt at (suc n) w = moveAt at w ∷ movesAt (at + 16) n w
+movesAt at (suc n) w = moveAt at w ∷ movesAt (at + stepSize) n w
 
 -- ---- what is within the bytes
 
 -- a place that has not ended is that of a record in the bytes, and its weights are in range
 pub record PlaceFits (states : List ℕ) (k : ℕ) : Type 0 where
-  pub there : (k ≡ 65535 → ⊥) → 10 * k + 10 ≤ length states
+  pub there : (k ≡ 65535 → ⊥) → stateSize * k + stateSize ≤ length states
   pub small : WellFormedState (stateAs (placeState states k))
 
 -- both places of a state of the product
@@ -110,12 +111,12 @@ pub record VertexFits (s1 s2 : List ℕ) (v : Vertex) : Type 0 where
 
 -- the arc of a side is that of a record in the bytes, and what the side adds is in range
 pub record SideFits (states arcs : List ℕ) (k place : ℕ) : Type 0 where
-  pub place-there : (place ≡ 65535 → ⊥) → 10 * place + 10 ≤ length states
-  pub arc-there : (k ≡ 65535 → ⊥) → 80 * k + 80 ≤ length arcs
+  pub place-there : (place ≡ 65535 → ⊥) → stateSize * place + stateSize ≤ length states
+  pub arc-there : (k ≡ 65535 → ⊥) → arcSize * k + arcSize ≤ length arcs
   pub small : sideSum states arcs k place ≤ 999999999
 
 -- both sides of a move
 pub record MoveFits (s1 a1 s2 a2 w : List ℕ) (m : Move) : Type 0 where
-  pub row : 16 * m .from .0 + 4 ≤ length w
-  pub first : SideFits s1 a1 (m .first) (le (part (16 * m .from .0) 2 w))
-  pub second : SideFits s2 a2 (m .second) (le (part (16 * m .from .0 + 2) 2 w))
+  pub row : vertexSize * m .from .0 + 4 ≤ length w
+  pub first : SideFits s1 a1 (m .first) (le (part (vertexSize * m .from .0) 2 w))
+  pub second : SideFits s2 a2 (m .second) (le (part (vertexSize * m .from .0 + 2) 2 w))

@@ -2,18 +2,20 @@
 use crate::sum::move_weight;
 use crate::sum::state_fits;
 use crate::sum::vertex_state;
-use alignment::vertex::load_move;
-use alignment::vertex::load_vertex;
+use product_search::vertex::load_move;
+use product_search::vertex::load_vertex;
+use table::layout::VERTEX_SIZE;
 ghost use mathlib.Core.Path.{_≡_};
 ghost use Prim.Native.Nat.{_+_, _*_, _≤_, _<_};
 ghost use lib.ListN.{length};
 ghost use Rattle.automata.specs.Lists.{and};
+ghost use Rattle.automata.specs.Layout.{stepSize, vertexSize};
 ghost use Rattle.product_records.specs.Sums.{verticesAt, movesAt};
 ghost use Rattle.product_records.specs.Results.{statesFit, Vertices, movesFit, Moves};
 
 // Whether the weights of the first `count` states in `work` are in range.
 fn states_fit(work: &[u8], count: usize, first_states: &[u8], second_states: &[u8]) -> bool
-    requires { ⌜ (16 * count ≤ length (now work)) × Vertices (now «first_states») (now «second_states») (verticesAt 0 count (now work)) ⌝ }
+    requires { ⌜ (vertexSize * count ≤ length (now work)) × Vertices (now «first_states») (now «second_states») (verticesAt 0 count (now work)) ⌝ }
     ensures { λ r. ⌜ r ≡ statesFit (now («first_states» .entry)) (now («second_states» .entry)) (verticesAt 0 count (now (work .entry))) ⌝ }
 {
     let mut left = count;
@@ -24,7 +26,7 @@ fn states_fit(work: &[u8], count: usize, first_states: &[u8], second_states: &[u
         if !state_fits(s) {
             return false;
         }
-        at += 16;
+        at += VERTEX_SIZE;
         left -= 1;
     }
     true
@@ -40,7 +42,7 @@ fn moves_fit(
     second_states: &[u8],
     second_arcs: &[u8],
 ) -> bool
-    requires { ⌜ (base + 16 * count ≤ length (now work)) × Moves (now «first_states») (now «first_arcs») (now «second_states») (now «second_arcs») (now work) (movesAt base count (now work)) ⌝ }
+    requires { ⌜ (base + stepSize * count ≤ length (now work)) × Moves (now «first_states») (now «first_arcs») (now «second_states») (now «second_arcs») (now work) (movesAt base count (now work)) ⌝ }
     ensures { λ r. ⌜ r ≡ movesFit (now («first_states» .entry)) (now («first_arcs» .entry)) (now («second_states» .entry)) (now («second_arcs» .entry)) (now (work .entry)) (movesAt base count (now (work .entry))) ⌝ }
 {
     let mut left = count;
@@ -58,7 +60,7 @@ fn moves_fit(
         if 999999999 < weight {
             return false;
         }
-        at += 16;
+        at += VERTEX_SIZE;
         left -= 1;
     }
     true
@@ -75,7 +77,7 @@ pub fn sums_fit(
     second_states: &[u8],
     second_arcs: &[u8],
 ) -> bool
-    requires { ⌜ (16 * reached ≤ length (now work)) × Vertices (now «first_states») (now «second_states») (verticesAt 0 reached (now work)) × (base + 16 * arcs ≤ length (now work)) × Moves (now «first_states») (now «first_arcs») (now «second_states») (now «second_arcs») (now work) (movesAt base arcs (now work)) ⌝ }
+    requires { ⌜ (vertexSize * reached ≤ length (now work)) × Vertices (now «first_states») (now «second_states») (verticesAt 0 reached (now work)) × (base + stepSize * arcs ≤ length (now work)) × Moves (now «first_states») (now «first_arcs») (now «second_states») (now «second_arcs») (now work) (movesAt base arcs (now work)) ⌝ }
     ensures { λ r. ⌜ r ≡ and (statesFit (now («first_states» .entry)) (now («second_states» .entry)) (verticesAt 0 reached (now (work .entry)))) (movesFit (now («first_states» .entry)) (now («first_arcs» .entry)) (now («second_states» .entry)) (now («second_arcs» .entry)) (now (work .entry)) (movesAt base arcs (now (work .entry)))) ⌝ }
 {
     if !states_fit(work, reached, first_states, second_states) {

@@ -1,21 +1,25 @@
 // The record of a move as an arc: its ends, its weight, and the labels of both sides.
 use crate::sum::move_weight;
-use alignment::vertex::Move;
-use memory::bytes::get64;
-use memory::bytes::put16;
-use memory::bytes::put32;
-use memory::bytes::put64;
+use product_search::vertex::Move;
+use table::bytes::get64;
+use table::bytes::put16;
+use table::bytes::put32;
+use table::bytes::put64;
+use table::layout::ARC_SIZE;
+use table::layout::LABEL_SIZE;
+use table::layout::LABELS_PLACE;
 ghost use mathlib.Core.Path.{_≡_};
 ghost use Prim.Native.Nat.{_+_, _*_, _≤_, _<_};
 ghost use lib.ListN.{length};
 ghost use Rattle.automata.specs.Memory.{zeros};
-ghost use Rattle.memory.specs.Region.{part, splice};
+ghost use Rattle.automata.specs.Layout.{arcSize, labelSize, labelsSize};
+ghost use Rattle.table.specs.Region.{part, splice};
 ghost use Rattle.product_records.specs.Sums.{sideOver, moveFront, moveLabels, moveRecord, MoveFits};
 
 // A label: its length and its eight bytes.
 fn copy_label(arcs: &[u8], from: usize, out: &mut [u8], to: usize)
-    requires { ⌜ (from + 9 ≤ length (now arcs)) × (to + 9 ≤ length (now out)) ⌝ }
-    ensures { λ _. ⌜ now (out .exit) ≡ splice to (part from 9 (now (arcs .entry))) (now (out .entry)) ⌝ }
+    requires { ⌜ (from + labelSize ≤ length (now arcs)) × (to + labelSize ≤ length (now out)) ⌝ }
+    ensures { λ _. ⌜ now (out .exit) ≡ splice to (part from labelSize (now (arcs .entry))) (now (out .entry)) ⌝ }
 {
     let len = arcs[from];
     let symbols = get64(arcs, from + 1);
@@ -35,8 +39,8 @@ fn clear_third(out: &mut [u8], to: usize)
 
 // The labels of a record: 72 zeros.
 fn clear_labels(out: &mut [u8], to: usize)
-    requires { ⌜ to + 72 ≤ length (now out) ⌝ }
-    ensures { λ _. ⌜ now (out .exit) ≡ splice to (zeros 72) (now (out .entry)) ⌝ }
+    requires { ⌜ to + labelsSize ≤ length (now out) ⌝ }
+    ensures { λ _. ⌜ now (out .exit) ≡ splice to (zeros labelsSize) (now (out .entry)) ⌝ }
 {
     clear_third(out, to);
     clear_third(out, to + 24);
@@ -45,19 +49,19 @@ fn clear_labels(out: &mut [u8], to: usize)
 
 // The labels of a side's arc on so many tapes; nothing where its path has ended.
 fn store_side(arcs: &[u8], arc: u16, tapes: usize, out: &mut [u8], to: usize)
-    requires { ⌜ ((arc ≡ 65535 → ⊥) → 80 * arc + 80 ≤ length (now arcs)) × (tapes ≤ 8) × (to + 9 * tapes ≤ length (now out)) ⌝ }
+    requires { ⌜ ((arc ≡ 65535 → ⊥) → arcSize * arc + arcSize ≤ length (now arcs)) × (tapes ≤ 8) × (to + labelSize * tapes ≤ length (now out)) ⌝ }
     ensures { λ _. ⌜ now (out .exit) ≡ sideOver (now (arcs .entry)) tapes arc to (now (out .entry)) ⌝ }
 {
     if arc == 65535 {
         return;
     }
-    let mut from = 80 * arc as usize + 8;
+    let mut from = ARC_SIZE * arc as usize + LABELS_PLACE;
     let mut at = to;
     let mut left = tapes;
     while 0 < left {
         copy_label(arcs, from, out, at);
-        from += 9;
-        at += 9;
+        from += LABEL_SIZE;
+        at += LABEL_SIZE;
         left -= 1;
     }
 }
@@ -72,8 +76,8 @@ fn store_labels(
     out: &mut [u8],
     to: usize,
 )
-    requires { ⌜ ((m .first ≡ 65535 → ⊥) → 80 * m .first + 80 ≤ length (now «first_arcs»)) × ((m .second ≡ 65535 → ⊥) → 80 * m .second + 80 ≤ length (now «second_arcs»)) × («first_tapes» + «second_tapes» ≤ 8) × (to + 72 ≤ length (now out)) ⌝ }
-    ensures { λ _. ⌜ (now (out .exit) ≡ splice to (moveLabels (now («first_arcs» .entry)) (now («second_arcs» .entry)) «first_tapes» «second_tapes» m) (now (out .entry))) × (length (moveLabels (now («first_arcs» .entry)) (now («second_arcs» .entry)) «first_tapes» «second_tapes» m) ≡ 72) ⌝ }
+    requires { ⌜ ((m .first ≡ 65535 → ⊥) → arcSize * m .first + arcSize ≤ length (now «first_arcs»)) × ((m .second ≡ 65535 → ⊥) → arcSize * m .second + arcSize ≤ length (now «second_arcs»)) × («first_tapes» + «second_tapes» ≤ 8) × (to + labelsSize ≤ length (now out)) ⌝ }
+    ensures { λ _. ⌜ (now (out .exit) ≡ splice to (moveLabels (now («first_arcs» .entry)) (now («second_arcs» .entry)) «first_tapes» «second_tapes» m) (now (out .entry))) × (length (moveLabels (now («first_arcs» .entry)) (now («second_arcs» .entry)) «first_tapes» «second_tapes» m) ≡ labelsSize) ⌝ }
 {
     clear_labels(out, to);
     store_side(first_arcs, m.first, first_tapes, out, to);
@@ -82,7 +86,7 @@ fn store_labels(
         m.second,
         second_tapes,
         out,
-        to + 9 * first_tapes,
+        to + LABEL_SIZE * first_tapes,
     );
 }
 
@@ -109,8 +113,8 @@ pub fn store_move(
     out: &mut [u8],
     to: usize,
 )
-    requires { ⌜ MoveFits (now «first_states») (now «first_arcs») (now «second_states») (now «second_arcs») (now work) m × («first_tapes» + «second_tapes» ≤ 8) × (to + 80 ≤ length (now out)) ⌝ }
-    ensures { λ _. ⌜ (now (out .exit) ≡ splice to (moveRecord (now («first_states» .entry)) (now («first_arcs» .entry)) (now («second_states» .entry)) (now («second_arcs» .entry)) (now (work .entry)) «first_tapes» «second_tapes» m) (now (out .entry))) × (length (moveRecord (now («first_states» .entry)) (now («first_arcs» .entry)) (now («second_states» .entry)) (now («second_arcs» .entry)) (now (work .entry)) «first_tapes» «second_tapes» m) ≡ 80) ⌝ }
+    requires { ⌜ MoveFits (now «first_states») (now «first_arcs») (now «second_states») (now «second_arcs») (now work) m × («first_tapes» + «second_tapes» ≤ 8) × (to + arcSize ≤ length (now out)) ⌝ }
+    ensures { λ _. ⌜ (now (out .exit) ≡ splice to (moveRecord (now («first_states» .entry)) (now («first_arcs» .entry)) (now («second_states» .entry)) (now («second_arcs» .entry)) (now (work .entry)) «first_tapes» «second_tapes» m) (now (out .entry))) × (length (moveRecord (now («first_states» .entry)) (now («first_arcs» .entry)) (now («second_states» .entry)) (now («second_arcs» .entry)) (now (work .entry)) «first_tapes» «second_tapes» m) ≡ arcSize) ⌝ }
 {
     let weight = move_weight(
         m,

@@ -1,22 +1,26 @@
 // The sums of a product: the weights of a state by its place on each side, the weight of a move by its arcs.
-use alignment::vertex::Move;
-use alignment::vertex::Vertex;
-use memory::bytes::get16;
-use memory::bytes::get32;
-use memory::record::State;
-use memory::record::Weight;
-use memory::record::load_state;
+use product_search::vertex::Move;
+use product_search::vertex::Vertex;
+use table::bytes::get16;
+use table::bytes::get32;
+use table::layout::ARC_SIZE;
+use table::layout::STATE_SIZE;
+use table::layout::VERTEX_SIZE;
+use table::record::State;
+use table::record::Weight;
+use table::record::load_state;
 ghost use mathlib.Core.Path.{_≡_};
 ghost use Prim.Native.Nat.{_+_, _*_, _≤_, _<_};
 ghost use lib.ListN.{length};
 ghost use Rattle.automata.specs.Table.{weightFits};
 ghost use Rattle.automata.specs.Product.{fitsAt};
-ghost use Rattle.memory.specs.Records.{optionOf};
+ghost use Rattle.automata.specs.Layout.{stateSize};
+ghost use Rattle.table.specs.Records.{optionOf};
 ghost use Rattle.product_records.specs.Sums.{placeState, plus, vertexSum, stateFits, amount, sideSum, moveSum, VertexFits, SideFits, MoveFits};
 
 // The state of a side at a place: no initial weight and the final weight 0 where its path has ended.
 fn place_state(states: &[u8], place: u16) -> State
-    requires { ⌜ ((place ≡ 65535 → ⊥) → 10 * place + 10 ≤ length (now states)) ⌝ }
+    requires { ⌜ ((place ≡ 65535 → ⊥) → stateSize * place + stateSize ≤ length (now states)) ⌝ }
     ensures { λ r. ⌜ r ≡ placeState (now (states .entry)) place ⌝ }
 {
     if place == 65535 {
@@ -25,7 +29,7 @@ fn place_state(states: &[u8], place: u16) -> State
             last: Weight::Present(0),
         };
     }
-    load_state(states, 10 * place as usize)
+    load_state(states, STATE_SIZE * place as usize)
 }
 
 // Two weights added, absent where either is.
@@ -100,7 +104,7 @@ fn side_weight(states: &[u8], arcs: &[u8], arc: u16, place: u16) -> u32
         let last = s.last;
         return weight_amount(last);
     }
-    get32(arcs, 80 * arc as usize + 4)
+    get32(arcs, ARC_SIZE * arc as usize + 4)
 }
 
 // The weight of a move, from the row of its first state in `work`.
@@ -115,7 +119,7 @@ pub fn move_weight(
     requires { ⌜ MoveFits (now «first_states») (now «first_arcs») (now «second_states») (now «second_arcs») (now work) m ⌝ }
     ensures { λ r. ⌜ r ≡ moveSum (now («first_states» .entry)) (now («first_arcs» .entry)) (now («second_states» .entry)) (now («second_arcs» .entry)) (now (work .entry)) m ⌝ }
 {
-    let row = 16 * m.from.0 as usize;
+    let row = VERTEX_SIZE * m.from.0 as usize;
     let p = get16(work, row);
     let q = get16(work, row + 2);
     let first = side_weight(first_states, first_arcs, m.first, p);

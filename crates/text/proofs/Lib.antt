@@ -1,3 +1,3 @@
 -- Laws of texts that are read and written.
-pub mod ReadLaws
-pub mod WrittenLaws
+pub mod ReadFacts
+pub mod WrittenFacts

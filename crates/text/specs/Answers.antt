@@ -3,7 +3,7 @@ use mathlib.Core.List.{List}
 use Prim.Native.Nat.{ℕ}
 use Rattle.automata.specs.Answer.{_>>=_, Answer, ok, refused}
 use Rattle.automata.specs.Calls.Outcome.{TableCounts, Written}
-use Rattle.memory.specs.Answers.{refusalNumber}
+use Rattle.table.specs.Answers.{refusalNumber}
 use Rattle.text.specs.declared.WriteAnswer.{WriteAnswer}
 use Rattle.text.specs.declared.WriteAnswer.the-variants as written
 

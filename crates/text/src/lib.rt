@@ -1,12 +1,18 @@
 // The text of a table: read into the records of a table in memory, and written from them.
 
-use lines::header::HeaderLine;
-use lines::table::judge_text;
-use memory::answer::Counts;
-use memory::answer::Judged;
-use memory::answer::Refusal;
-use memory::answer::TableAnswer;
-use memory::judge::judge;
+use table::answer::Counts;
+use table::answer::Judged;
+use table::answer::Refusal;
+use table::answer::TableAnswer;
+use table::judge::judge;
+use table::layout::ARC_SIZE;
+use table::layout::ARC_WIDTH;
+use table::layout::HEADER_WIDTH;
+use table::layout::LABEL_WIDTH;
+use table::layout::STATE_SIZE;
+use table::layout::STATE_WIDTH;
+use text_lines::header::HeaderLine;
+use text_lines::judge::judge_text;
 use text_print::print::write_table;
 use text_store::store::store_arcs;
 use text_store::store::store_states;
@@ -15,8 +21,9 @@ ghost use Prim.Native.Nat.{_+_, _*_, _≤_};
 ghost use Rattle.automata.specs.Calls.Outcome.{slicesOf, madeOf};
 ghost use Rattle.automata.specs.Calls.Read.{readOutcome};
 ghost use Rattle.automata.specs.Calls.Write.{writeOutcome};
-ghost use Rattle.memory.specs.Answers.{tableAs, judgedAs, lent};
-ghost use Rattle.lines.specs.Lines.{headerAs};
+ghost use Rattle.automata.specs.Layout.{arcWidth, headerWidth, labelWidth, stateWidth};
+ghost use Rattle.table.specs.Answers.{tableAs, judgedAs, lent};
+ghost use Rattle.text_lines.specs.Lines.{headerAs};
 ghost use Rattle.text.specs.Answers.{countsAnswer, writtenAs, refusedBy, writtenOf};
 
 // What is answered of a text that was judged.
@@ -33,13 +40,19 @@ fn answer_of(header: HeaderLine) -> TableAnswer
 pub fn read(text: &[u8], states: &mut [u8], arcs: &mut [u8]) -> TableAnswer
     ensures { λ r. ⌜ madeOf (tableAs r) (now (states .exit)) (now (arcs .exit)) ≡ readOutcome (now (text .entry)) (slicesOf (now (states .entry)) (now (arcs .entry))) ⌝ }
 {
-    let judged = judge_text(text, states.len() / 10, arcs.len() / 80);
+    let judged = judge_text(text, states.len() / STATE_SIZE, arcs.len() / ARC_SIZE);
     let answer = answer_of(judged);
     let HeaderLine::Counts(c) = judged else {
         return answer;
     };
-    store_states(text, 16, c.states, states);
-    store_arcs(text, 16 + c.states * 21, c.arcs, c.tapes, arcs);
+    store_states(text, HEADER_WIDTH, c.states, states);
+    store_arcs(
+        text,
+        HEADER_WIDTH + c.states * STATE_WIDTH,
+        c.arcs,
+        c.tapes,
+        arcs,
+    );
     answer
 }
 
@@ -62,9 +75,11 @@ fn refused_by(judged: Judged) -> WriteAnswer
 // How many bytes the text of a table has.
 fn text_length(counts: Counts) -> usize
     requires { ⌜ (counts .tapes ≤ 8) × ((counts .states ≤ 1024) × (counts .arcs ≤ 8192)) ⌝ }
-    ensures { λ r. ⌜ r ≡ 16 + counts .states * 21 + counts .arcs * (23 + counts .tapes * 9) ⌝ }
+    ensures { λ r. ⌜ r ≡ headerWidth + counts .states * stateWidth + counts .arcs * (arcWidth + counts .tapes * labelWidth) ⌝ }
 {
-    16 + counts.states * 21 + counts.arcs * (23 + counts.tapes * 9)
+    HEADER_WIDTH
+        + counts.states * STATE_WIDTH
+        + counts.arcs * (ARC_WIDTH + counts.tapes * LABEL_WIDTH)
 }
 
 // The call `write`: the text of a table in memory, in the output lent. The table is judged first, then the room in the output.

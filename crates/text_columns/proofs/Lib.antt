@@ -1,6 +1,6 @@
 -- Laws of columns that are read and written.
-pub mod ColumnLaws
-pub mod WriteLaws
-pub mod WeightLaws
-pub mod LabelLaws
-pub mod ValueLaws
+pub mod ColumnFacts
+pub mod WriteFacts
+pub mod WeightFacts
+pub mod LabelFacts
+pub mod ValueFacts

@@ -13,7 +13,8 @@ use Rattle.automata.specs.Symbols.{isDigit, isSymbol}
 use Rattle.automata.specs.Decimal.{blank, withDigit, decimal, leading}
 use Rattle.automata.specs.TableFormat.{weightNumber, stateNumber}
 use Rattle.automata.specs.TableText.{absent, weightColumns, labelColumns}
-use Rattle.memory.specs.Answers.{refusalNumber}
+use Rattle.automata.specs.Layout.{amountWidth, numberWidth}
+use Rattle.table.specs.Answers.{refusalNumber}
 use Rattle.text_columns.specs.declared.decimal.Number.{Number}
 use Rattle.text_columns.specs.declared.decimal.Number.the-variants.{Value, Refused}
 
@@ -39,7 +40,7 @@ readDecimal x = decimal (length x) .read x
 
 -- the number of a state, of so many, in the six places of a list
 unfoldable pub readStateNumber : ℕ → List ℕ → Answer ℕ
-readStateNumber states x = stateNumber states (decimal 6) .read x
+readStateNumber states x = stateNumber states (decimal numberWidth) .read x
 
 -- what columns come to behind the number n where they were judged: of each byte its last four bits, which are a digit's
 -- value, and 0 for a blank
@@ -75,7 +76,7 @@ absentMark x = sameList x absent
 
 -- a weight that is there, and one that may be absent, in the ten places of a list
 unfoldable pub readPresent : List ℕ → Answer ℕ
-readPresent x = weightNumber (decimal 10) .read x
+readPresent x = weightNumber (decimal amountWidth) .read x
 
 unfoldable pub readWeight : List ℕ → Answer (Option ℕ)
 readWeight x = weightColumns .read x

@@ -1,14 +1,15 @@
 // Decimal numbers, right-justified in fixed columns without leading zeros.
-use memory::answer::Judged;
-use memory::answer::Refusal;
+use table::answer::Judged;
+use table::answer::Refusal;
 ghost use mathlib.Core.Path.{_≡_};
 ghost use Prim.Native.Nat.{_+_, _*_, _/_, _≤_, _<_};
 ghost use lib.ListN.{length};
 ghost use Rattle.automata.specs.Answer.{forget};
 ghost use Rattle.automata.specs.Symbols.{isDigit};
 ghost use Rattle.automata.specs.Decimal.{withDigit, leadingColumn};
-ghost use Rattle.memory.specs.Region.{splice};
-ghost use Rattle.memory.specs.Answers.{judgedAs};
+ghost use Rattle.automata.specs.Layout.{amountWidth};
+ghost use Rattle.table.specs.Region.{splice};
+ghost use Rattle.table.specs.Answers.{judgedAs};
 ghost use Rattle.text_columns.specs.Columns.{numberAs, numberOf, lastColumn, readDecimal, readStateNumber, columnsValue, leadingText, decimalText, leadingByte};
 
 // A number read from its columns, or a refusal.
@@ -76,7 +77,7 @@ fn last_column(n: usize, c: u8) -> Number
 
 // The number in 1 to 10 columns.
 pub fn read_decimal(column: &[u8]) -> Number
-    requires { ⌜ (1 ≤ length (now column)) × (length (now column) ≤ 10) ⌝ }
+    requires { ⌜ (1 ≤ length (now column)) × (length (now column) ≤ amountWidth) ⌝ }
     ensures { λ r. ⌜ numberAs r ≡ readDecimal (now (column .entry)) ⌝ }
 {
     let last = column.len() - 1;
@@ -130,7 +131,7 @@ pub fn read_state_number(column: &[u8], states: usize) -> Number
 
 // The number in columns that were judged: of each byte its last four bits, the value of a digit and 0 for a blank.
 pub fn columns_value(column: &[u8]) -> usize
-    requires { ⌜ length (now column) ≤ 10 ⌝ }
+    requires { ⌜ length (now column) ≤ amountWidth ⌝ }
     ensures { λ r. ⌜ r ≡ columnsValue 0 (now (column .entry)) ⌝ }
 {
     let mut n: usize = 0;

@@ -3,15 +3,16 @@ use crate::decimal::Number;
 use crate::decimal::columns_value;
 use crate::decimal::judge_number;
 use crate::decimal::read_decimal;
-use memory::answer::Judged;
-use memory::answer::Refusal;
-use memory::record::Weight;
+use table::answer::Judged;
+use table::answer::Refusal;
+use table::record::Weight;
 ghost use mathlib.Core.Path.{_≡_};
 ghost use Prim.Native.Nat.{_≤_};
 ghost use lib.ListN.{length};
 ghost use Rattle.automata.specs.Answer.{forget};
-ghost use Rattle.memory.specs.Answers.{judgedAs};
-ghost use Rattle.memory.specs.Records.{optionOf};
+ghost use Rattle.automata.specs.Layout.{amountWidth};
+ghost use Rattle.table.specs.Answers.{judgedAs};
+ghost use Rattle.table.specs.Records.{optionOf};
 ghost use Rattle.text_columns.specs.Columns.{numberAs, oneIf, blankCount, absentMark, readPresent, readWeight, columnsWeight};
 
 // A test as a number: 1 where it passes.
@@ -36,7 +37,7 @@ pub fn leading_blanks(column: &[u8]) -> usize
 
 // Whether ten columns hold the mark of an absent weight.
 fn is_absent(column: &[u8]) -> bool
-    requires { ⌜ length (now column) ≡ 10 ⌝ }
+    requires { ⌜ length (now column) ≡ amountWidth ⌝ }
     ensures { λ r. ⌜ r ≡ absentMark (now (column .entry)) ⌝ }
 {
     if leading_blanks(column) != 9 {
@@ -47,7 +48,7 @@ fn is_absent(column: &[u8]) -> bool
 
 // A weight that is there, at most 999,999,999.
 pub fn read_present(column: &[u8]) -> Number
-    requires { ⌜ length (now column) ≡ 10 ⌝ }
+    requires { ⌜ length (now column) ≡ amountWidth ⌝ }
     ensures { λ r. ⌜ numberAs r ≡ readPresent (now (column .entry)) ⌝ }
 {
     let read = read_decimal(column);
@@ -62,7 +63,7 @@ pub fn read_present(column: &[u8]) -> Number
 
 // A weight that may be absent, judged.
 pub fn judge_weight(column: &[u8]) -> Judged
-    requires { ⌜ length (now column) ≡ 10 ⌝ }
+    requires { ⌜ length (now column) ≡ amountWidth ⌝ }
     ensures { λ r. ⌜ judgedAs r ≡ forget (readWeight (now (column .entry))) ⌝ }
 {
     if is_absent(column) {
@@ -73,7 +74,7 @@ pub fn judge_weight(column: &[u8]) -> Judged
 
 // The weight in columns that were judged: absent where they end with a minus sign.
 pub fn columns_weight(column: &[u8]) -> Weight
-    requires { ⌜ length (now column) ≡ 10 ⌝ }
+    requires { ⌜ length (now column) ≡ amountWidth ⌝ }
     ensures { λ r. ⌜ optionOf r ≡ columnsWeight (now (column .entry)) ⌝ }
 {
     if column[9] == 45 {

@@ -1,3 +1,3 @@
 -- Laws of the lines printed of a table.
-pub mod PrintedLaws
+pub mod PrintedFacts
 pub mod TablePrinted

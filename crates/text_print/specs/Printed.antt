@@ -6,9 +6,10 @@ use lib.Dec.{eqb}
 use lib.ListN.{take, drop, getD}
 use Rattle.automata.specs.Lists.{if}
 use Rattle.automata.specs.TableText.{labelColumns, weightColumns, headerLine}
-use Rattle.memory.specs.Region.{part}
-use Rattle.memory.specs.Endian.{le}
-use Rattle.memory.specs.declared.answer.Counts.{Counts}
+use Rattle.automata.specs.Layout.{amountWidth, labelSize, newline, numberWidth, weightSize}
+use Rattle.table.specs.Region.{part}
+use Rattle.table.specs.Endian.{le}
+use Rattle.table.specs.declared.answer.Counts.{Counts}
 use Rattle.text_columns.specs.Columns.{decimalText}
 use Rattle.text_store.specs.Recode.{recoded}
 
@@ -18,7 +19,7 @@ weightOfRecord x = weightColumns .write (if (eqb (getD x 0 0) 0) none (some (le 
 
 -- the line of the state in a record of 10 bytes
 unfoldable pub lineOfState : List ℕ → List ℕ
-lineOfState x = (weightOfRecord (take 5 x) ++ weightOfRecord (drop 5 x)) ++ (10 ∷ [])
+lineOfState x = (weightOfRecord (take weightSize x) ++ weightOfRecord (drop weightSize x)) ++ (newline ∷ [])
 
 -- the columns of the label in a record of 9 bytes
 unfoldable pub columnsOfLabel : List ℕ → List ℕ
@@ -26,11 +27,11 @@ columnsOfLabel x = labelColumns .write (take (getD x 0 0) (drop 1 x))
 
 -- source, target and weight in a record of an arc
 unfoldable pub numbersOfRecord : List ℕ → List ℕ
-numbersOfRecord x = decimalText 6 (le (part 0 2 x)) ++ (decimalText 6 (le (part 2 2 x)) ++ decimalText 10 (le (part 4 4 x)))
+numbersOfRecord x = decimalText numberWidth (le (part 0 2 x)) ++ (decimalText numberWidth (le (part 2 2 x)) ++ decimalText amountWidth (le (part 4 4 x)))
 
 -- the line of the arc in a record of 80 bytes, of a table with so many tapes
 unfoldable pub lineOfArc : ℕ → List ℕ → List ℕ
-lineOfArc tapes x = (numbersOfRecord x ++ recoded columnsOfLabel 9 tapes (drop 8 x)) ++ (10 ∷ [])
+lineOfArc tapes x = (numbersOfRecord x ++ recoded columnsOfLabel labelSize tapes (drop 8 x)) ++ (newline ∷ [])
 
 -- the header of a table
 unfoldable pub headerOf : Counts → List ℕ

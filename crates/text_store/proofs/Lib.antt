@@ -1,3 +1,3 @@
 -- Laws of records stored from a text.
-pub mod RecodeLaws
-pub mod StoredLaws
+pub mod RecodeFacts
+pub mod StoredFacts

@@ -4,13 +4,14 @@ use Prim.Native.Nat.{ℕ, _-_, _*_, _%_}
 use lib.ListN.{take, drop}
 use Rattle.automata.specs.Memory.{stateRecord, labelRecord, zeros}
 use Rattle.automata.specs.TableText.{afterBlanks}
-use Rattle.memory.specs.Endian.{toLe}
+use Rattle.automata.specs.Layout.{amountWidth, labelWidth, labelsColumn, labelsSize, numberWidth, weightColumn}
+use Rattle.table.specs.Endian.{toLe}
 use Rattle.text_columns.specs.Columns.{columnsValue, columnsWeight}
 use Rattle.text_store.specs.Recode.{recoded}
 
 -- the record of the state in a line
 unfoldable pub stateOfLine : List ℕ → List ℕ
-stateOfLine x = stateRecord .write (record { initial = columnsWeight (take 10 x); final = columnsWeight (take 10 (drop 10 x)) })
+stateOfLine x = stateRecord .write (record { initial = columnsWeight (take amountWidth x); final = columnsWeight (take amountWidth (drop amountWidth x)) })
 
 -- the record of the label in nine columns
 unfoldable pub labelOfColumns : List ℕ → List ℕ
@@ -19,13 +20,13 @@ labelOfColumns x = labelRecord .write (afterBlanks (drop 1 x))
 -- source, target and weight of the arc in a line, low bytes first
 unfoldable pub numberBytes : List ℕ → List ℕ
 numberBytes x =
-    toLe 2 (columnsValue 0 (take 6 x) % 65536)
-    ++ (toLe 2 (columnsValue 0 (take 6 (drop 6 x)) % 65536) ++ toLe 4 (columnsValue 0 (take 10 (drop 12 x)) % 4294967296))
+    toLe 2 (columnsValue 0 (take numberWidth x) % 65536)
+    ++ (toLe 2 (columnsValue 0 (take numberWidth (drop numberWidth x)) % 65536) ++ toLe 4 (columnsValue 0 (take amountWidth (drop weightColumn x)) % 4294967296))
 
 -- the places of the labels of an arc where there are none
 unfoldable pub noLabels : List ℕ
-noLabels = zeros 72
+noLabels = zeros labelsSize
 
 -- the record of the arc in a line, of a table with so many tapes
 unfoldable pub arcOfLine : ℕ → List ℕ → List ℕ
-arcOfLine tapes x = numberBytes x ++ (recoded labelOfColumns 9 tapes (drop 22 x) ++ zeros ((8 - tapes) * 9))
+arcOfLine tapes x = numberBytes x ++ (recoded labelOfColumns labelWidth tapes (drop labelsColumn x) ++ zeros ((8 - tapes) * labelWidth))

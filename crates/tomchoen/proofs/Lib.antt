@@ -1,4 +1,4 @@
 -- Laws of answers as numbers.
-pub mod WordLaws
-pub mod FitLaws
-pub mod WeightLaws
+pub mod WordFacts
+pub mod FitFacts
+pub mod WeightFacts

@@ -1,11 +1,11 @@
 // The calls for C. A slice is a pointer and a length; slices of a call must not overlap, but two only read may.
-use c_words::word::bytes_word;
-use c_words::word::forecast_word;
-use c_words::word::path_word;
-use c_words::word::table_word;
-use c_words::word::weight_word;
-use least_path::record::path_into;
-use memory::answer::Counts;
+use c_answers::word::bytes_word;
+use c_answers::word::forecast_word;
+use c_answers::word::path_word;
+use c_answers::word::table_word;
+use c_answers::word::weight_word;
+use path::record::path_into;
+use table::answer::Counts;
 ghost use mathlib.Core.Path.{_≡_};
 ghost use Rattle.automata.specs.TapePair.{tapesOf};
 ghost use Rattle.automata.specs.Memory.{memoryOf};
@@ -22,7 +22,7 @@ ghost use Rattle.automata.specs.Calls.Lookup.{lookupOutcome};
 ghost use Rattle.automata.specs.Calls.LeastPath.{pathRecorded};
 ghost use Rattle.automata.specs.Calls.Forecast.{forecastRecorded};
 ghost use Rattle.pairs.specs.PairBytes.{pairsOf};
-ghost use Rattle.c_words.specs.Words.{tellsMade, toldMade, tellsBuilt, toldBuilt, tellsJoined, toldJoined, tellsWritten, toldWritten, tellsFound, toldFound, tellsRecorded, toldRecorded, tellsPath, toldPath};
+ghost use Rattle.c_answers.specs.Words.{tellsMade, toldMade, tellsBuilt, toldBuilt, tellsJoined, toldJoined, tellsWritten, toldWritten, tellsFound, toldFound, tellsRecorded, toldRecorded, tellsPath, toldPath};
 
 // Reads the text of a table.
 #[no_mangle]
@@ -206,7 +206,7 @@ pub extern "C" fn tomchoen_union(
         states: second_states,
         arcs: second_arcs,
     };
-    let answer = columns::union::union(
+    let answer = tapes::union::union(
         first,
         first_state_bytes,
         first_arc_bytes,
@@ -238,7 +238,7 @@ pub extern "C" fn tomchoen_project(
         states,
         arcs,
     };
-    let answer = columns::project::project(
+    let answer = tapes::project::project(
         counts,
         state_bytes,
         arc_bytes,
@@ -268,7 +268,7 @@ pub extern "C" fn tomchoen_drop(
         states,
         arcs,
     };
-    let answer = columns::drop::drop_tapes(
+    let answer = tapes::drop::drop_tapes(
         counts,
         state_bytes,
         arc_bytes,

@@ -1,8 +1,8 @@
 -- `agree_text::agree_text` meets its contract. Assumes nothing.
 use mathlib.Core.Path.{refl}
 use native.Mathlib.Omega.{arith}
-use Rattle.memory.proofs.Laws.{prefix-length}
-use Rattle.agree_text.proofs.KeptLaws.{agree-refused, agree-line, line-bounds, wrote-as}
+use Rattle.table.proofs.RegionFacts.{prefix-length}
+use Rattle.agree_text.proofs.KeptFacts.{agree-refused, agree-line, line-bounds, wrote-as}
 use borrow.Author.Needs.{needs}
 use Rattle.agree_text.proofs.agree_text.Statement.{statement}
 use Rattle.agree_text.proofs.agree_text.Tie as tie

@@ -1,14 +1,14 @@
 -- `agree_text::read_pair_line` meets its contract. Assumes nothing.
 use native.Mathlib.Omega.{arith}
 use denote.Ref.{now}
-use Rattle.agree_text.proofs.FirstLaws.{line-refused, line-told, line-room, line-given}
+use Rattle.agree_text.proofs.FirstFacts.{line-refused, line-told, line-room, line-given}
 use borrow.Author.Needs.{needs}
 use Rattle.agree_text.proofs.read_pair_line.Statement.{statement}
 use Rattle.agree_text.proofs.read_pair_line.Tie as tie
 use Rattle.agree_text.proofs.read_pair_line.Reads as reads
 use Rattle.agree_text.proofs.read_pair_line.Lts as lts
-use Rattle.pair_line.proofs.line.read_line.Reads as read-line-reads
-use Rattle.pair_line.proofs.pair.store_pairs.Reads as store-pairs-reads
+use Rattle.agree_line.proofs.line.read_line.Reads as read-line-reads
+use Rattle.agree_line.proofs.pair.store_pairs.Reads as store-pairs-reads
 
 read-line-requires : tie.Need-read-line-requires
 read-line-requires c κs = search needs

@@ -1,15 +1,15 @@
 -- `agree_text::write_refusal` meets its contract. Assumes nothing.
 use mathlib.Core.Path.{sym, _∙_}
 use lib.ListN.{length-set}
-use Rattle.agree_text.proofs.RefusalLaws.{refusal-written, refusal-length}
+use Rattle.agree_text.proofs.RefusalFacts.{refusal-written, refusal-length}
 use borrow.Author.Needs.{needs}
 use Rattle.agree_text.proofs.write_refusal.Statement.{statement}
 use Rattle.agree_text.proofs.write_refusal.Tie as tie
 use Rattle.agree_text.proofs.write_refusal.Reads as reads
 use Rattle.agree_text.proofs.write_refusal.Lts as lts
 use Rattle.text_columns.proofs.decimal.write_decimal.Reads as write-decimal-reads
-use Rattle.memory.proofs.answer.refusal_number.Reads as refusal-number-reads
-use Rattle.memory.proofs.bytes.copy_into.Reads as copy-into-reads
+use Rattle.table.proofs.answer.refusal_number.Reads as refusal-number-reads
+use Rattle.table.proofs.bytes.copy_into.Reads as copy-into-reads
 
 slice-aggregate-copy-into : tie.Need-slice-aggregate-copy-into
 slice-aggregate-copy-into c = search needs

@@ -1,12 +1,12 @@
 -- `delays::closable` meets its contract. Assumes nothing.
-use Rattle.delays.proofs.PairLaws.{closable-not, closable-then}
+use Rattle.delays.proofs.PairFacts.{closable-not, closable-then}
 use borrow.Author.Needs.{needs}
 use Rattle.delays.proofs.closable.Statement.{statement}
 use Rattle.delays.proofs.closable.Tie as tie
 use Rattle.delays.proofs.closable.Reads as reads
 use Rattle.delays.proofs.closable.Lts as lts
 use Rattle.delays.proofs.within_delay.Reads as within-delay-reads
-use Rattle.memory.proofs.bytes.get16.Reads as get16-reads
+use Rattle.table.proofs.bytes.get16.Reads as get16-reads
 
 get16-requires : tie.Need-get16-requires
 get16-requires c κs = search needs

@@ -1,5 +1,5 @@
 -- `delays::close_pair` meets its contract. Assumes nothing.
-use Rattle.delays.proofs.PairLaws.{closes-pair}
+use Rattle.delays.proofs.PairFacts.{closes-pair}
 use denote.Ref.{now}
 use native.Mathlib.Omega.{arith}
 use borrow.Author.Needs.{needs}
@@ -7,7 +7,7 @@ use Rattle.delays.proofs.close_pair.Statement.{statement}
 use Rattle.delays.proofs.close_pair.Tie as tie
 use Rattle.delays.proofs.close_pair.Reads as reads
 use Rattle.delays.proofs.close_pair.Lts as lts
-use Rattle.relaxation.proofs.least_delays.Reads as least-delays-reads
+use Rattle.delays_relaxation.proofs.least_delays.Reads as least-delays-reads
 
 cast-first : tie.Need-cast-first
 cast-first c = search needs

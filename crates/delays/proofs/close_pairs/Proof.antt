@@ -1,5 +1,5 @@
 -- `delays::close_pairs` meets its contract. Assumes nothing.
-use Rattle.delays.proofs.PairLaws.{pairs-start, pairs-turn, pairs-end}
+use Rattle.delays.proofs.PairFacts.{pairs-start, pairs-turn, pairs-end}
 use Rattle.delays.specs.ClosingRegion.{ClosesPairs}
 use native.Mathlib.Omega.{arith}
 use Prim.Native.Nat.{_-_, _≤_}

@@ -1,6 +1,6 @@
 -- `delays::closing_tables` meets its contract. Assumes nothing.
-use Rattle.delays.proofs.ClosingLaws.{sound-listable}
-use Rattle.memory.specs.Answers.{lent}
+use Rattle.delays.proofs.ClosingFacts.{sound-listable}
+use Rattle.table.specs.Answers.{lent}
 use denote.Ref.{now}
 use borrow.Author.Needs.{needs}
 use Rattle.delays.proofs.closing_tables.Statement.{statement}
@@ -8,7 +8,7 @@ use Rattle.delays.proofs.closing_tables.Tie as tie
 use Rattle.delays.proofs.closing_tables.Reads as reads
 use Rattle.delays.proofs.closing_tables.Lts as lts
 use Rattle.delays.proofs.write_tables.Reads as write-tables-reads
-use Rattle.relaxation.proofs.listing.list_arcs.Reads as list-arcs-reads
+use Rattle.delays_relaxation.proofs.listing.list_arcs.Reads as list-arcs-reads
 
 slice-aggregate-list-arcs : tie.Need-slice-aggregate-list-arcs
 slice-aggregate-list-arcs c = search needs

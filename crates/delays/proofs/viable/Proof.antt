@@ -1,5 +1,5 @@
 -- `delays::viable` meets its contract. Assumes nothing.
-use Rattle.delays.proofs.TestLaws.{tests}
+use Rattle.delays.proofs.TestFacts.{tests}
 use borrow.Author.Needs.{needs}
 use Rattle.delays.proofs.viable.Statement.{statement}
 use Rattle.delays.proofs.viable.Tie as tie

@@ -1,5 +1,5 @@
 -- `delays::viable_at` meets its contract. Assumes nothing.
-use Rattle.delays.proofs.PairLaws.{closable-start, viable-not, viable-then, closable-stop, closable-turn, closable-end}
+use Rattle.delays.proofs.PairFacts.{closable-start, viable-not, viable-then, closable-stop, closable-turn, closable-end}
 use Rattle.delays.specs.ClosingRegion.{closableFrom}
 use Prim.Native.Nat.{ℕ}
 use lib.ListN.{length}
@@ -12,7 +12,7 @@ use Rattle.delays.proofs.viable_at.Tie as tie
 use Rattle.delays.proofs.viable_at.Reads as reads
 use Rattle.delays.proofs.viable_at.Lts as lts
 use Rattle.delays.proofs.closable.Reads as closable-reads
-use Rattle.memory.proofs.bytes.get16.Reads as get16-reads
+use Rattle.table.proofs.bytes.get16.Reads as get16-reads
 
 abbrev Inv-loop : tie.InvT-loop
 Inv-loop work at used firsts seconds h₀ h =

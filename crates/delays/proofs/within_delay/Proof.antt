@@ -1,5 +1,5 @@
 -- `delays::within_delay` meets its contract. Assumes nothing.
-use Rattle.delays.proofs.PairLaws.{within-endless, within-sum}
+use Rattle.delays.proofs.PairFacts.{within-endless, within-sum}
 use borrow.Author.Needs.{needs}
 use Rattle.delays.proofs.within_delay.Statement.{statement}
 use Rattle.delays.proofs.within_delay.Tie as tie

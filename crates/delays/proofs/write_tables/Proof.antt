@@ -1,6 +1,6 @@
 -- `delays::write_tables` meets its contract. Assumes nothing.
-use Rattle.delays.proofs.ClosingLaws.{sound-readable, sound-within, writes-closing}
-use Rattle.memory.specs.Answers.{lent}
+use Rattle.delays.proofs.ClosingFacts.{sound-readable, sound-within, writes-closing}
+use Rattle.table.specs.Answers.{lent}
 use mathlib.Core.Path.{_≡_, sym, _∙_}
 use lib.ListN.{length, length-map}
 use denote.Ref.{now}

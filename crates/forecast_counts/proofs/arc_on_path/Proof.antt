@@ -1,5 +1,5 @@
 -- `forecast_counts::arc_on_path` meets its contract. Assumes nothing.
-use Rattle.forecast_counts.proofs.DelayLaws.{arc-not, arc-if}
+use Rattle.forecast_counts.proofs.DelayFacts.{arc-not, arc-if}
 use borrow.Author.Needs.{needs}
 use Rattle.forecast_counts.proofs.arc_on_path.Statement.{statement}
 use Rattle.forecast_counts.proofs.arc_on_path.Tie as tie

@@ -1,5 +1,5 @@
 -- `forecast_counts::both_at` meets its contract. Assumes nothing.
-use Rattle.forecast_counts.proofs.PathLaws.{both-first, both-second}
+use Rattle.forecast_counts.proofs.PathFacts.{both-first, both-second}
 use borrow.Author.Needs.{needs}
 use Rattle.forecast_counts.proofs.both_at.Statement.{statement}
 use Rattle.forecast_counts.proofs.both_at.Tie as tie

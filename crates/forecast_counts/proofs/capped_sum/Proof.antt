@@ -1,5 +1,5 @@
 -- `forecast_counts::capped_sum` meets its contract. Assumes nothing.
-use Rattle.forecast_counts.proofs.DelayLaws.{sum-turn, sum-end}
+use Rattle.forecast_counts.proofs.DelayFacts.{sum-turn, sum-end}
 use Rattle.automata.specs.Forecast.{cappedSum}
 use native.Mathlib.Omega.{arith}
 use Prim.Native.Nat.{_-_, _≤_}

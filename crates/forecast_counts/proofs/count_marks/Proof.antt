@@ -1,5 +1,5 @@
 -- `forecast_counts::count_marks` meets its contract. Assumes nothing.
-use Rattle.forecast_counts.proofs.SymbolLaws.{marks-turn, marks-end}
+use Rattle.forecast_counts.proofs.SymbolFacts.{marks-turn, marks-end}
 use Rattle.forecast_counts.specs.Symbols.{marked}
 use lib.ListN.{length, drop}
 use native.Mathlib.Omega.{arith}

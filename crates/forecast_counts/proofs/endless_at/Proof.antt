@@ -1,11 +1,11 @@
 -- `forecast_counts::endless_at` meets its contract. Assumes nothing.
-use Rattle.forecast_counts.proofs.PathLaws.{endless-not, endless-if}
+use Rattle.forecast_counts.proofs.PathFacts.{endless-not, endless-if}
 use borrow.Author.Needs.{needs}
 use Rattle.forecast_counts.proofs.endless_at.Statement.{statement}
 use Rattle.forecast_counts.proofs.endless_at.Tie as tie
 use Rattle.forecast_counts.proofs.endless_at.Reads as reads
 use Rattle.forecast_counts.proofs.endless_at.Lts as lts
-use Rattle.memory.proofs.bytes.get16.Reads as get16-reads
+use Rattle.table.proofs.bytes.get16.Reads as get16-reads
 
 get16-requires : tie.Need-get16-requires
 get16-requires c κs = search needs

@@ -1,8 +1,8 @@
 -- `forecast_counts::greatest_delay` meets its contract. Assumes nothing.
-use Rattle.forecast_counts.proofs.DelayLaws.{max-zero, greatest-turn, greatest-end}
+use Rattle.forecast_counts.proofs.DelayFacts.{max-zero, greatest-turn, greatest-end}
 use Rattle.forecast_counts.specs.Counts.{marksFrom, greatestOf}
-use Rattle.relaxation.specs.Edges.{edges}
-use Rattle.relaxation.proofs.RunLaws.{joined-at}
+use Rattle.delays_relaxation.specs.Edges.{edges}
+use Rattle.delays_relaxation.proofs.RunFacts.{joined-at}
 use native.Mathlib.Omega.{arith}
 use Prim.Native.Nat.{_+_, _-_, _*_, _≤_, max}
 use mathlib.Core.Path.{_≡_, _∙_}
@@ -13,11 +13,12 @@ use Rattle.forecast_counts.proofs.greatest_delay.Tie as tie
 use Rattle.forecast_counts.proofs.greatest_delay.Reads as reads
 use Rattle.forecast_counts.proofs.greatest_delay.Lts as lts
 use Rattle.forecast_counts.proofs.raise.Reads as raise-reads
-use Rattle.relaxation.proofs.edge_at.Reads as edge-at-reads
+use Rattle.delays_relaxation.proofs.edge_at.Reads as edge-at-reads
+use Rattle.automata.specs.Layout.{arcSize}
 
 abbrev Inv-loop : tie.InvT-loop
 Inv-loop arcs count first second work states best₀ from₀ left₀ best from left =
-    (left ≤ count) × (from + 80 * left ≡ 80 * count)
+    (left ≤ count) × (from + arcSize * left ≡ arcSize * count)
     × (max best (greatestOf (marksFrom 0 states work) (edges false first second from left arcs)) ≡ greatestOf (marksFrom 0 states work) (edges false first second 0 count arcs))
 
 abbrev μ-loop : tie.MeasureT-loop

@@ -1,5 +1,5 @@
 -- `forecast_counts::meets_both` meets its contract. Assumes nothing.
-use Rattle.forecast_counts.proofs.PathLaws.{both-found, both-turn, both-end}
+use Rattle.forecast_counts.proofs.PathFacts.{both-found, both-turn, both-end}
 use Rattle.forecast_counts.specs.Counts.{bothFrom}
 use lib.ListN.{length}
 use native.Mathlib.Omega.{arith}
@@ -11,9 +11,10 @@ use Rattle.forecast_counts.proofs.meets_both.Tie as tie
 use Rattle.forecast_counts.proofs.meets_both.Reads as reads
 use Rattle.forecast_counts.proofs.meets_both.Lts as lts
 use Rattle.forecast_counts.proofs.both_at.Reads as both-at-reads
+use Rattle.automata.specs.Layout.{delaysSize}
 
 abbrev Inv-loop : tie.InvT-loop
-Inv-loop work states at₀ left₀ at left = (at + 64 * left ≤ length work) × (bothFrom at left work ≡ bothFrom 0 states work)
+Inv-loop work states at₀ left₀ at left = (at + delaysSize * left ≤ length work) × (bothFrom at left work ≡ bothFrom 0 states work)
 
 abbrev μ-loop : tie.MeasureT-loop
 μ-loop work states at₀ left₀ at left = left

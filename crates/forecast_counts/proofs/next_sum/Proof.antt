@@ -1,5 +1,5 @@
 -- `forecast_counts::next_sum` meets its contract. Assumes nothing.
-use Rattle.forecast_counts.proofs.DelayLaws.{product-fits, cut-over, cut-within}
+use Rattle.forecast_counts.proofs.DelayFacts.{product-fits, cut-over, cut-within}
 use native.Mathlib.Omega.{arith}
 use borrow.Author.Needs.{needs}
 use Rattle.forecast_counts.proofs.next_sum.Statement.{statement}

@@ -1,5 +1,5 @@
 -- `forecast_counts::note_arcs` meets its contract. Assumes nothing.
-use Rattle.forecast_counts.proofs.SymbolLaws.{short-first, short-second, arcs-turn, arcs-end}
+use Rattle.forecast_counts.proofs.SymbolFacts.{short-first, short-second, arcs-turn, arcs-end}
 use Rattle.forecast_counts.specs.Symbols.{symbolsFrom, noted}
 use lib.ListN.{length}
 use native.Mathlib.Omega.{arith}
@@ -11,10 +11,11 @@ use Rattle.forecast_counts.proofs.note_arcs.Tie as tie
 use Rattle.forecast_counts.proofs.note_arcs.Reads as reads
 use Rattle.forecast_counts.proofs.note_arcs.Lts as lts
 use Rattle.forecast_counts.proofs.note_label.Reads as note-label-reads
+use Rattle.automata.specs.Layout.{arcSize}
 
 abbrev Inv-loop : tie.InvT-loop
 Inv-loop seen₀ arcs count first second from₀ left₀ seen from left =
-    (left ≤ count) × (from + 80 * left ≡ 80 * count) × (length seen ≡ length seen₀)
+    (left ≤ count) × (from + arcSize * left ≡ arcSize * count) × (length seen ≡ length seen₀)
     × (noted seen (symbolsFrom first second from left arcs) ≡ noted seen₀ (symbolsFrom first second 0 count arcs))
 
 abbrev μ-loop : tie.MeasureT-loop

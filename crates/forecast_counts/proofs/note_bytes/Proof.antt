@@ -1,8 +1,8 @@
 -- `forecast_counts::note_bytes` meets its contract. Assumes nothing.
-use Rattle.forecast_counts.proofs.SymbolLaws.{bytes-turn, bytes-end}
+use Rattle.forecast_counts.proofs.SymbolFacts.{bytes-turn, bytes-end}
 use Rattle.forecast_counts.specs.Symbols.{noted}
 use Rattle.automata.specs.TapePair.{reading}
-use Rattle.memory.specs.Region.{part}
+use Rattle.table.specs.Region.{part}
 use lib.ListN.{length, length-set}
 use native.Mathlib.Omega.{arith}
 use Prim.Native.Nat.{_+_, _-_, _≤_}
@@ -13,7 +13,7 @@ use Rattle.forecast_counts.proofs.note_bytes.Statement.{statement}
 use Rattle.forecast_counts.proofs.note_bytes.Tie as tie
 use Rattle.forecast_counts.proofs.note_bytes.Reads as reads
 use Rattle.forecast_counts.proofs.note_bytes.Lts as lts
-use Rattle.memory.proofs.symbol.read_symbol.Reads as read-symbol-reads
+use Rattle.table.proofs.symbol.read_symbol.Reads as read-symbol-reads
 
 abbrev Inv-loop : tie.InvT-loop
 Inv-loop seen₀ bytes at count from₀ left₀ seen from left =

@@ -1,11 +1,11 @@
 -- `forecast_counts::on_path` meets its contract. Assumes nothing.
-use Rattle.forecast_counts.proofs.PathLaws.{off-path, on-path-if}
+use Rattle.forecast_counts.proofs.PathFacts.{off-path, on-path-if}
 use borrow.Author.Needs.{needs}
 use Rattle.forecast_counts.proofs.on_path.Statement.{statement}
 use Rattle.forecast_counts.proofs.on_path.Tie as tie
 use Rattle.forecast_counts.proofs.on_path.Reads as reads
 use Rattle.forecast_counts.proofs.on_path.Lts as lts
-use Rattle.memory.proofs.bytes.get16.Reads as get16-reads
+use Rattle.table.proofs.bytes.get16.Reads as get16-reads
 
 add-get16 : tie.Need-add-get16
 add-get16 c = search needs

@@ -1,7 +1,8 @@
 -- `forecast_counts::path_states` meets its contract. Assumes nothing.
-use Rattle.forecast_counts.proofs.PathLaws.{path-turn, path-end}
+use Rattle.forecast_counts.proofs.PathFacts.{path-turn, path-end}
 use Rattle.forecast_counts.specs.Counts.{marksFrom}
 use Rattle.automata.specs.Trim.{rank}
+use Rattle.automata.specs.Layout.{delaysSize}
 use lib.ListN.{length}
 use native.Mathlib.Omega.{arith}
 use Prim.Native.Nat.{_+_, _-_, _*_, _≤_}
@@ -16,7 +17,7 @@ use Rattle.forecast_counts.proofs.one_if.Reads as one-if-reads
 
 abbrev Inv-loop : tie.InvT-loop
 Inv-loop work states found₀ at₀ left₀ found at left =
-    (found + left ≤ states) × (at + 64 * left ≤ length work) × (found + rank (marksFrom at left work) left ≡ rank (marksFrom 0 states work) states)
+    (found + left ≤ states) × (at + delaysSize * left ≤ length work) × (found + rank (marksFrom at left work) left ≡ rank (marksFrom 0 states work) states)
 
 abbrev μ-loop : tie.MeasureT-loop
 μ-loop work states found₀ at₀ left₀ found at left = left

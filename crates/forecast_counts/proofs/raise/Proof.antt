@@ -1,5 +1,5 @@
 -- `forecast_counts::raise` meets its contract. Assumes nothing.
-use Rattle.forecast_counts.proofs.DelayLaws.{raised-small, raised-on, raised-off}
+use Rattle.forecast_counts.proofs.DelayFacts.{raised-small, raised-on, raised-off}
 use Rattle.forecast_counts.specs.Counts.{arcOnPath}
 use denote.Ref.{now}
 use borrow.Author.Needs.{needs}

@@ -1,5 +1,5 @@
 -- `forecast_counts::symbols_used` meets its contract. Assumes nothing.
-use Rattle.forecast_counts.proofs.SymbolLaws.{symbols-counted}
+use Rattle.forecast_counts.proofs.SymbolFacts.{symbols-counted}
 use denote.Ref.{now}
 use native.Mathlib.Omega.{arith}
 use borrow.Author.Needs.{needs}

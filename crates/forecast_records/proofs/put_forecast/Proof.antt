@@ -1,5 +1,5 @@
 -- `forecast_records::put_forecast` meets its contract. Assumes nothing.
-use Rattle.forecast_records.proofs.RecordLaws.{record-mixed, record-over, record-number}
+use Rattle.forecast_records.proofs.RecordFacts.{record-mixed, record-over, record-number}
 use borrow.Author.Needs.{needs}
 use Rattle.forecast_records.proofs.put_forecast.Statement.{statement}
 use Rattle.forecast_records.proofs.put_forecast.Tie as tie

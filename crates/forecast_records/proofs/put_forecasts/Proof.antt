@@ -1,13 +1,13 @@
 -- `forecast_records::put_forecasts` meets its contract. Assumes nothing.
-use Rattle.forecast_records.proofs.RecordLaws.{records-turn, records-end}
+use Rattle.forecast_records.proofs.RecordFacts.{records-turn, records-end}
 use Prim.Native.Nat.{_-_, _≤_}
 use mathlib.Core.Path.{_≡_, refl, sym, _∙_}
 use mathlib.Core.List.{map}
 use native.Mathlib.Omega.{arith}
 use lib.ListN.{length, take, length-map}
 use Rattle.automata.specs.Calls.Forecast.{forecastRecords}
-use Rattle.memory.specs.Region.{splice}
-use Rattle.memory.proofs.Laws.{splice-none}
+use Rattle.table.specs.Region.{splice}
+use Rattle.table.proofs.RegionFacts.{splice-none}
 use Rattle.forecast_records.specs.Values.{forecastAs}
 use borrow.Author.Needs.{needs}
 use Rattle.forecast_records.proofs.put_forecasts.Statement.{statement}

@@ -1,11 +1,11 @@
 -- `forecast_records::put_parts` meets its contract. Assumes nothing.
-use Rattle.forecast_records.proofs.RecordLaws.{parts-stored}
+use Rattle.forecast_records.proofs.RecordFacts.{parts-stored}
 use borrow.Author.Needs.{needs}
 use Rattle.forecast_records.proofs.put_parts.Statement.{statement}
 use Rattle.forecast_records.proofs.put_parts.Tie as tie
 use Rattle.forecast_records.proofs.put_parts.Reads as reads
 use Rattle.forecast_records.proofs.put_parts.Lts as lts
-use Rattle.memory.proofs.bytes.put16.Reads as put16-reads
+use Rattle.table.proofs.bytes.put16.Reads as put16-reads
 
 put16-requires : tie.Need-put16-requires
 put16-requires c κs = search needs

@@ -31,7 +31,7 @@ use Rattle.laws.specs.CallLaws.{JoinLent, joinMade}
 use Rattle.automata.proofs.ListFacts
 use Rattle.automata.proofs.TestFacts.{and-T, all-∈, eqb-false}
 use Rattle.automata.proofs.SoundFacts.{tableOf-is, sound, sound-decoded}
-use Rattle.automata.proofs.MemoryLaws.{decode-only}
+use Rattle.automata.proofs.MemoryFacts.{decode-only}
 use Rattle.laws.proofs.Results.{memory-formed, kept-on}
 use Rattle.laws.proofs.Lemmas.CallTables.{
   gave-table,

@@ -3,7 +3,7 @@ use mathlib.Core.Path.{_≡_, refl, sym, _∙_}
 use Prim.Native.Nat.{_≤_, _-_}
 use lib.ListN.{length, drop}
 use Rattle.automata.specs.IntersectCall.{distinct}
-use Rattle.pairs.proofs.ListLaws.{distinct-twice, distinct-later, distinct-end}
+use Rattle.pairs.proofs.ListFacts.{distinct-twice, distinct-later, distinct-end}
 use borrow.Author.Needs.{needs}
 use Rattle.pairs.proofs.all_distinct.Statement.{statement}
 use Rattle.pairs.proofs.all_distinct.Tie as tie

@@ -6,7 +6,7 @@ use lib.ListN.{length, drop}
 use Rattle.automata.specs.Join.{within}
 use Rattle.automata.specs.TapePair.{tapesOf}
 use Rattle.pairs.specs.PairBytes.{pairsOf}
-use Rattle.pairs.proofs.PairLaws.{within-first, within-second, within-next, within-end}
+use Rattle.pairs.proofs.PairFacts.{within-first, within-second, within-next, within-end}
 use borrow.Author.Tests.{not-true, not-false}
 use borrow.Author.Needs.{needs}
 use Rattle.pairs.proofs.all_within.Statement.{statement}

@@ -1,5 +1,5 @@
 -- `pairs::in_turn` meets its contract. Assumes nothing.
-use Rattle.pairs.proofs.TurnLaws.{turn-short}
+use Rattle.pairs.proofs.TurnFacts.{turn-short}
 use borrow.Author.Needs.{needs}
 use Rattle.pairs.proofs.in_turn.Statement.{statement}
 use Rattle.pairs.proofs.in_turn.Tie as tie

@@ -7,7 +7,7 @@ use Rattle.automata.specs.TapePair.{Pair, TapePair, tapesOf}
 use Rattle.automata.specs.Lists.{and}
 use Rattle.automata.specs.IntersectCall.{distinct}
 use Rattle.pairs.specs.PairBytes.{pairsOf}
-use Rattle.pairs.proofs.TestLaws.{separate-is, many, few}
+use Rattle.pairs.proofs.TestFacts.{separate-is, many, few}
 use borrow.Author.Needs.{needs}
 use Rattle.pairs.proofs.join_once.Statement.{statement}
 use Rattle.pairs.proofs.join_once.Tie as tie

@@ -1,5 +1,5 @@
 -- `pairs::judge_join_pairs` meets its contract. Assumes nothing.
-use Rattle.pairs.proofs.TestLaws.{separate-is, once-few, join-judged}
+use Rattle.pairs.proofs.TestFacts.{separate-is, once-few, join-judged}
 use mathlib.Core.Path.{_∙_}
 use denote.Ref.{now}
 use Rattle.pairs.specs.PairBytes.{pairsOf}

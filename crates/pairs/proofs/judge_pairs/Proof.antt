@@ -1,5 +1,5 @@
 -- `pairs::judge_pairs` meets its contract. Assumes nothing.
-use Rattle.pairs.proofs.TestLaws.{once-few, keep-judged}
+use Rattle.pairs.proofs.TestFacts.{once-few, keep-judged}
 use borrow.Author.Needs.{needs}
 use Rattle.pairs.proofs.judge_pairs.Statement.{statement}
 use Rattle.pairs.proofs.judge_pairs.Tie as tie

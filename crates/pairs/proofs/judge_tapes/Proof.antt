@@ -1,6 +1,6 @@
 -- `pairs::judge_tapes` meets its contract. Assumes nothing.
 use mathlib.Core.Path.{refl}
-use Rattle.pairs.proofs.TestLaws.{once-few, tapes-judged}
+use Rattle.pairs.proofs.TestFacts.{once-few, tapes-judged}
 use borrow.Author.Needs.{needs}
 use Rattle.pairs.proofs.judge_tapes.Statement.{statement}
 use Rattle.pairs.proofs.judge_tapes.Tie as tie

@@ -6,7 +6,7 @@ use denote.Ref.{now}
 use Rattle.automata.specs.TapePair.{TapePair, tapesOf}
 use Rattle.automata.specs.IntersectCall.{distinct, named}
 use Rattle.pairs.specs.PairBytes.{pairsOf}
-use Rattle.pairs.proofs.TestLaws.{many, few}
+use Rattle.pairs.proofs.TestFacts.{many, few}
 use borrow.Author.Needs.{needs}
 use Rattle.pairs.proofs.keep_once.Statement.{statement}
 use Rattle.pairs.proofs.keep_once.Tie as tie

@@ -5,7 +5,7 @@ use Prim.Native.Nat.{_≤_, _-_}
 use lib.ListN.{length, drop}
 use Rattle.automata.specs.TapePair.{limitsFit}
 use Rattle.pairs.specs.PairBytes.{pairsOf}
-use Rattle.pairs.proofs.PairLaws.{fit-not, fit-next, fit-end}
+use Rattle.pairs.proofs.PairFacts.{fit-not, fit-next, fit-end}
 use borrow.Author.Needs.{needs}
 use Rattle.pairs.proofs.limits_fit.Statement.{statement}
 use Rattle.pairs.proofs.limits_fit.Tie as tie

@@ -1,6 +1,6 @@
 -- `pairs::moved_pairs` meets its contract. Assumes nothing.
-use Rattle.pairs.proofs.PairLaws.{moved-is}
-use Rattle.pairs.proofs.ListLaws.{length-made}
+use Rattle.pairs.proofs.PairFacts.{moved-is}
+use Rattle.pairs.proofs.ListFacts.{length-made}
 use borrow.Author.Needs.{needs}
 use Rattle.pairs.proofs.moved_pairs.Statement.{statement}
 use Rattle.pairs.proofs.moved_pairs.Tie as tie

@@ -1,13 +1,13 @@
 -- `pairs::named_once` meets its contract. Assumes nothing.
 use native.Mathlib.Omega.{arith}
-use Rattle.memory.proofs.Laws.{prefix-length}
-use Rattle.pairs.proofs.ListLaws.{joined-is, both-distinct}
+use Rattle.table.proofs.RegionFacts.{prefix-length}
+use Rattle.pairs.proofs.ListFacts.{joined-is, both-distinct}
 use borrow.Author.Needs.{needs}
 use Rattle.pairs.proofs.named_once.Statement.{statement}
 use Rattle.pairs.proofs.named_once.Tie as tie
 use Rattle.pairs.proofs.named_once.Reads as reads
 use Rattle.pairs.proofs.named_once.Lts as lts
-use Rattle.memory.proofs.bytes.copy_into.Reads as copy-into-reads
+use Rattle.table.proofs.bytes.copy_into.Reads as copy-into-reads
 use Rattle.pairs.proofs.all_distinct.Reads as all-distinct-reads
 use Rattle.pairs.proofs.firsts_of.Reads as firsts-of-reads
 use Rattle.pairs.proofs.seconds_of.Reads as seconds-of-reads

@@ -4,7 +4,7 @@ use Prim.Native.Nat.{_≤_, _-_}
 use lib.Dec.{eqb}
 use lib.ListN.{length, drop}
 use Rattle.automata.specs.Lists.{any}
-use Rattle.pairs.proofs.ListLaws.{any-here, any-later, any-end}
+use Rattle.pairs.proofs.ListFacts.{any-here, any-later, any-end}
 use borrow.Author.Needs.{needs}
 use Rattle.pairs.proofs.occurs.Statement.{statement}
 use Rattle.pairs.proofs.occurs.Tie as tie

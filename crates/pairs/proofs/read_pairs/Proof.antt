@@ -1,6 +1,6 @@
 -- `pairs::read_pairs` meets its contract. Assumes nothing.
 use mathlib.Core.Path.{refl}
-use Rattle.pairs.proofs.PairLaws.{read-list}
+use Rattle.pairs.proofs.PairFacts.{read-list}
 use borrow.Author.Needs.{needs}
 use Rattle.pairs.proofs.read_pairs.Statement.{statement}
 use Rattle.pairs.proofs.read_pairs.Tie as tie

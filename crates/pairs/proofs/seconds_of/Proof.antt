@@ -1,6 +1,6 @@
 -- `pairs::seconds_of` meets its contract. Assumes nothing.
-use Rattle.pairs.proofs.ListLaws.{length-made}
-use Rattle.pairs.proofs.PairLaws.{column}
+use Rattle.pairs.proofs.ListFacts.{length-made}
+use Rattle.pairs.proofs.PairFacts.{column}
 use borrow.Author.Needs.{needs}
 use Rattle.pairs.proofs.seconds_of.Statement.{statement}
 use Rattle.pairs.proofs.seconds_of.Tie as tie

@@ -1,8 +1,8 @@
 -- `pairs::settled` meets its contract. Assumes nothing.
 use mathlib.Core.Path.{refl}
 use native.Mathlib.Omega.{arith}
-use Rattle.pairs.proofs.ListLaws.{length-made}
-use Rattle.pairs.proofs.TestLaws.{settled-tape, settled-pairs, settled-limit, settled-fine}
+use Rattle.pairs.proofs.ListFacts.{length-made}
+use Rattle.pairs.proofs.TestFacts.{settled-tape, settled-pairs, settled-limit, settled-fine}
 use borrow.Author.Tests.{not-true, not-false}
 use borrow.Author.Needs.{needs}
 use Rattle.pairs.proofs.settled.Statement.{statement}

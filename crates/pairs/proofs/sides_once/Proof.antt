@@ -1,6 +1,6 @@
 -- `pairs::sides_once` meets its contract. Assumes nothing.
-use Rattle.memory.proofs.Laws.{prefix-length}
-use Rattle.pairs.proofs.ListLaws.{first-twice, second-distinct}
+use Rattle.table.proofs.RegionFacts.{prefix-length}
+use Rattle.pairs.proofs.ListFacts.{first-twice, second-distinct}
 use borrow.Author.Tests.{not-true, not-false}
 use borrow.Author.Needs.{needs}
 use Rattle.pairs.proofs.sides_once.Statement.{statement}

@@ -1,5 +1,5 @@
 -- `text::read` meets its contract. Assumes nothing.
-use Rattle.text.proofs.ReadLaws.{read-refused, read-room, read-stored}
+use Rattle.text.proofs.ReadFacts.{read-refused, read-room, read-stored}
 use denote.Ref.{now}
 use native.Mathlib.Omega.{arith}
 use borrow.Author.Needs.{needs}
@@ -7,7 +7,7 @@ use Rattle.text.proofs.read.Statement.{statement}
 use Rattle.text.proofs.read.Tie as tie
 use Rattle.text.proofs.read.Reads as reads
 use Rattle.text.proofs.read.Lts as lts
-use Rattle.lines.proofs.table.judge_text.Reads as judge-text-reads
+use Rattle.text_lines.proofs.judge.judge_text.Reads as judge-text-reads
 use Rattle.text.proofs.answer_of.Reads as answer-of-reads
 use Rattle.text_store.proofs.store.store_arcs.Reads as store-arcs-reads
 use Rattle.text_store.proofs.store.store_states.Reads as store-states-reads

@@ -1,5 +1,5 @@
 -- `text::text_length` meets its contract. Assumes nothing.
-use Rattle.text.proofs.WrittenLaws.{text-fits}
+use Rattle.text.proofs.WrittenFacts.{text-fits}
 use denote.Ref.{now}
 use native.Mathlib.Omega.{arith}
 use mathlib.Core.Path.{_≡_, refl, sym, ap, _∙_}

@@ -1,7 +1,7 @@
 -- `text::write` meets its contract. Assumes nothing.
-use Rattle.text.proofs.WrittenLaws.{judged-sound, write-refused, write-short, write-done}
-use Rattle.memory.proofs.SoundLaws.{few-tapes, few-states, few-arcs}
-use Rattle.memory.specs.Answers.{lent}
+use Rattle.text.proofs.WrittenFacts.{judged-sound, write-refused, write-short, write-done}
+use Rattle.table.proofs.SoundFacts.{few-tapes, few-states, few-arcs}
+use Rattle.table.specs.Answers.{lent}
 use denote.Ref.{now}
 use native.Mathlib.Omega.{arith}
 use mathlib.Core.Path.{_≡_, refl, sym, ap, _∙_}
@@ -10,7 +10,7 @@ use Rattle.text.proofs.write.Statement.{statement}
 use Rattle.text.proofs.write.Tie as tie
 use Rattle.text.proofs.write.Reads as reads
 use Rattle.text.proofs.write.Lts as lts
-use Rattle.memory.proofs.judge.judge.Reads as judge-reads
+use Rattle.table.proofs.judge.judge.Reads as judge-reads
 use Rattle.text_print.proofs.print.write_table.Reads as write-table-reads
 use Rattle.text.proofs.refused_by.Reads as refused-by-reads
 use Rattle.text.proofs.text_length.Reads as text-length-reads

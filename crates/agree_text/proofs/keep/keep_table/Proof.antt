@@ -1,10 +1,10 @@
 -- `agree_text::keep::keep_table` meets its contract. Assumes nothing.
-use Rattle.agree_text.proofs.KeptLaws.{kept-refused, kept-table, lentSlices, lentWork, room-lent, work-lent, wrote-as}
+use Rattle.agree_text.proofs.KeptFacts.{kept-refused, kept-table, lentSlices, lentWork, room-lent, work-lent, wrote-as}
 use mathlib.Core.Path.{ap}
 use denote.Ref.{now}
 use Rattle.automata.specs.AgreeText.{writeOutput}
 use Rattle.pairs.specs.PairBytes.{pairsOf}
-use Rattle.memory.specs.Answers.{lent}
+use Rattle.table.specs.Answers.{lent}
 use borrow.Author.Needs.{needs}
 use Rattle.agree_text.proofs.keep.keep_table.Statement.{statement}
 use Rattle.agree_text.proofs.keep.keep_table.Tie as tie

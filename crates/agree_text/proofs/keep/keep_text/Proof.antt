@@ -1,5 +1,5 @@
 -- `agree_text::keep::keep_text` meets its contract. Assumes nothing.
-use Rattle.agree_text.proofs.KeptLaws.{text-refused, text-table, lentSlices, room-lent, wrote-as}
+use Rattle.agree_text.proofs.KeptFacts.{text-refused, text-table, lentSlices, room-lent, wrote-as}
 use mathlib.Core.Path.{ap}
 use denote.Ref.{now}
 use Rattle.automata.specs.AgreeText.{writeOutput}

@@ -1,7 +1,7 @@
 -- `agree_text::keep::print_table` meets its contract. Assumes nothing.
 use denote.Ref.{now}
-use Rattle.memory.specs.Answers.{lent}
-use Rattle.agree_text.proofs.PrintLaws.{print-done, print-refused}
+use Rattle.table.specs.Answers.{lent}
+use Rattle.agree_text.proofs.PrintFacts.{print-done, print-refused}
 use borrow.Author.Needs.{needs}
 use Rattle.agree_text.proofs.keep.print_table.Statement.{statement}
 use Rattle.agree_text.proofs.keep.print_table.Tie as tie

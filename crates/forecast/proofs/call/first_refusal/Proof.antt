@@ -1,12 +1,12 @@
 -- `forecast::call::first_refusal` meets its contract. Assumes nothing.
-use Rattle.forecast.proofs.CallLaws.{first-judged}
+use Rattle.forecast.proofs.CallFacts.{first-judged}
 use borrow.Author.Needs.{needs}
 use Rattle.forecast.proofs.call.first_refusal.Statement.{statement}
 use Rattle.forecast.proofs.call.first_refusal.Tie as tie
 use Rattle.forecast.proofs.call.first_refusal.Reads as reads
 use Rattle.forecast.proofs.call.first_refusal.Lts as lts
 use Rattle.forecast.proofs.call.has_space.Reads as has-space-reads
-use Rattle.memory.proofs.judge.judge.Reads as judge-reads
+use Rattle.table.proofs.judge.judge.Reads as judge-reads
 use Rattle.pairs.proofs.in_turn.Reads as in-turn-reads
 
 judge-requires : tie.Need-judge-requires

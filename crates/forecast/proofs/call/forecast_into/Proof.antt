@@ -1,5 +1,5 @@
 -- `forecast::call::forecast_into` meets its contract. Assumes nothing.
-use Rattle.forecast.proofs.CallLaws.{room-is, answer-recordable, call-recorded}
+use Rattle.forecast.proofs.CallFacts.{room-is, answer-recordable, call-recorded}
 use Rattle.automata.specs.TapePair.{tapesOf}
 use Rattle.pairs.specs.PairBytes.{pairsOf}
 use Rattle.automata.specs.Calls.Forecast.{Foretold}

@@ -1,5 +1,5 @@
 -- `forecast::call::forecast_judged` meets its contract. Assumes nothing.
-use Rattle.forecast.proofs.CallLaws.{call-cleared}
+use Rattle.forecast.proofs.CallFacts.{call-cleared}
 use denote.Ref.{now}
 use borrow.Author.Needs.{needs}
 use Rattle.forecast.proofs.call.forecast_judged.Statement.{statement}
@@ -7,7 +7,7 @@ use Rattle.forecast.proofs.call.forecast_judged.Tie as tie
 use Rattle.forecast.proofs.call.forecast_judged.Reads as reads
 use Rattle.forecast.proofs.call.forecast_judged.Lts as lts
 use Rattle.forecast.proofs.call.tell.Reads as tell-reads
-use Rattle.memory.proofs.bytes.zero.Reads as zero-reads
+use Rattle.table.proofs.bytes.zero.Reads as zero-reads
 
 tell-requires : tie.Need-tell-requires
 tell-requires c κs = search needs

@@ -1,5 +1,5 @@
 -- `forecast::call::has_space` meets its contract. Assumes nothing.
-use Rattle.forecast.proofs.CallLaws.{space-none, space-fits}
+use Rattle.forecast.proofs.CallFacts.{space-none, space-fits}
 use Rattle.forecast.proofs.call.has_space.Statement.{statement}
 use Rattle.forecast.proofs.call.has_space.Tie as tie
 use Rattle.forecast.proofs.call.has_space.Reads as reads

@@ -1,5 +1,5 @@
 -- `forecast::call::record_answer` meets its contract. Assumes nothing.
-use Rattle.forecast.proofs.CallLaws.{records-fit, records-put}
+use Rattle.forecast.proofs.CallFacts.{records-fit, records-put}
 use mathlib.Core.Path.{_≡_, sym, _∙_}
 use lib.ListN.{length, length-map}
 use borrow.Author.Needs.{needs}

@@ -1,5 +1,5 @@
 -- `forecast::call::tell` meets its contract. Assumes nothing.
-use Rattle.forecast.proofs.CallLaws.{used-none, answer-refused, may-tell, answer-told}
+use Rattle.forecast.proofs.CallFacts.{used-none, answer-refused, may-tell, answer-told}
 use denote.Ref.{now}
 use borrow.Author.Needs.{needs}
 use Rattle.forecast.proofs.call.tell.Statement.{statement}

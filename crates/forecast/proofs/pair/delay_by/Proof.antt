@@ -1,6 +1,6 @@
 -- `forecast::pair::delay_by` meets its contract. Assumes nothing.
 use native.Mathlib.Omega.{arith}
-use Rattle.forecast.proofs.ToldLaws.{delay-small, delay-steps}
+use Rattle.forecast.proofs.ToldFacts.{delay-small, delay-steps}
 use borrow.Author.Needs.{needs}
 use Rattle.forecast.proofs.pair.delay_by.Statement.{statement}
 use Rattle.forecast.proofs.pair.delay_by.Tie as tie

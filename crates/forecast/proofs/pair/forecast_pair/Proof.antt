@@ -2,9 +2,9 @@
 use mathlib.Core.Path.{_∙_}
 use native.Mathlib.Omega.{arith}
 use denote.Ref.{now}
-use Rattle.memory.specs.Answers.{lent}
-use Rattle.delays.proofs.ClosingLaws.{sound-readable, sound-listable}
-use Rattle.forecast.proofs.PairLaws.{work-room, marks-kept, found-few, both-are, within-eight, arcs-readable, labels-short, delay-fits, pair-needs, pair-mixed}
+use Rattle.table.specs.Answers.{lent}
+use Rattle.delays.proofs.ClosingFacts.{sound-readable, sound-listable}
+use Rattle.forecast.proofs.PairFacts.{work-room, marks-kept, found-few, both-are, within-eight, arcs-readable, labels-short, delay-fits, pair-needs, pair-mixed}
 use borrow.Author.Needs.{needs}
 use Rattle.forecast.proofs.pair.forecast_pair.Statement.{statement}
 use Rattle.forecast.proofs.pair.forecast_pair.Tie as tie

@@ -7,11 +7,11 @@ use lib.ListN.{length, take, length-map, length-set}
 use Rattle.automata.specs.TapePair.{tapesOf}
 use Rattle.automata.specs.Memory.{tableOf}
 use Rattle.automata.specs.ForecastCall.{forecastOf}
-use Rattle.memory.specs.Answers.{lent}
-use Rattle.memory.specs.Pairs.{pairAs}
+use Rattle.table.specs.Answers.{lent}
+use Rattle.table.specs.Pairs.{pairAs}
 use Rattle.forecast_records.specs.Values.{forecastAs}
 use Rattle.forecast.specs.Pairs.{Marked}
-use Rattle.forecast.proofs.ToldLaws.{forecasts-start, forecasts-turn, forecasts-end}
+use Rattle.forecast.proofs.ToldFacts.{forecasts-start, forecasts-turn, forecasts-end}
 use borrow.Author.Needs.{needs}
 use Rattle.forecast.proofs.pair.forecast_pairs.Statement.{statement}
 use Rattle.forecast.proofs.pair.forecast_pairs.Tie as tie

@@ -1,9 +1,9 @@
 -- `forecast::pair::forecasts_of` meets its contract. Assumes nothing.
 use native.Mathlib.Omega.{arith}
 use denote.Ref.{now}
-use Rattle.memory.specs.Answers.{lent}
-use Rattle.delays.proofs.ClosingLaws.{sound-readable, sound-listable}
-use Rattle.forecast.proofs.PairLaws.{work-room, marked, found-are}
+use Rattle.table.specs.Answers.{lent}
+use Rattle.delays.proofs.ClosingFacts.{sound-readable, sound-listable}
+use Rattle.forecast.proofs.PairFacts.{work-room, marked, found-are}
 use borrow.Author.Needs.{needs}
 use Rattle.forecast.proofs.pair.forecasts_of.Statement.{statement}
 use Rattle.forecast.proofs.pair.forecasts_of.Tie as tie
@@ -12,7 +12,7 @@ use Rattle.forecast.proofs.pair.forecasts_of.Lts as lts
 use Rattle.delays.proofs.mark_reaching.Reads as mark-reaching-reads
 use Rattle.forecast.proofs.pair.forecast_pairs.Reads as forecast-pairs-reads
 use Rattle.forecast_counts.proofs.path_states.Reads as path-states-reads
-use Rattle.relaxation.proofs.listing.list_arcs.Reads as list-arcs-reads
+use Rattle.delays_relaxation.proofs.listing.list_arcs.Reads as list-arcs-reads
 
 slice-aggregate-list-arcs : tie.Need-slice-aggregate-list-arcs
 slice-aggregate-list-arcs c = search needs

@@ -1,6 +1,6 @@
 -- `forecast::pair::needed` meets its contract. Assumes nothing.
 use native.Mathlib.Omega.{arith}
-use Rattle.forecast.proofs.ToldLaws.{delay-told, needed-told}
+use Rattle.forecast.proofs.ToldFacts.{delay-told, needed-told}
 use borrow.Author.Needs.{needs}
 use Rattle.forecast.proofs.pair.needed.Statement.{statement}
 use Rattle.forecast.proofs.pair.needed.Tie as tie

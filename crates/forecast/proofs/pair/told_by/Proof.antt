@@ -1,6 +1,6 @@
 -- `forecast::pair::told_by` meets its contract. Assumes nothing.
 use native.Mathlib.Omega.{arith}
-use Rattle.forecast.proofs.ToldLaws.{sum-le, number-small, told-over, told-number}
+use Rattle.forecast.proofs.ToldFacts.{sum-le, number-small, told-over, told-number}
 use mathlib.Core.Path.{refl}
 use borrow.Author.Needs.{needs}
 use Rattle.forecast.proofs.pair.told_by.Statement.{statement}

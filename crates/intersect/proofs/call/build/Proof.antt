@@ -1,8 +1,8 @@
 -- `intersect::call::build` meets its contract. Assumes nothing.
 use denote.Ref.{now}
-use Rattle.memory.specs.Answers.{lent}
-use Rattle.intersect.proofs.SearchLaws.{explorable}
-use Rattle.intersect_result.proofs.CallLaws.{call-refused, call-settled}
+use Rattle.table.specs.Answers.{lent}
+use Rattle.intersect.proofs.SearchFacts.{explorable}
+use Rattle.intersect_result.proofs.CallFacts.{call-refused, call-settled}
 use borrow.Author.Needs.{needs}
 use Rattle.intersect.proofs.call.build.Statement.{statement}
 use Rattle.intersect.proofs.call.build.Tie as tie

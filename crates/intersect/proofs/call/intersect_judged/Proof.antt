@@ -1,12 +1,12 @@
 -- `intersect::call::intersect_judged` meets its contract. Assumes nothing.
-use Rattle.intersect_result.proofs.CallLaws.{call-cleared}
+use Rattle.intersect_result.proofs.CallFacts.{call-cleared}
 use borrow.Author.Needs.{needs}
 use Rattle.intersect.proofs.call.intersect_judged.Statement.{statement}
 use Rattle.intersect.proofs.call.intersect_judged.Tie as tie
 use Rattle.intersect.proofs.call.intersect_judged.Reads as reads
 use Rattle.intersect.proofs.call.intersect_judged.Lts as lts
 use Rattle.intersect.proofs.call.build.Reads as build-reads
-use Rattle.memory.proofs.bytes.zero.Reads as zero-reads
+use Rattle.table.proofs.bytes.zero.Reads as zero-reads
 
 build-requires : tie.Need-build-requires
 build-requires c κs = search needs

@@ -1,14 +1,14 @@
 -- `intersect::step::intersect_step` meets its contract. Assumes nothing.
 use denote.Ref.{now}
-use Rattle.memory.specs.Answers.{lent}
-use Rattle.intersect.proofs.StepLaws.{step-ready, step-settled}
+use Rattle.table.specs.Answers.{lent}
+use Rattle.intersect.proofs.StepFacts.{step-ready, step-settled}
 use borrow.Author.Needs.{needs}
 use Rattle.intersect.proofs.step.intersect_step.Statement.{statement}
 use Rattle.intersect.proofs.step.intersect_step.Tie as tie
 use Rattle.intersect.proofs.step.intersect_step.Reads as reads
 use Rattle.intersect.proofs.step.intersect_step.Lts as lts
 use Rattle.intersect.proofs.step.reach.Reads as reach-reads
-use Rattle.workspace.proofs.room.room_for.Reads as room-for-reads
+use Rattle.intersect_room.proofs.room.room_for.Reads as room-for-reads
 
 room-for-requires : tie.Need-room-for-requires
 room-for-requires c κs = search needs

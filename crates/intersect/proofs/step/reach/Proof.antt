@@ -1,12 +1,12 @@
 -- `intersect::step::reach` meets its contract. Assumes nothing.
-use Rattle.intersect.proofs.SearchLaws.{searched, settleable}
+use Rattle.intersect.proofs.SearchFacts.{searched, settleable}
 use borrow.Author.Needs.{needs}
 use Rattle.intersect.proofs.step.reach.Statement.{statement}
 use Rattle.intersect.proofs.step.reach.Tie as tie
 use Rattle.intersect.proofs.step.reach.Reads as reads
 use Rattle.intersect.proofs.step.reach.Lts as lts
 use Rattle.intersect_result.proofs.finish.settle.Reads as settle-reads
-use Rattle.exploration.proofs.explore.explore.Reads as explore-reads
+use Rattle.intersect_search.proofs.explore.explore.Reads as explore-reads
 
 explore-requires : tie.Need-explore-requires
 explore-requires c κs = search needs

@@ -1,14 +1,14 @@
 -- `intersect_result::finish::finish` meets its contract. Assumes nothing.
 use mathlib.Core.Path.{refl}
-use Rattle.intersect_result.proofs.FinishLaws.{finished, laid, states-writable, arcs-writable}
+use Rattle.intersect_result.proofs.FinishFacts.{finished, laid, states-writable, arcs-writable}
 use borrow.Author.Needs.{needs}
 use Rattle.intersect_result.proofs.finish.finish.Statement.{statement}
 use Rattle.intersect_result.proofs.finish.finish.Tie as tie
 use Rattle.intersect_result.proofs.finish.finish.Reads as reads
 use Rattle.intersect_result.proofs.finish.finish.Lts as lts
 use Rattle.intersect_result.proofs.keep.keep.Reads as keep-reads
-use Rattle.trimming.proofs.result.write_arcs.Reads as write-arcs-reads
-use Rattle.trimming.proofs.result.write_states.Reads as write-states-reads
+use Rattle.intersect_trim.proofs.result.write_arcs.Reads as write-arcs-reads
+use Rattle.intersect_trim.proofs.result.write_states.Reads as write-states-reads
 
 slice-aggregate-keep : tie.Need-slice-aggregate-keep
 slice-aggregate-keep c = search needs

@@ -1,7 +1,7 @@
 -- `intersect_result::finish::settle` meets its contract. Assumes nothing.
 use mathlib.Core.Path.{refl}
 use denote.Ref.{now}
-use Rattle.intersect_result.proofs.CallLaws.{settled-full, settled-arcs, settled-late, settled-ready, settled-finished}
+use Rattle.intersect_result.proofs.CallFacts.{settled-full, settled-arcs, settled-late, settled-ready, settled-finished}
 use borrow.Author.Needs.{needs}
 use Rattle.intersect_result.proofs.finish.settle.Statement.{statement}
 use Rattle.intersect_result.proofs.finish.settle.Tie as tie

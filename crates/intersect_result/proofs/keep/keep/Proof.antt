@@ -1,13 +1,13 @@
 -- `intersect_result::keep::keep` meets its contract. Assumes nothing.
-use Rattle.intersect_result.proofs.KeepLaws.{finals-bits, rows-kept}
+use Rattle.intersect_result.proofs.KeepFacts.{finals-bits, rows-kept}
 use borrow.Author.Needs.{needs}
 use Rattle.intersect_result.proofs.keep.keep.Statement.{statement}
 use Rattle.intersect_result.proofs.keep.keep.Tie as tie
 use Rattle.intersect_result.proofs.keep.keep.Reads as reads
 use Rattle.intersect_result.proofs.keep.keep.Lts as lts
-use Rattle.edges.proofs.mark.mark_coaccessible.Reads as mark-coaccessible-reads
-use Rattle.trimming.proofs.final_marks.mark_final.Reads as mark-final-reads
-use Rattle.trimming.proofs.rank.number_marked.Reads as number-marked-reads
+use Rattle.intersect_edges.proofs.mark.mark_coaccessible.Reads as mark-coaccessible-reads
+use Rattle.intersect_trim.proofs.final_marks.mark_final.Reads as mark-final-reads
+use Rattle.intersect_trim.proofs.rank.number_marked.Reads as number-marked-reads
 
 mark-final-requires : tie.Need-mark-final-requires
 mark-final-requires c κs = search needs

@@ -1,8 +1,8 @@
 -- `join::call::build` meets its contract. Assumes nothing.
 use denote.Ref.{now}
 use Rattle.automata.specs.Calls.Outcome.{slicesOf}
-use Rattle.memory.specs.Answers.{lent}
-use Rattle.join.proofs.CallLaws.{call-refused, call-joinable, call-stepped}
+use Rattle.table.specs.Answers.{lent}
+use Rattle.join.proofs.CallFacts.{call-refused, call-joinable, call-stepped}
 use borrow.Author.Needs.{needs}
 use Rattle.join.proofs.call.build.Statement.{statement}
 use Rattle.join.proofs.call.build.Tie as tie

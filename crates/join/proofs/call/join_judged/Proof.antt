@@ -1,12 +1,12 @@
 -- `join::call::join_judged` meets its contract. Assumes nothing.
-use Rattle.join.proofs.CallLaws.{call-cleared}
+use Rattle.join.proofs.CallFacts.{call-cleared}
 use borrow.Author.Needs.{needs}
 use Rattle.join.proofs.call.join_judged.Statement.{statement}
 use Rattle.join.proofs.call.join_judged.Tie as tie
 use Rattle.join.proofs.call.join_judged.Reads as reads
 use Rattle.join.proofs.call.join_judged.Lts as lts
 use Rattle.join.proofs.call.build.Reads as build-reads
-use Rattle.memory.proofs.bytes.zero.Reads as zero-reads
+use Rattle.table.proofs.bytes.zero.Reads as zero-reads
 
 build-requires : tie.Need-build-requires
 build-requires c κs = search needs

@@ -1,5 +1,5 @@
 -- `join::judge::in_turn` meets its contract. Assumes nothing.
-use Rattle.join.proofs.JudgeLaws.{turn-wide, turn-pairs, turn-short, turn-fine}
+use Rattle.join.proofs.JudgeFacts.{turn-wide, turn-pairs, turn-short, turn-fine}
 use borrow.Author.Tests.{not-true, not-false}
 use borrow.Author.Needs.{needs}
 use Rattle.join.proofs.judge.in_turn.Statement.{statement}

@@ -1,7 +1,7 @@
 -- `join::judge::judge_join` meets its contract. Assumes nothing.
 use denote.Ref.{now}
-use Rattle.memory.specs.Answers.{lent}
-use Rattle.join.proofs.JudgeLaws.{prepared}
+use Rattle.table.specs.Answers.{lent}
+use Rattle.join.proofs.JudgeFacts.{prepared}
 use borrow.Author.Needs.{needs}
 use Rattle.join.proofs.judge.judge_join.Statement.{statement}
 use Rattle.join.proofs.judge.judge_join.Tie as tie
@@ -10,7 +10,7 @@ use Rattle.join.proofs.judge.judge_join.Lts as lts
 use Rattle.join.proofs.judge.in_turn.Reads as in-turn-reads
 use Rattle.join.proofs.judge.width_fits.Reads as width-fits-reads
 use Rattle.join.proofs.room.work_enough.Reads as work-enough-reads
-use Rattle.memory.proofs.judge.judge.Reads as judge-reads
+use Rattle.table.proofs.judge.judge.Reads as judge-reads
 
 judge-requires : tie.Need-judge-requires
 judge-requires c κs = search needs

@@ -1,5 +1,5 @@
 -- `join::judge::width_fits` meets its contract. Assumes nothing.
-use Rattle.join.proofs.JudgeLaws.{wide, width-left}
+use Rattle.join.proofs.JudgeFacts.{wide, width-left}
 use Rattle.join.proofs.judge.width_fits.Statement.{statement}
 use Rattle.join.proofs.judge.width_fits.Tie as tie
 use Rattle.join.proofs.judge.width_fits.Reads as reads

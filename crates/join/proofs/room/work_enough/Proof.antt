@@ -1,11 +1,11 @@
 -- `join::room::work_enough` meets its contract. Assumes nothing.
-use Rattle.join.proofs.RoomLaws.{short-states, short-arcs, by-build}
+use Rattle.join.proofs.RoomFacts.{short-states, short-arcs, by-build}
 use borrow.Author.Needs.{needs}
 use Rattle.join.proofs.room.work_enough.Statement.{statement}
 use Rattle.join.proofs.room.work_enough.Tie as tie
 use Rattle.join.proofs.room.work_enough.Reads as reads
 use Rattle.join.proofs.room.work_enough.Lts as lts
-use Rattle.workspace.proofs.room.room_for.Reads as room-for-reads
+use Rattle.intersect_room.proofs.room.room_for.Reads as room-for-reads
 
 returns : tie.Need-returns
 returns c = short-states _ _ _ _ _ (c .if1 .taken)

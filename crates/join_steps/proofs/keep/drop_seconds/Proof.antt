@@ -1,11 +1,11 @@
 -- `join_steps::keep::drop_seconds` meets its contract. Assumes nothing.
-use Rattle.join_steps.proofs.DropLaws.{seconds-droppable, seconds-dropped}
+use Rattle.join_steps.proofs.DropFacts.{seconds-droppable, seconds-dropped}
 use borrow.Author.Needs.{needs}
 use Rattle.join_steps.proofs.keep.drop_seconds.Statement.{statement}
 use Rattle.join_steps.proofs.keep.drop_seconds.Tie as tie
 use Rattle.join_steps.proofs.keep.drop_seconds.Reads as reads
 use Rattle.join_steps.proofs.keep.drop_seconds.Lts as lts
-use Rattle.columns.proofs.drop.drop_in_place.Reads as drop-in-place-reads
+use Rattle.tapes.proofs.drop.drop_in_place.Reads as drop-in-place-reads
 use Rattle.join_steps.proofs.mask.second_tapes.Reads as second-tapes-reads
 
 second-tapes-requires : tie.Need-second-tapes-requires

@@ -1,5 +1,5 @@
 -- `join_steps::keep::keep_firsts` meets its contract. Assumes nothing.
-use Rattle.join_steps.proofs.KeepLaws.{keep-refused, kept-droppable, keep-dropped}
+use Rattle.join_steps.proofs.KeepFacts.{keep-refused, kept-droppable, keep-dropped}
 use borrow.Author.Needs.{needs}
 use Rattle.join_steps.proofs.keep.keep_firsts.Statement.{statement}
 use Rattle.join_steps.proofs.keep.keep_firsts.Tie as tie

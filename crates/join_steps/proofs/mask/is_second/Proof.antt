@@ -3,8 +3,8 @@ use mathlib.Core.Path.{_≡_, refl, sym, _∙_}
 use Prim.Native.Nat.{_≤_, _-_}
 use native.Mathlib.Omega.{arith}
 use lib.ListN.{length}
-use Rattle.pairs.proofs.ListLaws.{length-made}
-use Rattle.join_steps.proofs.MaskLaws.{later, second-end, second-here, second-later}
+use Rattle.pairs.proofs.ListFacts.{length-made}
+use Rattle.join_steps.proofs.MaskFacts.{later, second-end, second-here, second-later}
 use borrow.Author.Needs.{needs}
 use Rattle.join_steps.proofs.mask.is_second.Statement.{statement}
 use Rattle.join_steps.proofs.mask.is_second.Tie as tie

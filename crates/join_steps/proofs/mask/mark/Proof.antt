@@ -1,6 +1,6 @@
 -- `join_steps::mask::mark` meets its contract. Assumes nothing.
 use native.Mathlib.Omega.{arith}
-use Rattle.join_steps.proofs.MaskLaws.{mark-is}
+use Rattle.join_steps.proofs.MaskFacts.{mark-is}
 use borrow.Author.Needs.{needs}
 use Rattle.join_steps.proofs.mask.mark.Statement.{statement}
 use Rattle.join_steps.proofs.mask.mark.Tie as tie

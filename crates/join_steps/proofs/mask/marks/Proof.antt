@@ -2,8 +2,8 @@
 use native.Mathlib.Omega.{arith}
 use Rattle.automata.specs.Tapes.{seconds}
 use Rattle.automata.specs.TapePair.{tapesOf}
-use Rattle.memory.specs.Pairs.{pairsAs}
-use Rattle.join_steps.proofs.MaskLaws.{four-bits}
+use Rattle.table.specs.Pairs.{pairsAs}
+use Rattle.join_steps.proofs.MaskFacts.{four-bits}
 use borrow.Author.Needs.{needs}
 use Rattle.join_steps.proofs.mask.marks.Statement.{statement}
 use Rattle.join_steps.proofs.mask.marks.Tie as tie

@@ -1,8 +1,8 @@
 -- `join_steps::mask::second_tapes` meets its contract. Assumes nothing.
 use Rattle.automata.specs.Tapes.{seconds}
 use Rattle.automata.specs.TapePair.{tapesOf}
-use Rattle.memory.specs.Pairs.{pairsAs}
-use Rattle.join_steps.proofs.MaskLaws.{eight-bits}
+use Rattle.table.specs.Pairs.{pairsAs}
+use Rattle.join_steps.proofs.MaskFacts.{eight-bits}
 use borrow.Author.Needs.{needs}
 use Rattle.join_steps.proofs.mask.second_tapes.Statement.{statement}
 use Rattle.join_steps.proofs.mask.second_tapes.Tie as tie

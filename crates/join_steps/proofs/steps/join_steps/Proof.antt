@@ -4,10 +4,10 @@ use denote.Ref.{now}
 use mathlib.Core.Path.{_≡_}
 use lib.ListN.{length}
 use Rattle.automata.specs.Calls.Outcome.{slicesOf}
-use Rattle.memory.specs.Answers.{lent}
-use Rattle.pairs.proofs.ListLaws.{length-made}
-use Rattle.pairs.proofs.PairLaws.{movable}
-use Rattle.join_steps.proofs.StepLaws.{product-ready, product-refused, product-given, product-keepable}
+use Rattle.table.specs.Answers.{lent}
+use Rattle.pairs.proofs.ListFacts.{length-made}
+use Rattle.pairs.proofs.PairFacts.{movable}
+use Rattle.join_steps.proofs.StepFacts.{product-ready, product-refused, product-given, product-keepable}
 use borrow.Author.Needs.{needs}
 use Rattle.join_steps.proofs.steps.join_steps.Statement.{statement}
 use Rattle.join_steps.proofs.steps.join_steps.Tie as tie

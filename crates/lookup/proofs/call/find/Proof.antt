@@ -1,14 +1,14 @@
 -- `lookup::call::find` meets its contract. Assumes nothing.
 use denote.Ref.{now}
-use Rattle.memory.specs.Answers.{lent}
-use Rattle.lookup.proofs.JudgeLaws.{called-short}
-use Rattle.lookup.proofs.CallLaws.{call-refused, work-short, work-enough, work-done}
+use Rattle.table.specs.Answers.{lent}
+use Rattle.lookup.proofs.JudgeFacts.{called-short}
+use Rattle.lookup.proofs.CallFacts.{call-refused, work-short, work-enough, work-done}
 use borrow.Author.Needs.{needs}
 use Rattle.lookup.proofs.call.find.Statement.{statement}
 use Rattle.lookup.proofs.call.find.Tie as tie
 use Rattle.lookup.proofs.call.find.Reads as reads
 use Rattle.lookup.proofs.call.find.Lts as lts
-use Rattle.cells.proofs.fill.least_weight.Reads as least-weight-reads
+use Rattle.lookup_cells.proofs.fill.least_weight.Reads as least-weight-reads
 use Rattle.lookup.proofs.call.answer_of.Reads as answer-of-reads
 use Rattle.lookup.proofs.call.refused_by.Reads as refused-by-reads
 use Rattle.lookup.proofs.judge.cell_count.Reads as cell-count-reads

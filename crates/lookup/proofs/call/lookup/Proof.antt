@@ -1,12 +1,12 @@
 -- `lookup::call::lookup` meets its contract. Assumes nothing.
-use Rattle.lookup.proofs.CallLaws.{call-cleared}
+use Rattle.lookup.proofs.CallFacts.{call-cleared}
 use borrow.Author.Needs.{needs}
 use Rattle.lookup.proofs.call.lookup.Statement.{statement}
 use Rattle.lookup.proofs.call.lookup.Tie as tie
 use Rattle.lookup.proofs.call.lookup.Reads as reads
 use Rattle.lookup.proofs.call.lookup.Lts as lts
 use Rattle.lookup.proofs.call.find.Reads as find-reads
-use Rattle.memory.proofs.bytes.zero.Reads as zero-reads
+use Rattle.table.proofs.bytes.zero.Reads as zero-reads
 
 find-requires : tie.Need-find-requires
 find-requires c κs = search needs

@@ -2,13 +2,13 @@
 use mathlib.Core.Path.{ap}
 use native.Mathlib.Omega.{arith}
 use Prim.Native.Nat.{ℕ, _*_}
-use Rattle.lookup.proofs.JudgeLaws.{cells-fit}
+use Rattle.lookup.proofs.JudgeFacts.{cells-fit}
 use borrow.Author.Needs.{needs}
 use Rattle.lookup.proofs.judge.cell_count.Statement.{statement}
 use Rattle.lookup.proofs.judge.cell_count.Tie as tie
 use Rattle.lookup.proofs.judge.cell_count.Reads as reads
 use Rattle.lookup.proofs.judge.cell_count.Lts as lts
-use Rattle.tuple.proofs.size.combinations.Reads as combinations-reads
+use Rattle.lookup_tuple.proofs.size.combinations.Reads as combinations-reads
 
 combinations-requires : tie.Need-combinations-requires
 combinations-requires c κs = search needs

@@ -1,15 +1,15 @@
 -- `lookup::judge::judge_call` meets its contract. Assumes nothing.
 use denote.Ref.{now}
-use Rattle.memory.specs.Answers.{lent}
-use Rattle.lookup.proofs.JudgeLaws.{table-refused, tuple-judged}
+use Rattle.table.specs.Answers.{lent}
+use Rattle.lookup.proofs.JudgeFacts.{table-refused, tuple-judged}
 use borrow.Author.Needs.{needs}
 use Rattle.lookup.proofs.judge.judge_call.Statement.{statement}
 use Rattle.lookup.proofs.judge.judge_call.Tie as tie
 use Rattle.lookup.proofs.judge.judge_call.Reads as reads
 use Rattle.lookup.proofs.judge.judge_call.Lts as lts
-use Rattle.memory.proofs.judge.judge.Reads as judge-reads
-use Rattle.tuple.proofs.judge.judge_tuple.Reads as judge-tuple-reads
-use Rattle.tuple.proofs.judge.no_strings.Reads as no-strings-reads
+use Rattle.table.proofs.judge.judge.Reads as judge-reads
+use Rattle.lookup_tuple.proofs.judge.judge_tuple.Reads as judge-tuple-reads
+use Rattle.lookup_tuple.proofs.judge.no_strings.Reads as no-strings-reads
 
 judge-requires : tie.Need-judge-requires
 judge-requires c κs = search needs

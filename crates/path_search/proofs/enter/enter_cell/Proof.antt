@@ -1,5 +1,5 @@
 -- `path_search::enter::enter_cell` meets its contract. Assumes nothing.
-use Rattle.path_search.proofs.EnterCellLaws.{mark-room, order-room, stays-found, is-found}
+use Rattle.path_search.proofs.EnterCellFacts.{mark-room, order-room, stays-found, is-found}
 use Prim.Native.Nat.{_<_}
 use mathlib.Core.Path.{refl, _∙_}
 use lib.ListN.{length}
@@ -10,8 +10,8 @@ use Rattle.path_search.proofs.enter.enter_cell.Statement.{statement}
 use Rattle.path_search.proofs.enter.enter_cell.Tie as tie
 use Rattle.path_search.proofs.enter.enter_cell.Reads as reads
 use Rattle.path_search.proofs.enter.enter_cell.Lts as lts
-use Rattle.cell_moves.proofs.cell.set_number.Reads as set-number-reads
-use Rattle.cell_moves.proofs.cell.weight_at.Reads as weight-at-reads
+use Rattle.lookup_moves.proofs.cell.set_number.Reads as set-number-reads
+use Rattle.lookup_moves.proofs.cell.weight_at.Reads as weight-at-reads
 
 add-weight-at : tie.Need-add-weight-at
 add-weight-at c =

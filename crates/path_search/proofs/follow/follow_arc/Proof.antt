@@ -1,5 +1,5 @@
 -- `path_search::follow::follow_arc` meets its contract. Assumes nothing.
-use Rattle.path_search.proofs.FollowArcsLaws.{shift-requires, shift-fits, follow-nowhere, reached-lt, follow-there}
+use Rattle.path_search.proofs.FollowArcsFacts.{shift-requires, shift-fits, follow-nowhere, reached-lt, follow-there}
 use mathlib.Core.Path.{refl}
 use native.Mathlib.Nat.{mod-le}
 use native.Mathlib.Omega.{arith}

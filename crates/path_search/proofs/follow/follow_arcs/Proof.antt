@@ -1,6 +1,6 @@
 -- `path_search::follow::follow_arcs` meets its contract. Assumes nothing.
-use Rattle.path_search.proofs.FollowArcsLaws.{Following, following-start, following-turn, following-up, following-end}
-use Rattle.path_search.proofs.ReadLaws.{state-lt, weights-kept}
+use Rattle.path_search.proofs.FollowArcsFacts.{Following, following-start, following-turn, following-up, following-end}
+use Rattle.path_search.proofs.ReadFacts.{state-lt, weights-kept}
 use Prim.Native.Nat.{_-_, _/_}
 use mathlib.Core.Path.{refl}
 use native.Mathlib.Omega.{arith}

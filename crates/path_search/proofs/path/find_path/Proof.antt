@@ -4,18 +4,18 @@ use Prim.Native.Nat.{_<_}
 use native.Mathlib.Omega.{arith}
 use lib.ListN.{length}
 use denote.Ref.{now}
-use Rattle.cells.proofs.FillLaws.{placed, weight-requires, weight-is}
-use Rattle.cells.specs.Answers.{optionAs}
+use Rattle.lookup_cells.proofs.FillFacts.{placed, weight-requires, weight-is}
+use Rattle.lookup_cells.specs.Answers.{optionAs}
 use Rattle.path_search.specs.Answers.{reachedAs}
-use Rattle.path_search.proofs.PathLaws.{trace-fillable, states-there, searchable, chainable, weights, nothing-found, retraceable, search-finds, can-count-back, can-walk-back, least-traced, nothing-told, least-told}
+use Rattle.path_search.proofs.PathFacts.{trace-fillable, states-there, searchable, chainable, weights, nothing-found, retraceable, search-finds, can-count-back, can-walk-back, least-traced, nothing-told, least-told}
 use borrow.Author.Needs.{needs}
 use Rattle.path_search.proofs.path.find_path.Statement.{statement}
 use Rattle.path_search.proofs.path.find_path.Tie as tie
 use Rattle.path_search.proofs.path.find_path.Reads as reads
 use Rattle.path_search.proofs.path.find_path.Lts as lts
-use Rattle.cell_moves.proofs.spot.spans_of.Reads as spans-of-reads
-use Rattle.cells.proofs.ends.least_from.Reads as least-from-reads
-use Rattle.cells.proofs.fill.fill_cells.Reads as fill-cells-reads
+use Rattle.lookup_moves.proofs.spot.spans_of.Reads as spans-of-reads
+use Rattle.lookup_cells.proofs.ends.least_from.Reads as least-from-reads
+use Rattle.lookup_cells.proofs.fill.fill_cells.Reads as fill-cells-reads
 use Rattle.path_search.proofs.path.list_path.Reads as list-path-reads
 use Rattle.path_search.proofs.path.search_cells.Reads as search-cells-reads
 

@@ -1,6 +1,6 @@
 -- `path_search::path::list_path` meets its contract. Assumes nothing.
 use native.Mathlib.Omega.{arith}
-use Rattle.path_search.proofs.ListLaws.{short-told, path-told, counted-walk}
+use Rattle.path_search.proofs.ListFacts.{short-told, path-told, counted-walk}
 use borrow.Author.Needs.{needs}
 use Rattle.path_search.proofs.path.list_path.Statement.{statement}
 use Rattle.path_search.proofs.path.list_path.Tie as tie

@@ -1,12 +1,12 @@
 -- `path_search::path::search_cells` meets its contract. Assumes nothing.
 use mathlib.Core.Path.{_∙_}
-use Rattle.path_search.proofs.CellsLaws.{started-kept, started-weights, cells-searched}
+use Rattle.path_search.proofs.CellsFacts.{started-kept, started-weights, cells-searched}
 use borrow.Author.Needs.{needs}
 use Rattle.path_search.proofs.path.search_cells.Statement.{statement}
 use Rattle.path_search.proofs.path.search_cells.Tie as tie
 use Rattle.path_search.proofs.path.search_cells.Reads as reads
 use Rattle.path_search.proofs.path.search_cells.Lts as lts
-use Rattle.adjacency.proofs.chain_arcs.Reads as chain-arcs-reads
+use Rattle.table_adjacency.proofs.chain_arcs.Reads as chain-arcs-reads
 use Rattle.path_search.proofs.search.enter_starts.Reads as enter-starts-reads
 use Rattle.path_search.proofs.search.search.Reads as search-reads
 

@@ -1,5 +1,5 @@
 -- `path_search::search::enter_start` meets its contract. Assumes nothing.
-use Rattle.path_search.proofs.SearchedLaws.{from-requires, start-other, start-here}
+use Rattle.path_search.proofs.SearchedFacts.{from-requires, start-other, start-here}
 use mathlib.Core.Path.{refl}
 use denote.Ref.{now}
 use lib.Arith.{digits-lt}
@@ -9,8 +9,8 @@ use Rattle.path_search.proofs.search.enter_start.Statement.{statement}
 use Rattle.path_search.proofs.search.enter_start.Tie as tie
 use Rattle.path_search.proofs.search.enter_start.Reads as reads
 use Rattle.path_search.proofs.search.enter_start.Lts as lts
-use Rattle.cell_moves.proofs.cell.cell_number.Reads as cell-number-reads
-use Rattle.cells.proofs.ends.from_state.Reads as from-state-reads
+use Rattle.lookup_moves.proofs.cell.cell_number.Reads as cell-number-reads
+use Rattle.lookup_cells.proofs.ends.from_state.Reads as from-state-reads
 use Rattle.path_search.proofs.enter.enter_cell.Reads as enter-cell-reads
 
 from-state-requires : tie.Need-from-state-requires

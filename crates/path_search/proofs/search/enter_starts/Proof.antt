@@ -1,6 +1,6 @@
 -- `path_search::search::enter_starts` meets its contract. Assumes nothing.
-use Rattle.path_search.proofs.SearchedLaws.{Starting, starting-first, starting-turn, starting-end}
-use Rattle.path_search.proofs.ReadLaws.{weights-kept}
+use Rattle.path_search.proofs.SearchedFacts.{Starting, starting-first, starting-turn, starting-end}
+use Rattle.path_search.proofs.ReadFacts.{weights-kept}
 use Prim.Native.Nat.{_-_}
 use native.Mathlib.Omega.{arith}
 use borrow.Author.Needs.{needs}

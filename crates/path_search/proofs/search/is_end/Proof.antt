@@ -1,5 +1,5 @@
 -- `path_search::search::is_end` meets its contract. Assumes nothing.
-use Rattle.path_search.proofs.SearchedLaws.{end-absent, end-early, end-last}
+use Rattle.path_search.proofs.SearchedFacts.{end-absent, end-early, end-last}
 use native.Mathlib.Nat.{mod-lt}
 use native.Mathlib.Omega.{arith}
 use borrow.Author.Needs.{needs}
@@ -7,8 +7,8 @@ use Rattle.path_search.proofs.search.is_end.Statement.{statement}
 use Rattle.path_search.proofs.search.is_end.Tie as tie
 use Rattle.path_search.proofs.search.is_end.Reads as reads
 use Rattle.path_search.proofs.search.is_end.Lts as lts
-use Rattle.cell_moves.proofs.cell.weight_at.Reads as weight-at-reads
-use Rattle.memory.proofs.record.load_state.Reads as load-state-reads
+use Rattle.lookup_moves.proofs.cell.weight_at.Reads as weight-at-reads
+use Rattle.table.proofs.record.load_state.Reads as load-state-reads
 
 div-load-state : tie.Need-div-load-state
 div-load-state c = search needs

@@ -1,13 +1,13 @@
 -- `path_search::search::search` meets its contract. Assumes nothing.
-use Rattle.path_search.proofs.SearchedLaws.{Searching, searching-start, searching-none, order-room, here-lt, end-requires, searching-found, searching-turn}
-use Rattle.path_search.proofs.ReadLaws.{weights-kept}
+use Rattle.path_search.proofs.SearchedFacts.{Searching, searching-start, searching-none, order-room, here-lt, end-requires, searching-found, searching-turn}
+use Rattle.path_search.proofs.ReadFacts.{weights-kept}
 use Prim.Native.Nat.{_-_, _*_}
 use native.Mathlib.Omega.{arith}
 use Rattle.path_search.proofs.search.search.Statement.{statement}
 use Rattle.path_search.proofs.search.search.Tie as tie
 use Rattle.path_search.proofs.search.search.Reads as reads
 use Rattle.path_search.proofs.search.search.Lts as lts
-use Rattle.cell_moves.proofs.cell.weight_at.Reads as weight-at-reads
+use Rattle.lookup_moves.proofs.cell.weight_at.Reads as weight-at-reads
 use Rattle.path_search.proofs.follow.follow_arcs.Reads as follow-arcs-reads
 use Rattle.path_search.proofs.search.is_end.Reads as is-end-reads
 

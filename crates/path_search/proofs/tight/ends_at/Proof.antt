@@ -1,13 +1,13 @@
 -- `path_search::tight::ends_at` meets its contract. Assumes nothing.
-use Rattle.path_search.proofs.TightLaws.{laid-parts, ends-moved, ends-stuck}
+use Rattle.path_search.proofs.TightFacts.{laid-parts, ends-moved, ends-stuck}
 use native.Mathlib.Omega.{arith}
 use borrow.Author.Needs.{needs}
 use Rattle.path_search.proofs.tight.ends_at.Statement.{statement}
 use Rattle.path_search.proofs.tight.ends_at.Tie as tie
 use Rattle.path_search.proofs.tight.ends_at.Reads as reads
 use Rattle.path_search.proofs.tight.ends_at.Lts as lts
-use Rattle.cell_moves.proofs.moves.moved_back.Reads as moved-back-reads
-use Rattle.cell_moves.proofs.spot.spot_at.Reads as spot-at-reads
+use Rattle.lookup_moves.proofs.moves.moved_back.Reads as moved-back-reads
+use Rattle.lookup_moves.proofs.spot.spot_at.Reads as spot-at-reads
 
 spot-at-requires : tie.Need-spot-at-requires
 spot-at-requires c κs = search needs

@@ -1,6 +1,6 @@
 -- `path_search::tight::shift_of` meets its contract. Assumes nothing.
-use Rattle.path_search.proofs.TightLaws.{shift-start, shift-turn, shift-end, label-short, shift-bound}
-use Rattle.tight_paths.specs.Tight.{shiftBy}
+use Rattle.path_search.proofs.TightFacts.{shift-start, shift-turn, shift-end, label-short, shift-bound}
+use Rattle.path_search.specs.Tight.{shiftBy}
 use Prim.Native.Nat.{_+_, _-_, _*_, _≤_}
 use mathlib.Core.Path.{_≡_, _∙_}
 use native.Mathlib.Omega.{arith}
@@ -9,11 +9,12 @@ use Rattle.path_search.proofs.tight.shift_of.Statement.{statement}
 use Rattle.path_search.proofs.tight.shift_of.Tie as tie
 use Rattle.path_search.proofs.tight.shift_of.Reads as reads
 use Rattle.path_search.proofs.tight.shift_of.Lts as lts
+use Rattle.automata.specs.Layout.{arcSize, labelSize, labelsPlace}
 
 abbrev Inv-loop : tie.InvT-loop
 Inv-loop counts arcs e behind shift₀ at₀ h₀ shift at h =
-    (h ≤ counts .tapes) × (at ≡ 80 * e + 8 + 9 * h) × (shift ≤ h * 2549158503125000)
-    × (shift + shiftBy (counts .tapes - h) h at arcs behind ≡ shiftBy (counts .tapes) 0 (80 * e + 8) arcs behind)
+    (h ≤ counts .tapes) × (at ≡ arcSize * e + labelsPlace + labelSize * h) × (shift ≤ h * 2549158503125000)
+    × (shift + shiftBy (counts .tapes - h) h at arcs behind ≡ shiftBy (counts .tapes) 0 (arcSize * e + labelsPlace) arcs behind)
 
 abbrev μ-loop : tie.MeasureT-loop
 μ-loop counts arcs e behind shift₀ at₀ h₀ shift at h = counts .tapes - h

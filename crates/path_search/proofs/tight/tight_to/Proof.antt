@@ -1,5 +1,5 @@
 -- `path_search::tight::tight_to` meets its contract. Assumes nothing.
-use Rattle.path_search.proofs.TightLaws.{weight-there, tight-out, tight-differs, tight-astray, tight-leads}
+use Rattle.path_search.proofs.TightFacts.{weight-there, tight-out, tight-differs, tight-astray, tight-leads}
 use Prim.Native.Nat.{_<_}
 use mathlib.Core.Path.{refl}
 use lib.ListN.{length}
@@ -10,10 +10,10 @@ use Rattle.path_search.proofs.tight.tight_to.Statement.{statement}
 use Rattle.path_search.proofs.tight.tight_to.Tie as tie
 use Rattle.path_search.proofs.tight.tight_to.Reads as reads
 use Rattle.path_search.proofs.tight.tight_to.Lts as lts
-use Rattle.cell_moves.proofs.cell.cell_number.Reads as cell-number-reads
-use Rattle.cell_moves.proofs.cell.weight_at.Reads as weight-at-reads
-use Rattle.memory.proofs.bytes.get16.Reads as get16-reads
-use Rattle.memory.proofs.bytes.get32.Reads as get32-reads
+use Rattle.lookup_moves.proofs.cell.cell_number.Reads as cell-number-reads
+use Rattle.lookup_moves.proofs.cell.weight_at.Reads as weight-at-reads
+use Rattle.table.proofs.bytes.get16.Reads as get16-reads
+use Rattle.table.proofs.bytes.get32.Reads as get32-reads
 use Rattle.path_search.proofs.tight.ends_at.Reads as ends-at-reads
 
 returns : tie.Need-returns

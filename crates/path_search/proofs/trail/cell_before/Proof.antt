@@ -1,12 +1,12 @@
 -- `path_search::trail::cell_before` meets its contract. Assumes nothing.
-use Rattle.path_search.proofs.TrailLaws.{before-fits, before-is}
+use Rattle.path_search.proofs.TrailFacts.{before-fits, before-is}
 use native.Mathlib.Omega.{arith}
 use borrow.Author.Needs.{needs}
 use Rattle.path_search.proofs.trail.cell_before.Statement.{statement}
 use Rattle.path_search.proofs.trail.cell_before.Tie as tie
 use Rattle.path_search.proofs.trail.cell_before.Reads as reads
 use Rattle.path_search.proofs.trail.cell_before.Lts as lts
-use Rattle.memory.proofs.bytes.get16.Reads as get16-reads
+use Rattle.table.proofs.bytes.get16.Reads as get16-reads
 use Rattle.path_search.proofs.tight.shift_of.Reads as shift-of-reads
 
 mul-get16 : tie.Need-mul-get16

@@ -1,13 +1,13 @@
 -- `path_search::trail::count_arcs` meets its contract. Assumes nothing.
-use Rattle.path_search.proofs.TrailLaws.{Counting, count-first, count-cell, count-stop, count-behind, count-turn, count-end}
-use Rattle.cell_moves.specs.Distances.{cellsOf}
+use Rattle.path_search.proofs.TrailFacts.{Counting, count-first, count-cell, count-stop, count-behind, count-turn, count-end}
+use Rattle.lookup_moves.specs.Distances.{cellsOf}
 use native.Mathlib.Omega.{arith}
 use borrow.Author.Needs.{needs}
 use Rattle.path_search.proofs.trail.count_arcs.Statement.{statement}
 use Rattle.path_search.proofs.trail.count_arcs.Tie as tie
 use Rattle.path_search.proofs.trail.count_arcs.Reads as reads
 use Rattle.path_search.proofs.trail.count_arcs.Lts as lts
-use Rattle.cell_moves.proofs.cell.weight_at.Reads as weight-at-reads
+use Rattle.lookup_moves.proofs.cell.weight_at.Reads as weight-at-reads
 use Rattle.path_search.proofs.trail.cell_before.Reads as cell-before-reads
 
 abbrev Inv-loop : tie.InvT-loop

@@ -1,14 +1,14 @@
 -- `path_search::trail::write_arcs` meets its contract. Assumes nothing.
-use Rattle.path_search.proofs.TrailLaws.{Writing, write-first, write-cell, write-length, write-room, write-behind, write-turn, write-end}
-use Rattle.cell_moves.specs.Distances.{cellsOf}
+use Rattle.path_search.proofs.TrailFacts.{Writing, write-first, write-cell, write-length, write-room, write-behind, write-turn, write-end}
+use Rattle.lookup_moves.specs.Distances.{cellsOf}
 use native.Mathlib.Omega.{arith}
 use borrow.Author.Needs.{needs}
 use Rattle.path_search.proofs.trail.write_arcs.Statement.{statement}
 use Rattle.path_search.proofs.trail.write_arcs.Tie as tie
 use Rattle.path_search.proofs.trail.write_arcs.Reads as reads
 use Rattle.path_search.proofs.trail.write_arcs.Lts as lts
-use Rattle.cell_moves.proofs.cell.weight_at.Reads as weight-at-reads
-use Rattle.memory.proofs.bytes.put16.Reads as put16-reads
+use Rattle.lookup_moves.proofs.cell.weight_at.Reads as weight-at-reads
+use Rattle.table.proofs.bytes.put16.Reads as put16-reads
 use Rattle.path_search.proofs.trail.cell_before.Reads as cell-before-reads
 
 abbrev Inv-loop : tie.InvT-loop

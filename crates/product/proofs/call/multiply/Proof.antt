@@ -1,7 +1,7 @@
 -- `product::call::multiply` meets its contract. Assumes nothing.
-use Rattle.product.proofs.CallLaws.{call-ready, call-refused, call-made}
+use Rattle.product.proofs.CallFacts.{call-ready, call-refused, call-made}
 use denote.Ref.{now}
-use Rattle.memory.specs.Answers.{lent}
+use Rattle.table.specs.Answers.{lent}
 use borrow.Author.Needs.{needs}
 use Rattle.product.proofs.call.multiply.Statement.{statement}
 use Rattle.product.proofs.call.multiply.Tie as tie

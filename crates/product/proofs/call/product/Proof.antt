@@ -1,11 +1,11 @@
 -- `product::call::product` meets its contract. Assumes nothing.
-use Rattle.product.proofs.CallLaws.{call-cleared}
+use Rattle.product.proofs.CallFacts.{call-cleared}
 use borrow.Author.Needs.{needs}
 use Rattle.product.proofs.call.product.Statement.{statement}
 use Rattle.product.proofs.call.product.Tie as tie
 use Rattle.product.proofs.call.product.Reads as reads
 use Rattle.product.proofs.call.product.Lts as lts
-use Rattle.memory.proofs.bytes.zero.Reads as zero-reads
+use Rattle.table.proofs.bytes.zero.Reads as zero-reads
 use Rattle.product.proofs.call.multiply.Reads as multiply-reads
 
 multiply-requires : tie.Need-multiply-requires

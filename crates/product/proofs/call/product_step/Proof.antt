@@ -1,5 +1,5 @@
 -- `product::call::product_step` meets its contract. Assumes nothing.
-use Rattle.product.proofs.CallLaws.{limited, settleable, stepped}
+use Rattle.product.proofs.CallFacts.{limited, settleable, stepped}
 use mathlib.Core.Path.{refl}
 use borrow.Author.Needs.{needs}
 use Rattle.product.proofs.call.product_step.Statement.{statement}
@@ -8,7 +8,7 @@ use Rattle.product.proofs.call.product_step.Reads as reads
 use Rattle.product.proofs.call.product_step.Lts as lts
 use Rattle.product.proofs.finish.settle.Reads as settle-reads
 use Rattle.product.proofs.prepare.plan_for.Reads as plan-for-reads
-use Rattle.alignment.proofs.explore.explore.Reads as explore-reads
+use Rattle.product_search.proofs.explore.explore.Reads as explore-reads
 
 plan-for-requires : tie.Need-plan-for-requires
 plan-for-requires c κs = search needs

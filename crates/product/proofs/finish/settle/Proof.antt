@@ -1,5 +1,5 @@
 -- `product::finish::settle` meets its contract. Assumes nothing.
-use Rattle.product.proofs.SettleLaws.{settled-full, settled-arcs, settled-weights, settled-made, rows-fit, rows-within, moves-long, moves-within, states-room, arcs-room}
+use Rattle.product.proofs.SettleFacts.{settled-full, settled-arcs, settled-weights, settled-made, rows-fit, rows-within, moves-long, moves-within, states-room, arcs-room}
 use mathlib.Core.Path.{refl}
 use native.Mathlib.Omega.{arith}
 use denote.Ref.{now}

@@ -1,5 +1,5 @@
 -- `product::prepare::enough_work` meets its contract. Assumes nothing.
-use Rattle.product.proofs.CallLaws.{short-states, work-tested}
+use Rattle.product.proofs.CallFacts.{short-states, work-tested}
 use borrow.Author.Needs.{needs}
 use Rattle.product.proofs.prepare.enough_work.Statement.{statement}
 use Rattle.product.proofs.prepare.enough_work.Tie as tie

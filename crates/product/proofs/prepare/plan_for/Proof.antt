@@ -1,5 +1,5 @@
 -- `product::prepare::plan_for` meets its contract. Assumes nothing.
-use Rattle.product.proofs.CallLaws.{plan-is}
+use Rattle.product.proofs.CallFacts.{plan-is}
 use borrow.Author.Needs.{needs}
 use Rattle.product.proofs.prepare.plan_for.Statement.{statement}
 use Rattle.product.proofs.prepare.plan_for.Tie as tie

@@ -1,14 +1,14 @@
 -- `product::prepare::prepare` meets its contract. Assumes nothing.
-use Rattle.product.proofs.CallLaws.{first-refused, second-refused, tapes-few, too-wide, all-fine, too-short}
+use Rattle.product.proofs.CallFacts.{first-refused, second-refused, tapes-few, too-wide, all-fine, too-short}
 use native.Mathlib.Omega.{arith}
 use denote.Ref.{now}
-use Rattle.memory.specs.Answers.{lent}
+use Rattle.table.specs.Answers.{lent}
 use borrow.Author.Needs.{needs}
 use Rattle.product.proofs.prepare.prepare.Statement.{statement}
 use Rattle.product.proofs.prepare.prepare.Tie as tie
 use Rattle.product.proofs.prepare.prepare.Reads as reads
 use Rattle.product.proofs.prepare.prepare.Lts as lts
-use Rattle.memory.proofs.judge.judge.Reads as judge-reads
+use Rattle.table.proofs.judge.judge.Reads as judge-reads
 use Rattle.product.proofs.prepare.enough_work.Reads as enough-work-reads
 
 judge-requires : tie.Need-judge-requires

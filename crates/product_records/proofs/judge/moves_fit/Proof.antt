@@ -1,5 +1,5 @@
 -- `product_records::judge::moves_fit` meets its contract. Assumes nothing.
-use Rattle.product_records.proofs.ResultLaws.{moves-turn, moves-stop, moves-next, moves-done}
+use Rattle.product_records.proofs.ResultFacts.{moves-turn, moves-stop, moves-next, moves-done}
 use mathlib.Core.Path.{_≡_, refl, sym, _∙_}
 use Prim.Native.Nat.{_+_, _-_, _*_, _≤_}
 use native.Mathlib.Omega.{arith}
@@ -11,12 +11,13 @@ use Rattle.product_records.proofs.judge.moves_fit.Statement.{statement}
 use Rattle.product_records.proofs.judge.moves_fit.Tie as tie
 use Rattle.product_records.proofs.judge.moves_fit.Reads as reads
 use Rattle.product_records.proofs.judge.moves_fit.Lts as lts
-use Rattle.alignment.proofs.vertex.load_move.Reads as load-move-reads
+use Rattle.product_search.proofs.vertex.load_move.Reads as load-move-reads
 use Rattle.product_records.proofs.sum.move_weight.Reads as move-weight-reads
+use Rattle.automata.specs.Layout.{stepSize}
 
 abbrev Inv-loop : tie.InvT-loop
 Inv-loop work base count first-states first-arcs second-states second-arcs left₀ at₀ left at =
-    (at + 16 * left ≤ length work) × Moves first-states first-arcs second-states second-arcs work (movesAt at left work)
+    (at + stepSize * left ≤ length work) × Moves first-states first-arcs second-states second-arcs work (movesAt at left work)
     × (movesFit first-states first-arcs second-states second-arcs work (movesAt at left work) ≡ movesFit first-states first-arcs second-states second-arcs work (movesAt base count work))
 
 abbrev μ-loop : tie.MeasureT-loop

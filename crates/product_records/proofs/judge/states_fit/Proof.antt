@@ -1,5 +1,5 @@
 -- `product_records::judge::states_fit` meets its contract. Assumes nothing.
-use Rattle.product_records.proofs.ResultLaws.{vertices-turn, states-stop, states-next, states-done}
+use Rattle.product_records.proofs.ResultFacts.{vertices-turn, states-stop, states-next, states-done}
 use mathlib.Core.Path.{_≡_, refl, sym, _∙_}
 use Prim.Native.Nat.{_+_, _-_, _*_, _≤_}
 use native.Mathlib.Omega.{arith}
@@ -11,13 +11,14 @@ use Rattle.product_records.proofs.judge.states_fit.Statement.{statement
 use Rattle.product_records.proofs.judge.states_fit.Tie as tie
 use Rattle.product_records.proofs.judge.states_fit.Reads as reads
 use Rattle.product_records.proofs.judge.states_fit.Lts as lts
-use Rattle.alignment.proofs.vertex.load_vertex.Reads as load-vertex-reads
+use Rattle.product_search.proofs.vertex.load_vertex.Reads as load-vertex-reads
 use Rattle.product_records.proofs.sum.state_fits.Reads as state-fits-reads
 use Rattle.product_records.proofs.sum.vertex_state.Reads as vertex-state-reads
+use Rattle.automata.specs.Layout.{vertexSize}
 
 abbrev Inv-loop : tie.InvT-loop
 Inv-loop work count first-states second-states left₀ at₀ left at =
-    (at + 16 * left ≤ length work) × Vertices first-states second-states (verticesAt at left work)
+    (at + vertexSize * left ≤ length work) × Vertices first-states second-states (verticesAt at left work)
     × (statesFit first-states second-states (verticesAt at left work) ≡ statesFit first-states second-states (verticesAt 0 count work))
 
 abbrev μ-loop : tie.MeasureT-loop

@@ -1,5 +1,5 @@
 -- `product_records::judge::sums_fit` meets its contract. Assumes nothing.
-use Rattle.product_records.proofs.ResultLaws.{sums-stop, sums-next}
+use Rattle.product_records.proofs.ResultFacts.{sums-stop, sums-next}
 use borrow.Author.Needs.{needs}
 use Rattle.product_records.proofs.judge.sums_fit.Statement.{statement}
 use Rattle.product_records.proofs.judge.sums_fit.Tie as tie

@@ -1,5 +1,5 @@
 -- `product_records::record::clear_labels` meets its contract. Assumes nothing.
-use Rattle.product_records.proofs.RecordLaws.{thirds-stored}
+use Rattle.product_records.proofs.RecordFacts.{thirds-stored}
 use borrow.Author.Needs.{needs}
 use Rattle.product_records.proofs.record.clear_labels.Statement.{statement}
 use Rattle.product_records.proofs.record.clear_labels.Tie as tie

@@ -1,11 +1,11 @@
 -- `product_records::record::clear_third` meets its contract. Assumes nothing.
-use Rattle.product_records.proofs.RecordLaws.{thirds-stored}
+use Rattle.product_records.proofs.RecordFacts.{thirds-stored}
 use borrow.Author.Needs.{needs}
 use Rattle.product_records.proofs.record.clear_third.Statement.{statement}
 use Rattle.product_records.proofs.record.clear_third.Tie as tie
 use Rattle.product_records.proofs.record.clear_third.Reads as reads
 use Rattle.product_records.proofs.record.clear_third.Lts as lts
-use Rattle.memory.proofs.bytes.put64.Reads as put64-reads
+use Rattle.table.proofs.bytes.put64.Reads as put64-reads
 
 put64-requires : tie.Need-put64-requires
 put64-requires c κs = search needs

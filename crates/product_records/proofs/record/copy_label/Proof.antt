@@ -3,14 +3,14 @@ use mathlib.Core.Path.{_∙_}
 use denote.Ref.{now}
 use native.Mathlib.Omega.{arith}
 use lib.ListN.{length-set}
-use Rattle.product_records.proofs.RecordLaws.{label-copied}
+use Rattle.product_records.proofs.RecordFacts.{label-copied}
 use borrow.Author.Needs.{needs}
 use Rattle.product_records.proofs.record.copy_label.Statement.{statement}
 use Rattle.product_records.proofs.record.copy_label.Tie as tie
 use Rattle.product_records.proofs.record.copy_label.Reads as reads
 use Rattle.product_records.proofs.record.copy_label.Lts as lts
-use Rattle.memory.proofs.bytes.get64.Reads as get64-reads
-use Rattle.memory.proofs.bytes.put64.Reads as put64-reads
+use Rattle.table.proofs.bytes.get64.Reads as get64-reads
+use Rattle.table.proofs.bytes.put64.Reads as put64-reads
 
 shared-slice-read-len : tie.Need-shared-slice-read-len
 shared-slice-read-len c = search needs

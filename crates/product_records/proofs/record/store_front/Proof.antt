@@ -1,12 +1,12 @@
 -- `product_records::record::store_front` meets its contract. Assumes nothing.
-use Rattle.product_records.proofs.RecordLaws.{front-stored}
+use Rattle.product_records.proofs.RecordFacts.{front-stored}
 use borrow.Author.Needs.{needs}
 use Rattle.product_records.proofs.record.store_front.Statement.{statement}
 use Rattle.product_records.proofs.record.store_front.Tie as tie
 use Rattle.product_records.proofs.record.store_front.Reads as reads
 use Rattle.product_records.proofs.record.store_front.Lts as lts
-use Rattle.memory.proofs.bytes.put16.Reads as put16-reads
-use Rattle.memory.proofs.bytes.put32.Reads as put32-reads
+use Rattle.table.proofs.bytes.put16.Reads as put16-reads
+use Rattle.table.proofs.bytes.put32.Reads as put32-reads
 
 put16-requires : tie.Need-put16-requires
 put16-requires c κs = search needs

@@ -1,5 +1,5 @@
 -- `product_records::record::store_labels` meets its contract. Assumes nothing.
-use Rattle.product_records.proofs.RecordLaws.{labels-stored}
+use Rattle.product_records.proofs.RecordFacts.{labels-stored}
 use borrow.Author.Needs.{needs}
 use Rattle.product_records.proofs.record.store_labels.Statement.{statement}
 use Rattle.product_records.proofs.record.store_labels.Tie as tie

@@ -1,5 +1,5 @@
 -- `product_records::record::store_move` meets its contract. Assumes nothing.
-use Rattle.product_records.proofs.RecordLaws.{move-stored}
+use Rattle.product_records.proofs.RecordFacts.{move-stored}
 use borrow.Author.Needs.{needs}
 use Rattle.product_records.proofs.record.store_move.Statement.{statement}
 use Rattle.product_records.proofs.record.store_move.Tie as tie

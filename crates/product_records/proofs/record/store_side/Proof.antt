@@ -3,19 +3,20 @@ use mathlib.Core.Path.{_≡_, refl, _∙_}
 use native.Mathlib.Omega.{arith}
 use Prim.Native.Nat.{_+_, _*_, _≤_}
 use lib.ListN.{length}
-use Rattle.memory.specs.Region.{part, splice}
-use Rattle.product_records.proofs.RecordLaws.{side-ended, side-arc, labels-more, labels-done}
+use Rattle.table.specs.Region.{part, splice}
+use Rattle.product_records.proofs.RecordFacts.{side-ended, side-arc, labels-more, labels-done}
 use borrow.Author.Needs.{needs}
 use Rattle.product_records.proofs.record.store_side.Statement.{statement}
 use Rattle.product_records.proofs.record.store_side.Tie as tie
 use Rattle.product_records.proofs.record.store_side.Reads as reads
 use Rattle.product_records.proofs.record.store_side.Lts as lts
 use Rattle.product_records.proofs.record.copy_label.Reads as copy-label-reads
+use Rattle.automata.specs.Layout.{arcSize, labelSize, labelsPlace}
 
 abbrev Inv-loop : tie.InvT-loop
 Inv-loop arcs arc tapes out₀ to from₀ at₀ left₀ out from at left =
-    (from + 9 * left ≤ length arcs) × (at + 9 * left ≤ length out) × (length out ≡ length out₀)
-    × (splice at (part from (9 * left) arcs) out ≡ splice to (part (80 * arc + 8) (9 * tapes) arcs) out₀)
+    (from + labelSize * left ≤ length arcs) × (at + labelSize * left ≤ length out) × (length out ≡ length out₀)
+    × (splice at (part from (labelSize * left) arcs) out ≡ splice to (part (arcSize * arc + labelsPlace) (labelSize * tapes) arcs) out₀)
 
 abbrev μ-loop : tie.MeasureT-loop
 μ-loop arcs arc tapes out₀ to from₀ at₀ left₀ out from at left = left

@@ -1,10 +1,10 @@
 -- `product_records::result::write_moves` meets its contract. Assumes nothing.
-use Rattle.product_records.proofs.ResultLaws.{moves-turn, moves-written, moves-end}
+use Rattle.product_records.proofs.ResultFacts.{moves-turn, moves-written, moves-end}
 use mathlib.Core.Path.{_≡_, refl, sym, _∙_}
 use Prim.Native.Nat.{_+_, _-_, _*_, _≤_}
 use native.Mathlib.Omega.{arith}
 use lib.ListN.{length}
-use Rattle.memory.specs.Region.{splice}
+use Rattle.table.specs.Region.{splice}
 use Rattle.product_records.specs.Sums.{movesAt}
 use Rattle.product_records.specs.Results.{moveRecords, Moves}
 use borrow.Author.Needs.{needs}
@@ -12,12 +12,13 @@ use Rattle.product_records.proofs.result.write_moves.Statement.{stateme
 use Rattle.product_records.proofs.result.write_moves.Tie as tie
 use Rattle.product_records.proofs.result.write_moves.Reads as reads
 use Rattle.product_records.proofs.result.write_moves.Lts as lts
-use Rattle.alignment.proofs.vertex.load_move.Reads as load-move-reads
+use Rattle.product_search.proofs.vertex.load_move.Reads as load-move-reads
 use Rattle.product_records.proofs.record.store_move.Reads as store-move-reads
+use Rattle.automata.specs.Layout.{arcSize, stepSize}
 
 abbrev Inv-loop : tie.InvT-loop
 Inv-loop work base count first-tapes second-tapes first-states first-arcs second-states second-arcs out₀ left₀ at₀ to₀ out left at to =
-    (at + 16 * left ≤ length work) × (to + 80 * left ≤ length out) × (length out ≡ length out₀)
+    (at + stepSize * left ≤ length work) × (to + arcSize * left ≤ length out) × (length out ≡ length out₀)
     × Moves first-states first-arcs second-states second-arcs work (movesAt at left work)
     × (splice to (moveRecords first-states first-arcs second-states second-arcs work first-tapes second-tapes (movesAt at left work)) out
     ≡ splice 0 (moveRecords first-states first-arcs second-states second-arcs work first-tapes second-tapes (movesAt base count work)) out₀)

@@ -1,10 +1,10 @@
 -- `product_records::result::write_states` meets its contract. Assumes nothing.
-use Rattle.product_records.proofs.ResultLaws.{vertices-turn, states-written, states-end}
+use Rattle.product_records.proofs.ResultFacts.{vertices-turn, states-written, states-end}
 use mathlib.Core.Path.{_≡_, refl, sym, _∙_}
 use Prim.Native.Nat.{_+_, _-_, _*_, _≤_}
 use native.Mathlib.Omega.{arith}
 use lib.ListN.{length}
-use Rattle.memory.specs.Region.{splice}
+use Rattle.table.specs.Region.{splice}
 use Rattle.product_records.specs.Sums.{verticesAt}
 use Rattle.product_records.specs.Results.{stateRecords, Vertices}
 use borrow.Author.Needs.{needs}
@@ -12,13 +12,14 @@ use Rattle.product_records.proofs.result.write_states.Statement.{statem
 use Rattle.product_records.proofs.result.write_states.Tie as tie
 use Rattle.product_records.proofs.result.write_states.Reads as reads
 use Rattle.product_records.proofs.result.write_states.Lts as lts
-use Rattle.alignment.proofs.vertex.load_vertex.Reads as load-vertex-reads
-use Rattle.memory.proofs.record.store_state.Reads as store-state-reads
+use Rattle.product_search.proofs.vertex.load_vertex.Reads as load-vertex-reads
+use Rattle.table.proofs.record.store_state.Reads as store-state-reads
 use Rattle.product_records.proofs.sum.vertex_state.Reads as vertex-state-reads
+use Rattle.automata.specs.Layout.{stateSize, vertexSize}
 
 abbrev Inv-loop : tie.InvT-loop
 Inv-loop work count first-states second-states out₀ left₀ at₀ to₀ out left at to =
-    (at + 16 * left ≤ length work) × (to + 10 * left ≤ length out) × (length out ≡ length out₀) × Vertices first-states second-states (verticesAt at left work)
+    (at + vertexSize * left ≤ length work) × (to + stateSize * left ≤ length out) × (length out ≡ length out₀) × Vertices first-states second-states (verticesAt at left work)
     × (splice to (stateRecords first-states second-states (verticesAt at left work)) out ≡ splice 0 (stateRecords first-states second-states (verticesAt 0 count work)) out₀)
 
 abbrev μ-loop : tie.MeasureT-loop

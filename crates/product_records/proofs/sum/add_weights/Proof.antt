@@ -1,6 +1,6 @@
 -- `product_records::sum::add_weights` meets its contract. Assumes nothing.
 use native.Mathlib.Omega.{arith}
-use Rattle.product_records.proofs.SumLaws.{sum-fits, plus-there}
+use Rattle.product_records.proofs.SumFacts.{sum-fits, plus-there}
 use borrow.Author.Needs.{needs}
 use Rattle.product_records.proofs.sum.add_weights.Statement.{statement}
 use Rattle.product_records.proofs.sum.add_weights.Tie as tie

@@ -1,11 +1,11 @@
 -- `product_records::sum::move_weight` meets its contract. Assumes nothing.
-use Rattle.product_records.proofs.SumLaws.{side-loaded, move-summed}
+use Rattle.product_records.proofs.SumFacts.{side-loaded, move-summed}
 use borrow.Author.Needs.{needs}
 use Rattle.product_records.proofs.sum.move_weight.Statement.{statement}
 use Rattle.product_records.proofs.sum.move_weight.Tie as tie
 use Rattle.product_records.proofs.sum.move_weight.Reads as reads
 use Rattle.product_records.proofs.sum.move_weight.Lts as lts
-use Rattle.memory.proofs.bytes.get16.Reads as get16-reads
+use Rattle.table.proofs.bytes.get16.Reads as get16-reads
 use Rattle.product_records.proofs.sum.side_weight.Reads as side-weight-reads
 
 cast-row : tie.Need-cast-row

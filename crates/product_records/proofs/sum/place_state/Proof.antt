@@ -1,12 +1,12 @@
 -- `product_records::sum::place_state` meets its contract. Assumes nothing.
-use Rattle.product_records.proofs.SumLaws.{place-ended, place-loaded}
+use Rattle.product_records.proofs.SumFacts.{place-ended, place-loaded}
 use native.Mathlib.Omega.{arith}
 use borrow.Author.Needs.{needs}
 use Rattle.product_records.proofs.sum.place_state.Statement.{statement}
 use Rattle.product_records.proofs.sum.place_state.Tie as tie
 use Rattle.product_records.proofs.sum.place_state.Reads as reads
 use Rattle.product_records.proofs.sum.place_state.Lts as lts
-use Rattle.memory.proofs.record.load_state.Reads as load-state-reads
+use Rattle.table.proofs.record.load_state.Reads as load-state-reads
 
 returns : tie.Need-returns
 returns c = place-ended _ _ (c .if1 .taken)

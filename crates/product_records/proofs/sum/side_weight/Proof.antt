@@ -1,12 +1,12 @@
 -- `product_records::sum::side_weight` meets its contract. Assumes nothing.
-use Rattle.product_records.proofs.SumLaws.{side-ended, side-arc}
+use Rattle.product_records.proofs.SumFacts.{side-ended, side-arc}
 use native.Mathlib.Omega.{arith}
 use borrow.Author.Needs.{needs}
 use Rattle.product_records.proofs.sum.side_weight.Statement.{statement}
 use Rattle.product_records.proofs.sum.side_weight.Tie as tie
 use Rattle.product_records.proofs.sum.side_weight.Reads as reads
 use Rattle.product_records.proofs.sum.side_weight.Lts as lts
-use Rattle.memory.proofs.bytes.get32.Reads as get32-reads
+use Rattle.table.proofs.bytes.get32.Reads as get32-reads
 use Rattle.product_records.proofs.sum.place_state.Reads as place-state-reads
 use Rattle.product_records.proofs.sum.weight_amount.Reads as weight-amount-reads
 

@@ -1,5 +1,5 @@
 -- `product_records::sum::state_fits` meets its contract. Assumes nothing.
-use Rattle.product_records.proofs.SumLaws.{state-unfit, state-tested}
+use Rattle.product_records.proofs.SumFacts.{state-unfit, state-tested}
 use borrow.Author.Needs.{needs}
 use Rattle.product_records.proofs.sum.state_fits.Statement.{statement}
 use Rattle.product_records.proofs.sum.state_fits.Tie as tie

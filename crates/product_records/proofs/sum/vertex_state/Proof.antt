@@ -1,5 +1,5 @@
 -- `product_records::sum::vertex_state` meets its contract. Assumes nothing.
-use Rattle.product_records.proofs.SumLaws.{initial-small, last-small, vertex-summed}
+use Rattle.product_records.proofs.SumFacts.{initial-small, last-small, vertex-summed}
 use borrow.Author.Needs.{needs}
 use Rattle.product_records.proofs.sum.vertex_state.Statement.{statement}
 use Rattle.product_records.proofs.sum.vertex_state.Tie as tie

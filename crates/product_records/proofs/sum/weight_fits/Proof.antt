@@ -1,5 +1,5 @@
 -- `product_records::sum::weight_fits` meets its contract. Assumes nothing.
-use Rattle.product_records.proofs.SumLaws.{weight-tested}
+use Rattle.product_records.proofs.SumFacts.{weight-tested}
 use borrow.Author.Needs.{needs}
 use Rattle.product_records.proofs.sum.weight_fits.Statement.{statement}
 use Rattle.product_records.proofs.sum.weight_fits.Tie as tie

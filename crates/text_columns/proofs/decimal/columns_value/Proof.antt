@@ -5,16 +5,17 @@ use native.Mathlib.Omega.{arith}
 use denote.Ref.{now}
 use lib.ListN.{length, drop}
 use Rattle.text_columns.specs.Columns.{columnsValue}
-use Rattle.text_columns.proofs.ColumnLaws.{value-turn, value-end, value-bound, value-fits}
+use Rattle.text_columns.proofs.ColumnFacts.{value-turn, value-end, value-bound, value-fits}
 use borrow.Author.Needs.{needs}
 use Rattle.text_columns.proofs.decimal.columns_value.Statement.{statement}
 use Rattle.text_columns.proofs.decimal.columns_value.Tie as tie
 use Rattle.text_columns.proofs.decimal.columns_value.Reads as reads
 use Rattle.text_columns.proofs.decimal.columns_value.Lts as lts
 use Rattle.text_columns.proofs.decimal.wide.Reads as wide-reads
+use Rattle.automata.specs.Layout.{amountWidth}
 
 abbrev Inv-loop : tie.InvT-loop
-Inv-loop column n₀ i₀ i-end n i = (i ≤ length column) × (i-end ≡ length column) × (length column ≤ 10) × (n < 16 ^ i) × (columnsValue n (drop i column) ≡ columnsValue 0 column)
+Inv-loop column n₀ i₀ i-end n i = (i ≤ length column) × (i-end ≡ length column) × (length column ≤ amountWidth) × (n < 16 ^ i) × (columnsValue n (drop i column) ≡ columnsValue 0 column)
 
 abbrev μ-loop : tie.MeasureT-loop
 μ-loop column n₀ i₀ i-end n i = i-end - i

@@ -1,7 +1,7 @@
 -- `text_columns::decimal::last_column` meets its contract. Assumes nothing.
 use mathlib.Core.Path.{_≡_, sym, ap, _∙_}
 use native.Mathlib.Omega.{arith}
-use Rattle.text_columns.proofs.ColumnLaws.{digit-from}
+use Rattle.text_columns.proofs.ColumnFacts.{digit-from}
 use borrow.Author.Needs.{needs}
 use Rattle.text_columns.proofs.decimal.last_column.Statement.{statement}
 use Rattle.text_columns.proofs.decimal.last_column.Tie as tie

@@ -1,7 +1,7 @@
 -- `text_columns::decimal::leading_column` meets its contract. Assumes nothing.
 use mathlib.Core.Path.{_≡_, sym, ap, _∙_}
 use native.Mathlib.Omega.{arith}
-use Rattle.text_columns.proofs.ColumnLaws.{digit-from, column-zero, column-digit, column-other, column-late}
+use Rattle.text_columns.proofs.ColumnFacts.{digit-from, column-zero, column-digit, column-other, column-late}
 use borrow.Author.Needs.{needs}
 use Rattle.text_columns.proofs.decimal.leading_column.Statement.{statement}
 use Rattle.text_columns.proofs.decimal.leading_column.Tie as tie

@@ -6,7 +6,7 @@ use Prim.Native.Nat.{ℕ, _+_, _-_, _^_, _≤_, _<_}
 use lib.ListN.{length, drop, getD}
 use denote.Ref.{now}
 use Rattle.text_columns.specs.Columns.{readDecimal}
-use Rattle.text_columns.proofs.ColumnLaws.{scanNumber, scan-decimal, nine-digits, number-refused, number-next, number-last-at, column-bound}
+use Rattle.text_columns.proofs.ColumnFacts.{scanNumber, scan-decimal, nine-digits, number-refused, number-next, number-last-at, column-bound}
 use borrow.Author.Needs.{needs}
 use Rattle.text_columns.proofs.decimal.read_decimal.Statement.{statement}
 use Rattle.text_columns.proofs.decimal.read_decimal.Tie as tie

@@ -2,7 +2,7 @@
 use mathlib.Core.Path.{_≡_, refl, sym, ap, _∙_}
 use native.Mathlib.Omega.{arith}
 use denote.Ref.{now}
-use Rattle.text_columns.proofs.LabelLaws.{number-refused, number-beyond, number-within}
+use Rattle.text_columns.proofs.LabelFacts.{number-refused, number-beyond, number-within}
 use borrow.Author.Needs.{needs}
 use Rattle.text_columns.proofs.decimal.read_state_number.Statement.{statement}
 use Rattle.text_columns.proofs.decimal.read_state_number.Tie as tie

@@ -2,7 +2,7 @@
 use mathlib.Core.Path.{_≡_, refl, sym, ap, _∙_}
 use native.Mathlib.Omega.{arith}
 use denote.Ref.{now}
-use Rattle.text_columns.proofs.WriteLaws.{decimal-written}
+use Rattle.text_columns.proofs.WriteFacts.{decimal-written}
 use borrow.Author.Needs.{needs}
 use Rattle.text_columns.proofs.decimal.write_decimal.Statement.{statement}
 use Rattle.text_columns.proofs.decimal.write_decimal.Tie as tie

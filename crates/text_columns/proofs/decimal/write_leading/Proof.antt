@@ -4,9 +4,9 @@ use native.Mathlib.Omega.{arith}
 use denote.Ref.{now}
 use Prim.Native.Nat.{_+_, _-_, _≤_}
 use lib.ListN.{length, length-set}
-use Rattle.memory.specs.Region.{splice}
+use Rattle.table.specs.Region.{splice}
 use Rattle.text_columns.specs.Columns.{leadingText}
-use Rattle.text_columns.proofs.WriteLaws.{leading-turn, leading-done}
+use Rattle.text_columns.proofs.WriteFacts.{leading-turn, leading-done}
 use borrow.Author.Needs.{needs}
 use Rattle.text_columns.proofs.decimal.write_leading.Statement.{statement}
 use Rattle.text_columns.proofs.decimal.write_leading.Tie as tie

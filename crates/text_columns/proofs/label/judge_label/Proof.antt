@@ -1,6 +1,6 @@
 -- `text_columns::label::judge_label` meets its contract. Assumes nothing.
 use mathlib.Core.Bool.{true, false}
-use Rattle.text_columns.proofs.LabelLaws.{label-judged}
+use Rattle.text_columns.proofs.LabelFacts.{label-judged}
 use borrow.Author.Needs.{needs}
 use Rattle.text_columns.proofs.label.judge_label.Statement.{statement}
 use Rattle.text_columns.proofs.label.judge_label.Tie as tie

@@ -5,19 +5,20 @@ use denote.Ref.{now}
 use Prim.Native.Nat.{_+_, _*_}
 use lib.ListN.{length, drop}
 use Rattle.automata.specs.Answer.{beside, forget}
-use Rattle.memory.specs.Answers.{judgedAs}
+use Rattle.automata.specs.Layout.{labelWidth}
+use Rattle.table.specs.Answers.{judgedAs}
 use Rattle.text_columns.specs.Columns.{labelsRead}
-use Rattle.text_columns.proofs.LabelLaws.{labels-start, labels-turn, labels-end}
+use Rattle.text_columns.proofs.LabelFacts.{labels-start, labels-turn, labels-end}
 use borrow.Author.Needs.{needs}
 use Rattle.text_columns.proofs.label.judge_labels.Statement.{statement}
 use Rattle.text_columns.proofs.label.judge_labels.Tie as tie
 use Rattle.text_columns.proofs.label.judge_labels.Reads as reads
 use Rattle.text_columns.proofs.label.judge_labels.Lts as lts
-use Rattle.memory.proofs.answer.both.Reads as both-reads
+use Rattle.table.proofs.answer.both.Reads as both-reads
 use Rattle.text_columns.proofs.label.judge_label.Reads as judge-label-reads
 
 abbrev Inv-loop : tie.InvT-loop
-Inv-loop labels tapes judged₀ left₀ at₀ judged left at = (at + left * 9 ≡ length labels) × (forget (beside (judgedAs judged) (labelsRead left (drop at labels))) ≡ forget (labelsRead tapes labels))
+Inv-loop labels tapes judged₀ left₀ at₀ judged left at = (at + left * labelWidth ≡ length labels) × (forget (beside (judgedAs judged) (labelsRead left (drop at labels))) ≡ forget (labelsRead tapes labels))
 
 abbrev μ-loop : tie.MeasureT-loop
 μ-loop labels tapes judged₀ left₀ at₀ judged left at = left

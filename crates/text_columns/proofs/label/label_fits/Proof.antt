@@ -5,8 +5,9 @@ use native.Mathlib.Omega.{arith}
 use denote.Ref.{now}
 use lib.ListN.{length, drop, getD}
 use Rattle.automata.specs.Lists.{and}
+use Rattle.automata.specs.Layout.{labelWidth}
 use Rattle.text_columns.specs.Columns.{followFrom, labelFits}
-use Rattle.text_columns.proofs.LabelLaws.{follow-turn, follow-end}
+use Rattle.text_columns.proofs.LabelFacts.{follow-turn, follow-end}
 use borrow.Author.Needs.{needs}
 use Rattle.text_columns.proofs.label.label_fits.Statement.{statement}
 use Rattle.text_columns.proofs.label.label_fits.Tie as tie
@@ -15,10 +16,10 @@ use Rattle.text_columns.proofs.label.label_fits.Lts as lts
 use Rattle.text_columns.proofs.label.may_follow.Reads as may-follow-reads
 
 abbrev Inv-loop : tie.InvT-loop
-Inv-loop column fits₀ i₀ fits i = (1 ≤ i) × (i ≤ 9) × (length column ≡ 9) × (and fits (followFrom (getD column (i - 1) 0) (drop i column)) ≡ labelFits column)
+Inv-loop column fits₀ i₀ fits i = (1 ≤ i) × (i ≤ labelWidth) × (length column ≡ labelWidth) × (and fits (followFrom (getD column (i - 1) 0) (drop i column)) ≡ labelFits column)
 
 abbrev μ-loop : tie.MeasureT-loop
-μ-loop column fits₀ i₀ fits i = 9 - i
+μ-loop column fits₀ i₀ fits i = labelWidth - i
 
 shared-slice-read-fits : tie.Need-shared-slice-read-fits Inv-loop μ-loop
 shared-slice-read-fits c = search needs

@@ -8,7 +8,7 @@ use Rattle.text_columns.proofs.label.may_follow.Statement.{statement}
 use Rattle.text_columns.proofs.label.may_follow.Tie as tie
 use Rattle.text_columns.proofs.label.may_follow.Reads as reads
 use Rattle.text_columns.proofs.label.may_follow.Lts as lts
-use Rattle.memory.proofs.symbol.is_symbol.Reads as is-symbol-reads
+use Rattle.table.proofs.symbol.is_symbol.Reads as is-symbol-reads
 
 is-symbol-requires : tie.Need-is-symbol-requires
 is-symbol-requires c κs = search needs

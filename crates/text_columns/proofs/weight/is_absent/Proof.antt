@@ -2,7 +2,7 @@
 use mathlib.Core.Path.{_≡_, refl, sym, ap, _∙_}
 use native.Mathlib.Omega.{arith}
 use denote.Ref.{now}
-use Rattle.text_columns.proofs.WeightLaws.{absent-other, absent-last}
+use Rattle.text_columns.proofs.WeightFacts.{absent-other, absent-last}
 use borrow.Author.Needs.{needs}
 use Rattle.text_columns.proofs.weight.is_absent.Statement.{statement}
 use Rattle.text_columns.proofs.weight.is_absent.Tie as tie

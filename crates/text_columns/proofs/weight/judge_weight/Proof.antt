@@ -2,7 +2,7 @@
 use mathlib.Core.Path.{sym, _∙_}
 use denote.Ref.{now}
 use borrow.Author.Needs.{needs}
-use Rattle.text_columns.proofs.WeightLaws.{weight-absent, weight-judged}
+use Rattle.text_columns.proofs.WeightFacts.{weight-absent, weight-judged}
 use Rattle.text_columns.proofs.weight.judge_weight.Statement.{statement}
 use Rattle.text_columns.proofs.weight.judge_weight.Tie as tie
 use Rattle.text_columns.proofs.weight.judge_weight.Reads as reads

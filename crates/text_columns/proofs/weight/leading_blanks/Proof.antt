@@ -5,7 +5,7 @@ use native.Mathlib.Omega.{arith}
 use denote.Ref.{now}
 use lib.ListN.{length}
 use Rattle.text_columns.specs.Columns.{blankCount}
-use Rattle.text_columns.proofs.WeightLaws.{blanksFrom, blanks-turn, blanks-end}
+use Rattle.text_columns.proofs.WeightFacts.{blanksFrom, blanks-turn, blanks-end}
 use borrow.Author.Needs.{needs}
 use Rattle.text_columns.proofs.weight.leading_blanks.Statement.{statement}
 use Rattle.text_columns.proofs.weight.leading_blanks.Tie as tie

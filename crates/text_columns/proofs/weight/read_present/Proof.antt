@@ -2,7 +2,7 @@
 use mathlib.Core.Path.{_≡_, refl, sym, ap, _∙_}
 use native.Mathlib.Omega.{arith}
 use denote.Ref.{now}
-use Rattle.text_columns.proofs.WeightLaws.{present-refused, present-size, present-value}
+use Rattle.text_columns.proofs.WeightFacts.{present-refused, present-size, present-value}
 use borrow.Author.Needs.{needs}
 use Rattle.text_columns.proofs.weight.read_present.Statement.{statement}
 use Rattle.text_columns.proofs.weight.read_present.Tie as tie

@@ -1,5 +1,5 @@
 -- `text_print::print::print_arc` meets its contract. Assumes nothing.
-use Rattle.text_print.proofs.PrintedLaws.{arc-printed}
+use Rattle.text_print.proofs.PrintedFacts.{arc-printed}
 use lib.ListN.{length-set}
 use denote.Ref.{now}
 use native.Mathlib.Omega.{arith}

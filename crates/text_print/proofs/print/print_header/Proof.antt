@@ -1,5 +1,5 @@
 -- `text_print::print::print_header` meets its contract. Assumes nothing.
-use Rattle.text_print.proofs.PrintedLaws.{header-printed}
+use Rattle.text_print.proofs.PrintedFacts.{header-printed}
 use lib.ListN.{length-set}
 use mathlib.Core.Path.{_≡_, refl, sym, ap, _∙_}
 use borrow.Author.Needs.{needs}

@@ -1,11 +1,11 @@
 -- `text_print::print::print_label` meets its contract. Assumes nothing.
-use Rattle.text_print.proofs.PrintedLaws.{label-printed}
+use Rattle.text_print.proofs.PrintedFacts.{label-printed}
 use borrow.Author.Needs.{needs}
 use Rattle.text_print.proofs.print.print_label.Statement.{statement}
 use Rattle.text_print.proofs.print.print_label.Tie as tie
 use Rattle.text_print.proofs.print.print_label.Reads as reads
 use Rattle.text_print.proofs.print.print_label.Lts as lts
-use Rattle.memory.proofs.bytes.copy_into.Reads as copy-into-reads
+use Rattle.table.proofs.bytes.copy_into.Reads as copy-into-reads
 use Rattle.text_print.proofs.print.label_length.Reads as label-length-reads
 
 shared-slice-read-label-length : tie.Need-shared-slice-read-label-length

@@ -1,9 +1,9 @@
 -- `text_print::print::print_labels` meets its contract. Assumes nothing.
-use Rattle.text_print.proofs.PrintedLaws.{label-sized}
+use Rattle.text_print.proofs.PrintedFacts.{label-sized}
 use Rattle.text_print.specs.Printed.{columnsOfLabel}
-use Rattle.text_store.proofs.RecodeLaws.{recode-turn, recode-done}
+use Rattle.text_store.proofs.RecodeFacts.{recode-turn, recode-done}
 use Rattle.text_store.specs.Recode.{recoded}
-use Rattle.memory.specs.Region.{splice}
+use Rattle.table.specs.Region.{splice}
 use lib.ListN.{length, drop}
 use Prim.Native.Nat.{_+_, _*_, _≤_}
 use native.Mathlib.Omega.{arith}
@@ -14,10 +14,11 @@ use Rattle.text_print.proofs.print.print_labels.Tie as tie
 use Rattle.text_print.proofs.print.print_labels.Reads as reads
 use Rattle.text_print.proofs.print.print_labels.Lts as lts
 use Rattle.text_print.proofs.print.print_label.Reads as print-label-reads
+use Rattle.automata.specs.Layout.{labelSize, labelWidth}
 
 abbrev Inv-loop : tie.InvT-loop
-Inv-loop records tapes out₀ start left₀ at₀ to₀ out left at to = (at + left * 9 ≤ length records) × (to + left * 9 ≤ length out) × (length out ≡ length out₀)
-    × (splice to (recoded columnsOfLabel 9 left (drop at records)) out ≡ splice start (recoded columnsOfLabel 9 tapes records) out₀)
+Inv-loop records tapes out₀ start left₀ at₀ to₀ out left at to = (at + left * labelWidth ≤ length records) × (to + left * labelWidth ≤ length out) × (length out ≡ length out₀)
+    × (splice to (recoded columnsOfLabel labelSize left (drop at records)) out ≡ splice start (recoded columnsOfLabel labelSize tapes records) out₀)
 
 abbrev μ-loop : tie.MeasureT-loop
 μ-loop records tapes out₀ start left₀ at₀ to₀ out left at to = left
@@ -58,14 +59,14 @@ loop-again c = let l = c .before .before .before .before .before .before .loop i
       omega arith,
       omega (arith, k),
       k ∙ l .inv .2,
-      recode-turn columnsOfLabel 9 9 label-sized _ _ _ (l .at) (l .to) (l .left) (c .before .before .before .before .before .loop-test .taken) (l .inv .0) (l .inv .1) (c .before .before .print-label .ensures) ∙ l .inv .3,
+      recode-turn columnsOfLabel labelSize labelWidth label-sized _ _ _ (l .at) (l .to) (l .left) (c .before .before .before .before .before .loop-test .taken) (l .inv .0) (l .inv .1) (c .before .before .print-label .ensures) ∙ l .inv .3,
     )
 
 same-length : tie.Need-same-length Inv-loop μ-loop
 same-length c = search needs
 
 returns : tie.Need-returns Inv-loop μ-loop
-returns c = let l = c .before .loop in sym (recode-done columnsOfLabel 9 _ _ (l .to) (l .left) (omega arith)) ∙ l .inv .3
+returns c = let l = c .before .loop in sym (recode-done columnsOfLabel labelSize _ _ (l .to) (l .left) (omega arith)) ∙ l .inv .3
 
 pub print-labels-spec : {M : Type 1} → statement M
 print-labels-spec =

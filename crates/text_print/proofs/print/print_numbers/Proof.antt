@@ -1,5 +1,5 @@
 -- `text_print::print::print_numbers` meets its contract. Assumes nothing.
-use Rattle.text_print.proofs.PrintedLaws.{numbers-printed}
+use Rattle.text_print.proofs.PrintedFacts.{numbers-printed}
 use lib.ListN.{length-set}
 use denote.Ref.{now}
 use native.Mathlib.Omega.{arith}
@@ -10,8 +10,8 @@ use Rattle.text_print.proofs.print.print_numbers.Tie as tie
 use Rattle.text_print.proofs.print.print_numbers.Reads as reads
 use Rattle.text_print.proofs.print.print_numbers.Lts as lts
 use Rattle.text_columns.proofs.decimal.write_decimal.Reads as write-decimal-reads
-use Rattle.memory.proofs.bytes.get16.Reads as get16-reads
-use Rattle.memory.proofs.bytes.get32.Reads as get32-reads
+use Rattle.table.proofs.bytes.get16.Reads as get16-reads
+use Rattle.table.proofs.bytes.get32.Reads as get32-reads
 
 get16-requires : tie.Need-get16-requires
 get16-requires c κs = search needs

@@ -1,5 +1,5 @@
 -- `text_print::print::print_state` meets its contract. Assumes nothing.
-use Rattle.text_print.proofs.PrintedLaws.{state-printed}
+use Rattle.text_print.proofs.PrintedFacts.{state-printed}
 use lib.ListN.{length-set}
 use denote.Ref.{now}
 use native.Mathlib.Omega.{arith}

@@ -1,9 +1,9 @@
 -- `text_print::print::print_states` meets its contract. Assumes nothing.
-use Rattle.text_print.proofs.PrintedLaws.{state-sized}
+use Rattle.text_print.proofs.PrintedFacts.{state-sized}
 use Rattle.text_print.specs.Printed.{lineOfState}
-use Rattle.text_store.proofs.RecodeLaws.{recode-turn, recode-done}
+use Rattle.text_store.proofs.RecodeFacts.{recode-turn, recode-done}
 use Rattle.text_store.specs.Recode.{recoded}
-use Rattle.memory.specs.Region.{splice}
+use Rattle.table.specs.Region.{splice}
 use lib.ListN.{length, drop}
 use Prim.Native.Nat.{_+_, _*_, _≤_}
 use native.Mathlib.Omega.{arith}
@@ -14,10 +14,11 @@ use Rattle.text_print.proofs.print.print_states.Tie as tie
 use Rattle.text_print.proofs.print.print_states.Reads as reads
 use Rattle.text_print.proofs.print.print_states.Lts as lts
 use Rattle.text_print.proofs.print.print_state.Reads as print-state-reads
+use Rattle.automata.specs.Layout.{stateSize, stateWidth}
 
 abbrev Inv-loop : tie.InvT-loop
-Inv-loop states count out₀ start left₀ at₀ to₀ out left at to = (at + left * 10 ≤ length states) × (to + left * 21 ≤ length out) × (length out ≡ length out₀)
-    × (splice to (recoded lineOfState 10 left (drop at states)) out ≡ splice start (recoded lineOfState 10 count states) out₀)
+Inv-loop states count out₀ start left₀ at₀ to₀ out left at to = (at + left * stateSize ≤ length states) × (to + left * stateWidth ≤ length out) × (length out ≡ length out₀)
+    × (splice to (recoded lineOfState stateSize left (drop at states)) out ≡ splice start (recoded lineOfState stateSize count states) out₀)
 
 abbrev μ-loop : tie.MeasureT-loop
 μ-loop states count out₀ start left₀ at₀ to₀ out left at to = left
@@ -58,14 +59,14 @@ loop-again c = let l = c .before .before .before .before .before .before .loop i
       omega arith,
       omega (arith, k),
       k ∙ l .inv .2,
-      recode-turn lineOfState 10 21 state-sized _ _ _ (l .at) (l .to) (l .left) (c .before .before .before .before .before .loop-test .taken) (l .inv .0) (l .inv .1) (c .before .before .print-state .ensures) ∙ l .inv .3,
+      recode-turn lineOfState stateSize stateWidth state-sized _ _ _ (l .at) (l .to) (l .left) (c .before .before .before .before .before .loop-test .taken) (l .inv .0) (l .inv .1) (c .before .before .print-state .ensures) ∙ l .inv .3,
     )
 
 same-length : tie.Need-same-length Inv-loop μ-loop
 same-length c = search needs
 
 returns : tie.Need-returns Inv-loop μ-loop
-returns c = let l = c .before .loop in sym (recode-done lineOfState 10 _ _ (l .to) (l .left) (omega arith)) ∙ l .inv .3
+returns c = let l = c .before .loop in sym (recode-done lineOfState stateSize _ _ (l .to) (l .left) (omega arith)) ∙ l .inv .3
 
 pub print-states-spec : {M : Type 1} → statement M
 print-states-spec =

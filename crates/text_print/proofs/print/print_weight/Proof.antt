@@ -1,5 +1,5 @@
 -- `text_print::print::print_weight` meets its contract. Assumes nothing.
-use Rattle.text_print.proofs.PrintedLaws.{absent-printed, present-printed}
+use Rattle.text_print.proofs.PrintedFacts.{absent-printed, present-printed}
 use lib.ListN.{length-set}
 use denote.Ref.{now}
 use native.Mathlib.Omega.{arith}
@@ -10,8 +10,8 @@ use Rattle.text_print.proofs.print.print_weight.Tie as tie
 use Rattle.text_print.proofs.print.print_weight.Reads as reads
 use Rattle.text_print.proofs.print.print_weight.Lts as lts
 use Rattle.text_columns.proofs.decimal.write_decimal.Reads as write-decimal-reads
-use Rattle.memory.proofs.bytes.copy_into.Reads as copy-into-reads
-use Rattle.memory.proofs.bytes.get32.Reads as get32-reads
+use Rattle.table.proofs.bytes.copy_into.Reads as copy-into-reads
+use Rattle.table.proofs.bytes.get32.Reads as get32-reads
 
 shared-slice-read-if1 : tie.Need-shared-slice-read-if1
 shared-slice-read-if1 c = search needs

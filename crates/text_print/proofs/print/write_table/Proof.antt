@@ -1,7 +1,7 @@
 -- `text_print::print::write_table` meets its contract. Assumes nothing.
 use Rattle.text_print.proofs.TablePrinted.{table-printed}
-use Rattle.memory.proofs.SoundLaws.{few-tapes, states-lent, arcs-lent}
-use Rattle.memory.specs.Answers.{lent}
+use Rattle.table.proofs.SoundFacts.{few-tapes, states-lent, arcs-lent}
+use Rattle.table.specs.Answers.{lent}
 use denote.Ref.{now}
 use native.Mathlib.Omega.{arith}
 use mathlib.Core.Path.{_≡_, refl, sym, ap, _∙_}

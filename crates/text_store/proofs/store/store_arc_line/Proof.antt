@@ -1,6 +1,6 @@
 -- `text_store::store::store_arc_line` meets its contract. Assumes nothing.
 use borrow.Author.Needs.{needs}
-use Rattle.text_store.proofs.StoredLaws.{arc-stored}
+use Rattle.text_store.proofs.StoredFacts.{arc-stored}
 use Rattle.text_store.proofs.store.store_arc_line.Statement.{statement}
 use Rattle.text_store.proofs.store.store_arc_line.Tie as tie
 use Rattle.text_store.proofs.store.store_arc_line.Reads as reads

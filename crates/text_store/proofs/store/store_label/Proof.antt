@@ -2,13 +2,13 @@
 use mathlib.Core.Path.{_∙_}
 use native.Mathlib.Omega.{arith}
 use lib.ListN.{length-set, length-take, length-drop}
-use Rattle.text_store.proofs.StoredLaws.{label-stored}
+use Rattle.text_store.proofs.StoredFacts.{label-stored}
 use borrow.Author.Needs.{needs}
 use Rattle.text_store.proofs.store.store_label.Statement.{statement}
 use Rattle.text_store.proofs.store.store_label.Tie as tie
 use Rattle.text_store.proofs.store.store_label.Reads as reads
 use Rattle.text_store.proofs.store.store_label.Lts as lts
-use Rattle.memory.proofs.bytes.copy_into.Reads as copy-into-reads
+use Rattle.table.proofs.bytes.copy_into.Reads as copy-into-reads
 use Rattle.text_columns.proofs.weight.leading_blanks.Reads as leading-blanks-reads
 
 sub-leading-blanks : tie.Need-sub-leading-blanks

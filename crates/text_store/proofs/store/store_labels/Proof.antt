@@ -1,9 +1,9 @@
 -- `text_store::store::store_labels` meets its contract. Assumes nothing.
-use Rattle.text_store.proofs.StoredLaws.{label-sized}
+use Rattle.text_store.proofs.StoredFacts.{label-sized}
 use Rattle.text_store.specs.Stored.{labelOfColumns}
-use Rattle.text_store.proofs.RecodeLaws.{recode-turn, recode-done}
+use Rattle.text_store.proofs.RecodeFacts.{recode-turn, recode-done}
 use Rattle.text_store.specs.Recode.{recoded}
-use Rattle.memory.specs.Region.{splice}
+use Rattle.table.specs.Region.{splice}
 use lib.ListN.{length, drop}
 use Prim.Native.Nat.{_+_, _*_, _≤_}
 use native.Mathlib.Omega.{arith}
@@ -14,10 +14,11 @@ use Rattle.text_store.proofs.store.store_labels.Tie as tie
 use Rattle.text_store.proofs.store.store_labels.Reads as reads
 use Rattle.text_store.proofs.store.store_labels.Lts as lts
 use Rattle.text_store.proofs.store.store_label.Reads as store-label-reads
+use Rattle.automata.specs.Layout.{labelWidth}
 
 abbrev Inv-loop : tie.InvT-loop
-Inv-loop labels tapes arcs₀ start left₀ at₀ to₀ arcs left at to = (at + left * 9 ≤ length labels) × (to + left * 9 ≤ length arcs) × (length arcs ≡ length arcs₀)
-    × (splice to (recoded labelOfColumns 9 left (drop at labels)) arcs ≡ splice start (recoded labelOfColumns 9 tapes labels) arcs₀)
+Inv-loop labels tapes arcs₀ start left₀ at₀ to₀ arcs left at to = (at + left * labelWidth ≤ length labels) × (to + left * labelWidth ≤ length arcs) × (length arcs ≡ length arcs₀)
+    × (splice to (recoded labelOfColumns labelWidth left (drop at labels)) arcs ≡ splice start (recoded labelOfColumns labelWidth tapes labels) arcs₀)
 
 abbrev μ-loop : tie.MeasureT-loop
 μ-loop labels tapes arcs₀ start left₀ at₀ to₀ arcs left at to = left
@@ -58,14 +59,14 @@ loop-again c = let l = c .before .before .before .before .before .before .loop i
       omega arith,
       omega (arith, k),
       k ∙ l .inv .2,
-      recode-turn labelOfColumns 9 9 label-sized _ _ _ (l .at) (l .to) (l .left) (c .before .before .before .before .before .loop-test .taken) (l .inv .0) (l .inv .1) (c .before .before .store-label .ensures) ∙ l .inv .3,
+      recode-turn labelOfColumns labelWidth labelWidth label-sized _ _ _ (l .at) (l .to) (l .left) (c .before .before .before .before .before .loop-test .taken) (l .inv .0) (l .inv .1) (c .before .before .store-label .ensures) ∙ l .inv .3,
     )
 
 same-length : tie.Need-same-length Inv-loop μ-loop
 same-length c = search needs
 
 returns : tie.Need-returns Inv-loop μ-loop
-returns c = let l = c .before .loop in sym (recode-done labelOfColumns 9 _ _ (l .to) (l .left) (omega arith)) ∙ l .inv .3
+returns c = let l = c .before .loop in sym (recode-done labelOfColumns labelWidth _ _ (l .to) (l .left) (omega arith)) ∙ l .inv .3
 
 pub store-labels-spec : {M : Type 1} → statement M
 store-labels-spec =

@@ -5,7 +5,7 @@ use Rattle.text_store.proofs.store.store_no_labels.Statement.{statement
 use Rattle.text_store.proofs.store.store_no_labels.Tie as tie
 use Rattle.text_store.proofs.store.store_no_labels.Reads as reads
 use Rattle.text_store.proofs.store.store_no_labels.Lts as lts
-use Rattle.memory.proofs.bytes.copy_into.Reads as copy-into-reads
+use Rattle.table.proofs.bytes.copy_into.Reads as copy-into-reads
 
 slice-aggregate-copy-into : tie.Need-slice-aggregate-copy-into
 slice-aggregate-copy-into c = search needs

@@ -1,12 +1,12 @@
 -- `text_store::store::store_numbers` meets its contract. Assumes nothing.
-use Rattle.text_store.proofs.StoredLaws.{numbers-stored}
+use Rattle.text_store.proofs.StoredFacts.{numbers-stored}
 use borrow.Author.Needs.{needs}
 use Rattle.text_store.proofs.store.store_numbers.Statement.{statement}
 use Rattle.text_store.proofs.store.store_numbers.Tie as tie
 use Rattle.text_store.proofs.store.store_numbers.Reads as reads
 use Rattle.text_store.proofs.store.store_numbers.Lts as lts
-use Rattle.memory.proofs.bytes.put16.Reads as put16-reads
-use Rattle.memory.proofs.bytes.put32.Reads as put32-reads
+use Rattle.table.proofs.bytes.put16.Reads as put16-reads
+use Rattle.table.proofs.bytes.put32.Reads as put32-reads
 use Rattle.text_columns.proofs.decimal.columns_value.Reads as columns-value-reads
 
 sub-columns-value : tie.Need-sub-columns-value

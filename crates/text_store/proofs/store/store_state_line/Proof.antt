@@ -1,11 +1,11 @@
 -- `text_store::store::store_state_line` meets its contract. Assumes nothing.
-use Rattle.text_store.proofs.StoredLaws.{state-stored}
+use Rattle.text_store.proofs.StoredFacts.{state-stored}
 use borrow.Author.Needs.{needs}
 use Rattle.text_store.proofs.store.store_state_line.Statement.{statement}
 use Rattle.text_store.proofs.store.store_state_line.Tie as tie
 use Rattle.text_store.proofs.store.store_state_line.Reads as reads
 use Rattle.text_store.proofs.store.store_state_line.Lts as lts
-use Rattle.memory.proofs.record.store_state.Reads as store-state-reads
+use Rattle.table.proofs.record.store_state.Reads as store-state-reads
 use Rattle.text_columns.proofs.weight.columns_weight.Reads as columns-weight-reads
 
 sub-columns-weight : tie.Need-sub-columns-weight

@@ -1,9 +1,9 @@
 -- `text_store::store::store_states` meets its contract. Assumes nothing.
-use Rattle.text_store.proofs.StoredLaws.{state-sized}
+use Rattle.text_store.proofs.StoredFacts.{state-sized}
 use Rattle.text_store.specs.Stored.{stateOfLine}
-use Rattle.text_store.proofs.RecodeLaws.{recode-turn, recode-done}
+use Rattle.text_store.proofs.RecodeFacts.{recode-turn, recode-done}
 use Rattle.text_store.specs.Recode.{recoded}
-use Rattle.memory.specs.Region.{splice}
+use Rattle.table.specs.Region.{splice}
 use lib.ListN.{length, drop}
 use Prim.Native.Nat.{_+_, _*_, _≤_}
 use native.Mathlib.Omega.{arith}
@@ -14,10 +14,11 @@ use Rattle.text_store.proofs.store.store_states.Tie as tie
 use Rattle.text_store.proofs.store.store_states.Reads as reads
 use Rattle.text_store.proofs.store.store_states.Lts as lts
 use Rattle.text_store.proofs.store.store_state_line.Reads as store-state-line-reads
+use Rattle.automata.specs.Layout.{stateSize, stateWidth}
 
 abbrev Inv-loop : tie.InvT-loop
-Inv-loop text start count states₀ left₀ at₀ to₀ states left at to = (at + left * 21 ≤ length text) × (to + left * 10 ≤ length states) × (length states ≡ length states₀)
-    × (splice to (recoded stateOfLine 21 left (drop at text)) states ≡ splice 0 (recoded stateOfLine 21 count (drop start text)) states₀)
+Inv-loop text start count states₀ left₀ at₀ to₀ states left at to = (at + left * stateWidth ≤ length text) × (to + left * stateSize ≤ length states) × (length states ≡ length states₀)
+    × (splice to (recoded stateOfLine stateWidth left (drop at text)) states ≡ splice 0 (recoded stateOfLine stateWidth count (drop start text)) states₀)
 
 abbrev μ-loop : tie.MeasureT-loop
 μ-loop text start count states₀ left₀ at₀ to₀ states left at to = left
@@ -58,14 +59,14 @@ loop-again c = let l = c .before .before .before .before .before .before .loop i
       omega arith,
       omega (arith, k),
       k ∙ l .inv .2,
-      recode-turn stateOfLine 21 10 state-sized _ _ _ (l .at) (l .to) (l .left) (c .before .before .before .before .before .loop-test .taken) (l .inv .0) (l .inv .1) (c .before .before .store-state-line .ensures) ∙ l .inv .3,
+      recode-turn stateOfLine stateWidth stateSize state-sized _ _ _ (l .at) (l .to) (l .left) (c .before .before .before .before .before .loop-test .taken) (l .inv .0) (l .inv .1) (c .before .before .store-state-line .ensures) ∙ l .inv .3,
     )
 
 same-length : tie.Need-same-length Inv-loop μ-loop
 same-length c = search needs
 
 returns : tie.Need-returns Inv-loop μ-loop
-returns c = let l = c .before .loop in sym (recode-done stateOfLine 21 _ _ (l .to) (l .left) (omega arith)) ∙ l .inv .3
+returns c = let l = c .before .loop in sym (recode-done stateOfLine stateWidth _ _ (l .to) (l .left) (omega arith)) ∙ l .inv .3
 
 pub store-states-spec : {M : Type 1} → statement M
 store-states-spec =

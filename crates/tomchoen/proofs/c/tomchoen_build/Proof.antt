@@ -1,13 +1,13 @@
 -- `tomchoen::c::tomchoen_build` meets its contract. Assumes nothing.
-use Rattle.tomchoen.proofs.WordLaws.{built-told}
-use Rattle.tomchoen.proofs.FitLaws.{intersect-counts}
+use Rattle.tomchoen.proofs.WordFacts.{built-told}
+use Rattle.tomchoen.proofs.FitFacts.{intersect-counts}
 use borrow.Author.Needs.{needs}
 use Rattle.tomchoen.proofs.c.tomchoen_build.Statement.{statement}
 use Rattle.tomchoen.proofs.c.tomchoen_build.Tie as tie
 use Rattle.tomchoen.proofs.c.tomchoen_build.Reads as reads
 use Rattle.tomchoen.proofs.c.tomchoen_build.Lts as lts
 use Rattle.intersect.proofs.call.intersect.Reads as intersect-reads
-use Rattle.c_words.proofs.word.table_word.Reads as table-word-reads
+use Rattle.c_answers.proofs.word.table_word.Reads as table-word-reads
 
 intersect-requires : tie.Need-intersect-requires
 intersect-requires c κs = search needs

@@ -1,13 +1,13 @@
 -- `tomchoen::c::tomchoen_drop` meets its contract. Assumes nothing.
-use Rattle.tomchoen.proofs.WordLaws.{made-told}
-use Rattle.tomchoen.proofs.FitLaws.{drop-counts}
+use Rattle.tomchoen.proofs.WordFacts.{made-told}
+use Rattle.tomchoen.proofs.FitFacts.{drop-counts}
 use borrow.Author.Needs.{needs}
 use Rattle.tomchoen.proofs.c.tomchoen_drop.Statement.{statement}
 use Rattle.tomchoen.proofs.c.tomchoen_drop.Tie as tie
 use Rattle.tomchoen.proofs.c.tomchoen_drop.Reads as reads
 use Rattle.tomchoen.proofs.c.tomchoen_drop.Lts as lts
-use Rattle.columns.proofs.drop.drop_tapes.Reads as drop-tapes-reads
-use Rattle.c_words.proofs.word.table_word.Reads as table-word-reads
+use Rattle.tapes.proofs.drop.drop_tapes.Reads as drop-tapes-reads
+use Rattle.c_answers.proofs.word.table_word.Reads as table-word-reads
 
 drop-tapes-requires : tie.Need-drop-tapes-requires
 drop-tapes-requires c κs = search needs

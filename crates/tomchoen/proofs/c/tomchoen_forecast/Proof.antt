@@ -1,11 +1,11 @@
 -- `tomchoen::c::tomchoen_forecast` meets its contract. Assumes nothing.
-use Rattle.tomchoen.proofs.WordLaws.{recorded-told}
+use Rattle.tomchoen.proofs.WordFacts.{recorded-told}
 use borrow.Author.Needs.{needs}
 use Rattle.tomchoen.proofs.c.tomchoen_forecast.Statement.{statement}
 use Rattle.tomchoen.proofs.c.tomchoen_forecast.Tie as tie
 use Rattle.tomchoen.proofs.c.tomchoen_forecast.Reads as reads
 use Rattle.tomchoen.proofs.c.tomchoen_forecast.Lts as lts
-use Rattle.c_words.proofs.word.forecast_word.Reads as forecast-word-reads
+use Rattle.c_answers.proofs.word.forecast_word.Reads as forecast-word-reads
 use Rattle.forecast.proofs.call.forecast_into.Reads as forecast-into-reads
 
 forecast-into-requires : tie.Need-forecast-into-requires

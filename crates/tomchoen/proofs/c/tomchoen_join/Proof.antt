@@ -1,13 +1,13 @@
 -- `tomchoen::c::tomchoen_join` meets its contract. Assumes nothing.
-use Rattle.tomchoen.proofs.WordLaws.{joined-told}
-use Rattle.tomchoen.proofs.FitLaws.{join-counts}
+use Rattle.tomchoen.proofs.WordFacts.{joined-told}
+use Rattle.tomchoen.proofs.FitFacts.{join-counts}
 use borrow.Author.Needs.{needs}
 use Rattle.tomchoen.proofs.c.tomchoen_join.Statement.{statement}
 use Rattle.tomchoen.proofs.c.tomchoen_join.Tie as tie
 use Rattle.tomchoen.proofs.c.tomchoen_join.Reads as reads
 use Rattle.tomchoen.proofs.c.tomchoen_join.Lts as lts
 use Rattle.join.proofs.call.join.Reads as join-reads
-use Rattle.c_words.proofs.word.table_word.Reads as table-word-reads
+use Rattle.c_answers.proofs.word.table_word.Reads as table-word-reads
 
 join-requires : tie.Need-join-requires
 join-requires c κs = search needs

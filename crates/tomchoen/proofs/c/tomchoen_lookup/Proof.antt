@@ -1,13 +1,13 @@
 -- `tomchoen::c::tomchoen_lookup` meets its contract. Assumes nothing.
-use Rattle.tomchoen.proofs.WordLaws.{found-told}
-use Rattle.tomchoen.proofs.WeightLaws.{lookup-weight}
+use Rattle.tomchoen.proofs.WordFacts.{found-told}
+use Rattle.tomchoen.proofs.WeightFacts.{lookup-weight}
 use borrow.Author.Needs.{needs}
 use Rattle.tomchoen.proofs.c.tomchoen_lookup.Statement.{statement}
 use Rattle.tomchoen.proofs.c.tomchoen_lookup.Tie as tie
 use Rattle.tomchoen.proofs.c.tomchoen_lookup.Reads as reads
 use Rattle.tomchoen.proofs.c.tomchoen_lookup.Lts as lts
 use Rattle.lookup.proofs.call.lookup.Reads as lookup-reads
-use Rattle.c_words.proofs.word.weight_word.Reads as weight-word-reads
+use Rattle.c_answers.proofs.word.weight_word.Reads as weight-word-reads
 
 lookup-requires : tie.Need-lookup-requires
 lookup-requires c κs = search needs

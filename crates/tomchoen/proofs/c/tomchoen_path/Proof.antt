@@ -1,12 +1,12 @@
 -- `tomchoen::c::tomchoen_path` meets its contract. Assumes nothing.
-use Rattle.tomchoen.proofs.WordLaws.{path-told}
+use Rattle.tomchoen.proofs.WordFacts.{path-told}
 use borrow.Author.Needs.{needs}
 use Rattle.tomchoen.proofs.c.tomchoen_path.Statement.{statement}
 use Rattle.tomchoen.proofs.c.tomchoen_path.Tie as tie
 use Rattle.tomchoen.proofs.c.tomchoen_path.Reads as reads
 use Rattle.tomchoen.proofs.c.tomchoen_path.Lts as lts
-use Rattle.c_words.proofs.word.path_word.Reads as path-word-reads
-use Rattle.least_path.proofs.record.path_into.Reads as path-into-reads
+use Rattle.c_answers.proofs.word.path_word.Reads as path-word-reads
+use Rattle.path.proofs.record.path_into.Reads as path-into-reads
 
 path-into-requires : tie.Need-path-into-requires
 path-into-requires c κs = search needs

@@ -1,13 +1,13 @@
 -- `tomchoen::c::tomchoen_product` meets its contract. Assumes nothing.
-use Rattle.tomchoen.proofs.WordLaws.{built-told}
-use Rattle.tomchoen.proofs.FitLaws.{product-counts}
+use Rattle.tomchoen.proofs.WordFacts.{built-told}
+use Rattle.tomchoen.proofs.FitFacts.{product-counts}
 use borrow.Author.Needs.{needs}
 use Rattle.tomchoen.proofs.c.tomchoen_product.Statement.{statement}
 use Rattle.tomchoen.proofs.c.tomchoen_product.Tie as tie
 use Rattle.tomchoen.proofs.c.tomchoen_product.Reads as reads
 use Rattle.tomchoen.proofs.c.tomchoen_product.Lts as lts
 use Rattle.product.proofs.call.product.Reads as product-reads
-use Rattle.c_words.proofs.word.table_word.Reads as table-word-reads
+use Rattle.c_answers.proofs.word.table_word.Reads as table-word-reads
 
 product-requires : tie.Need-product-requires
 product-requires c κs = search needs

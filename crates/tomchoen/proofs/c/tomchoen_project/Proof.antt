@@ -1,13 +1,13 @@
 -- `tomchoen::c::tomchoen_project` meets its contract. Assumes nothing.
-use Rattle.tomchoen.proofs.WordLaws.{made-told}
-use Rattle.tomchoen.proofs.FitLaws.{project-counts}
+use Rattle.tomchoen.proofs.WordFacts.{made-told}
+use Rattle.tomchoen.proofs.FitFacts.{project-counts}
 use borrow.Author.Needs.{needs}
 use Rattle.tomchoen.proofs.c.tomchoen_project.Statement.{statement}
 use Rattle.tomchoen.proofs.c.tomchoen_project.Tie as tie
 use Rattle.tomchoen.proofs.c.tomchoen_project.Reads as reads
 use Rattle.tomchoen.proofs.c.tomchoen_project.Lts as lts
-use Rattle.columns.proofs.project.project.Reads as project-reads
-use Rattle.c_words.proofs.word.table_word.Reads as table-word-reads
+use Rattle.tapes.proofs.project.project.Reads as project-reads
+use Rattle.c_answers.proofs.word.table_word.Reads as table-word-reads
 
 project-requires : tie.Need-project-requires
 project-requires c κs = search needs

@@ -1,13 +1,13 @@
 -- `tomchoen::c::tomchoen_read` meets its contract. Assumes nothing.
-use Rattle.tomchoen.proofs.WordLaws.{made-told}
-use Rattle.tomchoen.proofs.FitLaws.{read-counts}
+use Rattle.tomchoen.proofs.WordFacts.{made-told}
+use Rattle.tomchoen.proofs.FitFacts.{read-counts}
 use borrow.Author.Needs.{needs}
 use Rattle.tomchoen.proofs.c.tomchoen_read.Statement.{statement}
 use Rattle.tomchoen.proofs.c.tomchoen_read.Tie as tie
 use Rattle.tomchoen.proofs.c.tomchoen_read.Reads as reads
 use Rattle.tomchoen.proofs.c.tomchoen_read.Lts as lts
 use Rattle.text.proofs.read.Reads as read-reads
-use Rattle.c_words.proofs.word.table_word.Reads as table-word-reads
+use Rattle.c_answers.proofs.word.table_word.Reads as table-word-reads
 
 read-requires : tie.Need-read-requires
 read-requires c κs = search needs

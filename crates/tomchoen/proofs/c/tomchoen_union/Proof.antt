@@ -1,13 +1,13 @@
 -- `tomchoen::c::tomchoen_union` meets its contract. Assumes nothing.
-use Rattle.tomchoen.proofs.WordLaws.{made-told}
-use Rattle.tomchoen.proofs.FitLaws.{union-counts}
+use Rattle.tomchoen.proofs.WordFacts.{made-told}
+use Rattle.tomchoen.proofs.FitFacts.{union-counts}
 use borrow.Author.Needs.{needs}
 use Rattle.tomchoen.proofs.c.tomchoen_union.Statement.{statement}
 use Rattle.tomchoen.proofs.c.tomchoen_union.Tie as tie
 use Rattle.tomchoen.proofs.c.tomchoen_union.Reads as reads
 use Rattle.tomchoen.proofs.c.tomchoen_union.Lts as lts
-use Rattle.columns.proofs.union.union.Reads as union-reads
-use Rattle.c_words.proofs.word.table_word.Reads as table-word-reads
+use Rattle.tapes.proofs.union.union.Reads as union-reads
+use Rattle.c_answers.proofs.word.table_word.Reads as table-word-reads
 
 union-requires : tie.Need-union-requires
 union-requires c κs = search needs

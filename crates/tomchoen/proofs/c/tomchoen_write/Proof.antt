@@ -1,13 +1,13 @@
 -- `tomchoen::c::tomchoen_write` meets its contract. Assumes nothing.
-use Rattle.tomchoen.proofs.WordLaws.{written-told}
-use Rattle.tomchoen.proofs.FitLaws.{write-bytes}
+use Rattle.tomchoen.proofs.WordFacts.{written-told}
+use Rattle.tomchoen.proofs.FitFacts.{write-bytes}
 use borrow.Author.Needs.{needs}
 use Rattle.tomchoen.proofs.c.tomchoen_write.Statement.{statement}
 use Rattle.tomchoen.proofs.c.tomchoen_write.Tie as tie
 use Rattle.tomchoen.proofs.c.tomchoen_write.Reads as reads
 use Rattle.tomchoen.proofs.c.tomchoen_write.Lts as lts
 use Rattle.text.proofs.write.Reads as write-reads
-use Rattle.c_words.proofs.word.bytes_word.Reads as bytes-word-reads
+use Rattle.c_answers.proofs.word.bytes_word.Reads as bytes-word-reads
 
 write-requires : tie.Need-write-requires
 write-requires c κs = search needs

@@ -1,3 +1,0 @@
--- Laws of the arcs by their sources.
-pub mod ChainLaws
-pub mod DistinctLaws

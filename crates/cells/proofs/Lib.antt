@@ -1,4 +1,0 @@
--- Laws that belong to no one function.
-pub mod EndLaws
-pub mod FillLaws
-pub mod RecallLaws

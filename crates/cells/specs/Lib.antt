@@ -1,4 +1,0 @@
--- What the contracts on the cells of a lookup cite.
-pub mod Answers
-pub mod Fillable
-pub mod Recall

@@ -1,1 +1,0 @@
-// What the calls over columns come to, from what their steps gave. No code.

@@ -1,3 +1,0 @@
--- Laws of edges in work space and of marks.
-pub mod EdgeLaws
-pub mod MarkLaws

@@ -1,0 +1,2 @@
+-- Laws of the work space of a build.
+pub mod RoomFacts

@@ -1,0 +1,54 @@
+-- `lookup_labels::number_of` meets its contract. Assumes nothing.
+use mathlib.Core.Path.{refl}
+use native.Mathlib.Omega.{arith}
+use borrow.Author.Needs.{needs}
+use Rattle.lookup_labels.proofs.number_of.Statement.{statement}
+use Rattle.lookup_labels.proofs.number_of.Tie as tie
+use Rattle.lookup_labels.proofs.number_of.Reads as reads
+use Rattle.lookup_labels.proofs.number_of.Lts as lts
+use Rattle.lookup_labels.proofs.same_words.Reads as same-words-reads
+
+cast-result : tie.Need-cast-result
+cast-result c = search needs
+
+returns : tie.Need-returns
+returns c = λ small. (refl, λ before. absurd (omega (arith, before, c .if1 .taken)))
+
+mul-same-words : tie.Need-mul-same-words
+mul-same-words c = search needs
+
+add-same-words : tie.Need-add-same-words
+add-same-words c = search needs
+
+mul-same-words-2 : tie.Need-mul-same-words-2
+mul-same-words-2 c = search needs
+
+add-same-words-2 : tie.Need-add-same-words-2
+add-same-words-2 c = search needs
+
+same-words-requires : tie.Need-same-words-requires
+same-words-requires c κs = search needs
+
+cast-result-2 : tie.Need-cast-result-2
+cast-result-2 c = search needs
+
+returns-2 : tie.Need-returns-2
+returns-2 c = λ small. (refl, λ before. c .before .same-words .ensures (c .if2 .taken))
+
+returns-3 : tie.Need-returns-3
+returns-3 c = λ small. absurd (omega (arith, small))
+
+pub number-of-spec : {M : Type 1} → statement M
+number-of-spec =
+    tie.close
+    (tie.spec
+    cast-result
+    returns
+    mul-same-words
+    add-same-words
+    mul-same-words-2
+    add-same-words-2
+    same-words-requires
+    cast-result-2
+    returns-2
+    returns-3)

@@ -1,2 +1,0 @@
--- Laws of lists of pairs lent as records.
-pub mod RecordLaws

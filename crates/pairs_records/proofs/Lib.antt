@@ -1,0 +1,2 @@
+-- Laws of lists of pairs lent as records.
+pub mod RecordFacts

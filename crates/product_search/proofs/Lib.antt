@@ -1,0 +1,19 @@
+-- Laws that belong to no one function.
+pub mod RecordFacts
+pub mod KeyFacts
+pub mod FormFacts
+pub mod NoteFacts
+pub mod HeldFacts
+pub mod ArriveFacts
+pub mod ReadFacts
+pub mod DegreeFacts
+pub mod SecondFacts
+pub mod FirstFacts
+pub mod BothFacts
+pub mod EndFacts
+pub mod TakeFacts
+pub mod StartFacts
+pub mod BeginFacts
+pub mod RunFacts
+pub mod CountFacts
+pub mod ExploreFacts

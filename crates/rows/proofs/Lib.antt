@@ -1,5 +1,0 @@
--- Laws of codes of vertices, of a search over them and of the records kept.
-pub mod Meaning
-pub mod CodeLaws
-pub mod KeptLaws
-pub mod SearchLaws

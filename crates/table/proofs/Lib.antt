@@ -1,0 +1,20 @@
+-- Laws that belong to no one function.
+pub mod PartFacts
+pub mod SpliceFacts
+pub mod StoreFacts
+pub mod RegionFacts
+pub mod EndianFacts
+pub mod WordFacts
+pub mod AnswerFacts
+pub mod RowFacts
+pub mod RecordFacts
+pub mod ArcFacts
+pub mod SymbolFacts
+pub mod SequenceFacts
+pub mod JudgeFacts
+pub mod GoodFacts
+pub mod TableFacts
+pub mod LoadedFacts
+pub mod EncodedFacts
+pub mod SoundFacts
+pub mod PairFacts

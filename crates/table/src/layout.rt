@@ -1,0 +1,76 @@
+// The sizes of records in bytes and where their parts stand, and the columns of a table's text, each written down here and
+// nowhere else.
+
+// A state: its initial weight and its final weight.
+pub const WEIGHT_SIZE: usize = 5;
+
+pub const FINAL_PLACE: usize = 5;
+
+pub const STATE_SIZE: usize = 10;
+
+// An arc: its source and its target, then its content, which is its weight and a label for each of eight tapes.
+pub const TARGET_PLACE: usize = 2;
+
+pub const CONTENT_PLACE: usize = 4;
+
+pub const LABELS_PLACE: usize = 8;
+
+// Where the symbols of the first label stand.
+pub const SYMBOLS_PLACE: usize = 9;
+
+// A label: its length and eight symbols.
+pub const LABEL_SIZE: usize = 9;
+
+pub const LABELS_SIZE: usize = 72;
+
+pub const CONTENT_SIZE: usize = 76;
+
+pub const ARC_SIZE: usize = 80;
+
+// A configuration of a build in work space, for each state of its space.
+pub const CONFIG_SIZE: usize = 320;
+
+// A step of a build or of a product from one state to another, for each arc of its space.
+pub const STEP_SIZE: usize = 16;
+
+// A state of a product in work space, for each state of its space.
+pub const VERTEX_SIZE: usize = 16;
+
+// The closing delays of a state, for each state of the table read.
+pub const DELAYS_SIZE: usize = 64;
+
+// The most symbols of a string of a tuple.
+pub const MAX_STRING: usize = 64;
+
+// The byte that ends a line of a text.
+pub const NEWLINE: u8 = 10;
+
+// The columns of the number of tapes, of the number of a state or how many states or arcs there are, of a weight, of a
+// label.
+pub const TAPES_WIDTH: usize = 3;
+
+pub const NUMBER_WIDTH: usize = 6;
+
+pub const AMOUNT_WIDTH: usize = 10;
+
+pub const LABEL_WIDTH: usize = 9;
+
+// The first line: the numbers of tapes, states and arcs.
+pub const ARCS_COLUMN: usize = 9;
+
+pub const HEADER_END: usize = 15;
+
+pub const HEADER_WIDTH: usize = 16;
+
+// The line of a state: its two weights.
+pub const STATE_END: usize = 20;
+
+pub const STATE_WIDTH: usize = 21;
+
+// The line of an arc: source, target, weight, the labels, and the line's end, which is counted with what is before the
+// labels.
+pub const WEIGHT_COLUMN: usize = 12;
+
+pub const LABELS_COLUMN: usize = 22;
+
+pub const ARC_WIDTH: usize = 23;

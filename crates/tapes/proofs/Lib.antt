@@ -1,0 +1,6 @@
+-- Laws of unions and columns of tables.
+pub mod ColumnFacts
+pub mod DropFacts
+pub mod DropCall
+pub mod ProjectCall
+pub mod UnionCall

@@ -1,2 +1,0 @@
--- Tight arcs on the cells of a lookup, over which the least paths go.
-pub mod Tight

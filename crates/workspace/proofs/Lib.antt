@@ -1,2 +1,0 @@
--- Laws of the work space of a build.
-pub mod RoomLaws
