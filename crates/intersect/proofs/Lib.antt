@@ -2,3 +2,5 @@
 pub mod ConfigRows
 pub mod SearchFacts
 pub mod StepFacts
+pub mod PrepareFacts
+pub mod CallFacts

@@ -1,5 +1,5 @@
 -- The search of a plan, as the answer is settled by it.
-use Prim.Native.Nat.{ℕ, _+_, _/_, _≤_, _<_}
+use Prim.Native.Nat.{ℕ, _+_, _/_, _≤_}
 use mathlib.Core.Path.{_≡_, sym, ap, _∙_, subst}
 use mathlib.Core.Bool.{true}
 use mathlib.Core.List.{List, [], _∷_, _++_, map}
@@ -28,8 +28,8 @@ use Rattle.intersect_offers.specs.Held.{configOf, rowOf, Stored}
 use Rattle.intersect_offers.specs.Plans.{Explorable, tableIn, pairsIn, viableIn}
 use Rattle.intersect_head.specs.declared.head.Head.{Head}
 use Rattle.intersect_search.specs.Exploring.{reachedIn, Explored}
-use Rattle.intersect_result.specs.declared.prepare.Prepared.{Prepared}
-use Rattle.intersect_result.specs.Prepared.{Prepares}
+use Rattle.intersect.specs.declared.prepare.Prepared.{Prepared}
+use Rattle.intersect.specs.Prepared.{Prepares}
 use Rattle.intersect_result.specs.Searched.{Searched, Settleable}
 use Rattle.intersect.proofs.ConfigRows.{row-of}
 

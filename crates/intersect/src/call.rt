@@ -1,7 +1,7 @@
 // The call: a refusal before any configuration is reached, the search, the answer that it settles, and work space cleared.
+use crate::prepare::prepare;
 use crate::step::reach;
 use intersect_offers::plan::Plan;
-use intersect_result::prepare::prepare;
 use pairs::PairsJudged;
 use pairs::judge_pairs;
 use table::answer::Counts;

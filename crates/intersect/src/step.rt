@@ -1,6 +1,6 @@
 // The auto-intersection behind its tests: the search over the configurations, and the answer that it settles.
 use intersect_offers::plan::Plan;
-use intersect_result::finish::settle;
+use intersect_result::finish::answer_search;
 use intersect_room::room::room_for;
 use intersect_search::explore::explore;
 use table::answer::Counts;
@@ -34,21 +34,7 @@ pub fn reach(
     ensures { λ r. ⌜ madeOf (tableAs r) (now («out_states» .exit)) (now («out_arcs» .exit)) ≡ put (tableBy (lent (plan .counts) (now (states .entry)) (now (arcs .entry))) (pairsIn plan) (viableIn plan (now (states .entry)) (now (arcs .entry))) (spaceOf (slicesOf (now («out_states» .entry)) (now («out_arcs» .entry))))) (slicesOf (now («out_states» .entry)) (now («out_arcs» .entry))) ⌝ }
 {
     let head = explore(plan, states, arcs, work);
-    let counts = plan.counts;
-    let room = plan.room;
-    settle(
-        counts,
-        room,
-        head.full,
-        head.late,
-        head.reached,
-        head.arcs,
-        states,
-        arcs,
-        work,
-        out_states,
-        out_arcs,
-    )
+    answer_search(plan, head, states, arcs, work, out_states, out_arcs)
 }
 
 // The auto-intersection as a step: of a table that is known to be one, on pairs of its tapes, with work space that is

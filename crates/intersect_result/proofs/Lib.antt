@@ -1,5 +1,4 @@
 -- Laws of the result of an auto-intersection.
 pub mod KeepFacts
 pub mod FinishFacts
-pub mod PrepareFacts
-pub mod CallFacts
+pub mod SettleFacts

@@ -1,4 +1,3 @@
 -- What the contracts on the result of an auto-intersection cite.
 pub mod Standing
 pub mod Searched
-pub mod Prepared

@@ -25,7 +25,7 @@ abbrev pub foundIn : Memory → List TapePair → (Config → Bool) → Room →
 foundIn m ps v room = reachedConfigs (tableOf m) ps v (room .states)
 
 -- all of them are within the room and stand in w, with the edges between them as far as there is room; late tells whether a step is too long
-pub record Reached (m : Memory) (ps : List TapePair) (v : Config → Bool) (room : Room) (late : Bool) (reached arcs : ℕ) (w : List ℕ) : Type 0 where
+pub record FoundWithin (m : Memory) (ps : List TapePair) (v : Config → Bool) (room : Room) (late : Bool) (reached arcs : ℕ) (w : List ℕ) : Type 0 where
   pub few : length (foundIn m ps v room) ≤ room .states
   pub many : reached ≡ length (foundIn m ps v room)
   pub number : arcs ≡ length (edgesOf m ps v (foundIn m ps v room))
@@ -36,7 +36,7 @@ pub record Reached (m : Memory) (ps : List TapePair) (v : Config → Bool) (room
 -- what a search tells: whether there are more than there is room for, and else what they are
 pub record Searched (m : Memory) (ps : List TapePair) (v : Config → Bool) (room : Room) (full late : Bool) (reached arcs : ℕ) (w : List ℕ) : Type 0 where
   pub over : full ≡ true → room .states < length (foundIn m ps v room)
-  pub within : full ≡ false → Reached m ps v room late reached arcs w
+  pub within : full ≡ false → FoundWithin m ps v room late reached arcs w
 
 -- a search was made of the table in m, whose room is that of the work space w for slices of so many bytes
 pub record Settleable (m : Memory) (room : Room) (full late : Bool) (reached arcs : ℕ) (w : List ℕ) (forStates forArcs : ℕ) : Type 0 where

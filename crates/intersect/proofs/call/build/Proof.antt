@@ -2,13 +2,13 @@
 use denote.Ref.{now}
 use Rattle.table.specs.Answers.{lent}
 use Rattle.intersect.proofs.SearchFacts.{explorable}
-use Rattle.intersect_result.proofs.CallFacts.{call-refused, call-settled}
+use Rattle.intersect.proofs.CallFacts.{call-refused, call-settled}
 use borrow.Author.Needs.{needs}
 use Rattle.intersect.proofs.call.build.Statement.{statement}
 use Rattle.intersect.proofs.call.build.Tie as tie
 use Rattle.intersect.proofs.call.build.Reads as reads
 use Rattle.intersect.proofs.call.build.Lts as lts
-use Rattle.intersect_result.proofs.prepare.prepare.Reads as prepare-reads
+use Rattle.intersect.proofs.prepare.prepare.Reads as prepare-reads
 use Rattle.intersect.proofs.step.reach.Reads as reach-reads
 
 prepare-requires : tie.Need-prepare-requires

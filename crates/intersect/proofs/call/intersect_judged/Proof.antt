@@ -1,5 +1,5 @@
 -- `intersect::call::intersect_judged` meets its contract. Assumes nothing.
-use Rattle.intersect_result.proofs.CallFacts.{call-cleared}
+use Rattle.intersect.proofs.CallFacts.{call-cleared}
 use borrow.Author.Needs.{needs}
 use Rattle.intersect.proofs.call.intersect_judged.Statement.{statement}
 use Rattle.intersect.proofs.call.intersect_judged.Tie as tie

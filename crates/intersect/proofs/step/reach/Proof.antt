@@ -5,16 +5,16 @@ use Rattle.intersect.proofs.step.reach.Statement.{statement}
 use Rattle.intersect.proofs.step.reach.Tie as tie
 use Rattle.intersect.proofs.step.reach.Reads as reads
 use Rattle.intersect.proofs.step.reach.Lts as lts
-use Rattle.intersect_result.proofs.finish.settle.Reads as settle-reads
+use Rattle.intersect_result.proofs.finish.answer_search.Reads as answer-search-reads
 use Rattle.intersect_search.proofs.explore.explore.Reads as explore-reads
 
 explore-requires : tie.Need-explore-requires
 explore-requires c κs = search needs
 
-settle-requires : tie.Need-settle-requires
-settle-requires c κs =
-    let s = c .before .before .before .before .before .before .before .before .before .before .before .before .before .before in
-    settleable _ _ _ _ (s .pre .0) _ _ _ (c .before .before .before .before .before .before .before .explore .ensures) _ _ (s .pre .1)
+answer-search-requires : tie.Need-answer-search-requires
+answer-search-requires c κs =
+    let s = c .before .before .before .before .before .before .before .before .before .before .before .before in
+    settleable _ _ _ _ (s .pre .0) _ _ _ (c .before .before .before .before .before .explore .ensures) _ _ (s .pre .1)
 
 same-length : tie.Need-same-length
 same-length c = search needs
@@ -27,10 +27,10 @@ same-length-3 c = search needs
 
 returns : tie.Need-returns
 returns c =
-    let s = c .before .before .before .before .before .before .before .before .before .before .before .before .before .before .before .before .before .before .before in
-    c .before .before .before .before .settle .ensures _ _ (searched _ _ _ _ (s .pre .0) _ _ _ (c .before .before .before .before .before .before .before .before .before .before .before .before .explore .ensures))
+    let s = c .before .before .before .before .before .before .before .before .before .before .before .before .before .before .before .before .before in
+    c .before .before .before .before .answer-search .ensures _ _ (searched _ _ _ _ (s .pre .0) _ _ _ (c .before .before .before .before .before .before .before .before .before .before .explore .ensures))
 
 pub reach-spec : {M : Type 1} → statement M
 reach-spec =
     tie.close
-    (tie.spec explore-requires settle-requires same-length same-length-2 same-length-3 returns)
+    (tie.spec explore-requires answer-search-requires same-length same-length-2 same-length-3 returns)

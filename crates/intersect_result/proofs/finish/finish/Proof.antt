@@ -6,18 +6,18 @@ use Rattle.intersect_result.proofs.finish.finish.Statement.{statement}
 use Rattle.intersect_result.proofs.finish.finish.Tie as tie
 use Rattle.intersect_result.proofs.finish.finish.Reads as reads
 use Rattle.intersect_result.proofs.finish.finish.Lts as lts
-use Rattle.intersect_result.proofs.keep.keep.Reads as keep-reads
+use Rattle.intersect_result.proofs.kept.number_kept.Reads as number-kept-reads
 use Rattle.intersect_trim.proofs.result.write_arcs.Reads as write-arcs-reads
 use Rattle.intersect_trim.proofs.result.write_states.Reads as write-states-reads
 
-slice-aggregate-keep : tie.Need-slice-aggregate-keep
-slice-aggregate-keep c = search needs
+slice-aggregate-number-kept : tie.Need-slice-aggregate-number-kept
+slice-aggregate-number-kept c = search needs
 
-slice-aggregate-keep-2 : tie.Need-slice-aggregate-keep-2
-slice-aggregate-keep-2 c = search needs
+slice-aggregate-number-kept-2 : tie.Need-slice-aggregate-number-kept-2
+slice-aggregate-number-kept-2 c = search needs
 
-keep-requires : tie.Need-keep-requires
-keep-requires c κs = let f = c .before .before .before .before .before .before .before .pre in (laid _ _ _ _ _ _ _ f, search needs, search needs)
+number-kept-requires : tie.Need-number-kept-requires
+number-kept-requires c κs = let f = c .before .before .before .before .before .before .before .pre in (laid _ _ _ _ _ _ _ f, search needs, search needs)
 
 slice-aggregate-write-states : tie.Need-slice-aggregate-write-states
 slice-aggregate-write-states c = search needs
@@ -25,7 +25,7 @@ slice-aggregate-write-states c = search needs
 write-states-requires : tie.Need-write-states-requires
 write-states-requires c κs =
     let f = c .before .before .before .before .before .before .before .before .before .before .before .before .pre in
-    (f .rows-fit, search needs, laid _ _ _ _ _ _ _ f .within, states-writable _ _ _ _ _ _ _ f _ _ _ (c .before .before .before .before .keep .ensures))
+    (f .rows-fit, search needs, laid _ _ _ _ _ _ _ f .within, states-writable _ _ _ _ _ _ _ f _ _ _ (c .before .before .before .before .number-kept .ensures))
 
 slice-aggregate-write-arcs : tie.Need-slice-aggregate-write-arcs
 slice-aggregate-write-arcs c = search needs
@@ -36,7 +36,7 @@ slice-aggregate-write-arcs-2 c = search needs
 write-arcs-requires : tie.Need-write-arcs-requires
 write-arcs-requires c κs =
     let f = c .before .before .before .before .before .before .before .before .before .before .before .before .before .before .before .before .before .before .pre in
-    let a = arcs-writable _ _ _ _ _ _ _ f _ _ _ (c .before .before .before .before .before .before .before .before .before .before .keep .ensures) (search needs) in
+    let a = arcs-writable _ _ _ _ _ _ _ f _ _ _ (c .before .before .before .before .before .before .before .before .before .before .number-kept .ensures) (search needs) in
     (f .edges-fit, search needs, a .0, a .1, a .2)
 
 same-length : tie.Need-same-length
@@ -48,15 +48,15 @@ same-length-2 c = search needs
 returns : tie.Need-returns
 returns c =
     let f = c .before .before .before .before .before .before .before .before .before .before .before .before .before .before .before .before .before .before .before .before .before .pre in
-    λ ps v cs p. finished _ (f .sound) ps v cs _ _ _ _ p _ _ _ (c .before .before .before .before .before .before .before .before .before .before .before .before .before .keep .ensures) _ _ _ _ _ _ refl (c .before .before .before .before .before .before .before .before .write-states .ensures) (c .before .before .write-arcs .ensures)
+    λ ps v cs p. finished _ (f .sound) ps v cs _ _ _ _ p _ _ _ (c .before .before .before .before .before .before .before .before .before .before .before .before .before .number-kept .ensures) _ _ _ _ _ _ refl (c .before .before .before .before .before .before .before .before .write-states .ensures) (c .before .before .write-arcs .ensures)
 
 pub finish-spec : {M : Type 1} → statement M
 finish-spec =
     tie.close
     (tie.spec
-    slice-aggregate-keep
-    slice-aggregate-keep-2
-    keep-requires
+    slice-aggregate-number-kept
+    slice-aggregate-number-kept-2
+    number-kept-requires
     slice-aggregate-write-states
     write-states-requires
     slice-aggregate-write-arcs

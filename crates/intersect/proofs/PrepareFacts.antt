@@ -27,7 +27,7 @@ use Rattle.pairs.proofs.CallFacts.{intersect-then}
 use Rattle.pairs.proofs.TurnFacts.{by-turns, judged-fine, require-true}
 use Rattle.intersect_room.specs.declared.room.RoomAnswer.{RoomAnswer}
 use Rattle.intersect_room.specs.Room.{lentSpace, RoomFor}
-use Rattle.intersect_result.specs.Prepared.{Prepares}
+use Rattle.intersect.specs.Prepared.{Prepares}
 
 -- ---- the call
 module _ (m : Memory) (ps : List TapePair) (states arcs work : ℕ) (t p j : Answer (Unit {0})) (b : Bool)

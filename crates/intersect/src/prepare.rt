@@ -8,7 +8,7 @@ use table::answer::Judged;
 use table::judge::judge;
 use table::pair::PairList;
 ghost use Rattle.table.specs.Answers.{lent};
-ghost use Rattle.intersect_result.specs.Prepared.{PreparesFor};
+ghost use Rattle.intersect.specs.Prepared.{PreparesFor};
 
 // The first refusal, and where there is none the pairs by value and the parts of the work space.
 pub struct Prepared {

@@ -7,7 +7,7 @@ ghost use lib.ListN.{length};
 ghost use Rattle.intersect_result.specs.Standing.{Laid, Kept};
 
 // The marks of the rows from which a final one is reached, and the number of marked rows before each. Answers how many are marked.
-pub fn keep(
+pub fn number_kept(
     base: usize,
     reached: usize,
     arcs: usize,

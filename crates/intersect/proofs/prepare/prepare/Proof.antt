@@ -1,12 +1,12 @@
--- `intersect_result::prepare::prepare` meets its contract. Assumes nothing.
+-- `intersect::prepare::prepare` meets its contract. Assumes nothing.
 use denote.Ref.{now}
 use Rattle.table.specs.Answers.{lent}
-use Rattle.intersect_result.proofs.PrepareFacts.{prepared}
+use Rattle.intersect.proofs.PrepareFacts.{prepared}
 use borrow.Author.Needs.{needs}
-use Rattle.intersect_result.proofs.prepare.prepare.Statement.{statement}
-use Rattle.intersect_result.proofs.prepare.prepare.Tie as tie
-use Rattle.intersect_result.proofs.prepare.prepare.Reads as reads
-use Rattle.intersect_result.proofs.prepare.prepare.Lts as lts
+use Rattle.intersect.proofs.prepare.prepare.Statement.{statement}
+use Rattle.intersect.proofs.prepare.prepare.Tie as tie
+use Rattle.intersect.proofs.prepare.prepare.Reads as reads
+use Rattle.intersect.proofs.prepare.prepare.Lts as lts
 use Rattle.pairs.proofs.in_turn.Reads as in-turn-reads
 use Rattle.table.proofs.judge.judge.Reads as judge-reads
 use Rattle.intersect_room.proofs.room.room_for.Reads as room-for-reads

@@ -1,40 +1,27 @@
--- The call by its steps: what each way out of it answers.
+-- What each way out of a search answers.
 use Prim.Native.Nat.{ℕ, _/_, _≤_, _<_}
-use mathlib.Core.Path.{_≡_, refl, sym, ap, subst, _∙_}
+use mathlib.Core.Path.{_≡_, sym, ap, subst, _∙_}
 use mathlib.Core.Bool.{Bool, true, false}
 use mathlib.Core.List.{List}
 use native.Mathlib.Omega.{arith}
 use lib.ListN.{length}
 use Rattle.automata.specs.Refusal as refusal
 use Rattle.automata.specs.Answer.{_>>=_, Answer, ok, refused}
-use Rattle.automata.specs.Automaton.{Automaton}
 use Rattle.automata.specs.Space.{Space, stateCap, arcCap}
 use Rattle.automata.specs.TapePair.{TapePair}
 use Rattle.automata.specs.Config.{Config}
-use Rattle.automata.specs.Memory.{Memory, Sound, tableOf, zeros}
-use Rattle.automata.specs.Closing.{closingTables, viable}
-use Rattle.automata.specs.Intersect.{Intersection, reachedConfigs, delayed, assemble, intersectBy, intersect}
-use Rattle.automata.specs.IntersectCall.{intersectOn}
-use Rattle.automata.specs.Calls.Outcome.{Slices, TableCounts, spaceOf, put, build, madeOf, builtOf, slicesOf}
-use Rattle.automata.specs.Calls.Intersect.{intersectAnswer, intersectOutcome}
+use Rattle.automata.specs.Memory.{Memory, Sound, tableOf}
+use Rattle.automata.specs.Intersect.{Intersection, reachedConfigs, delayed, assemble, intersectBy}
+use Rattle.automata.specs.Calls.Outcome.{TableCounts, spaceOf, put, madeOf, slicesOf}
 use Rattle.automata.proofs.CallFacts.{put-refused}
 use Rattle.automata.proofs.IntersectAnswers.{fits-built, states-over, arcs-over, step-over}
 use Rattle.automata.proofs.IntersectSteps.{reachedConfigs-distinct}
 use Rattle.automata.specs.Layout.{arcSize, stateSize}
-use Rattle.table.specs.declared.answer.Refusal.{Refusal}
-use Rattle.table.specs.declared.answer.Judged.{Judged}
-use Rattle.table.specs.declared.answer.Judged.the-variants.{Fine, Refused}
-use Rattle.table.specs.Answers.{judgedAs, refusalNumber}
-use Rattle.table.specs.Pairs.{pairsAs}
 use Rattle.intersect_edges.specs.Edges.{HoldsEdges}
 use Rattle.intersect_room.specs.declared.room.Room.{Room}
 use Rattle.intersect_room.specs.Room.{Divides}
-use Rattle.intersect_result.specs.declared.prepare.Prepared.{Prepared}
-use Rattle.intersect_result.specs.Prepared.{Prepares}
 use Rattle.intersect_result.specs.Standing.{edgesOf, Stands, Finishable, Finished}
-use Rattle.intersect_result.specs.Searched.{foundIn, Reached, Searched, tableBy}
-
--- ---- what the search settles
+use Rattle.intersect_result.specs.Searched.{foundIn, FoundWithin, Searched, tableBy}
 
 module _ (m : Memory) (ps : List TapePair) (v : Config → Bool) (room : Room) (full late : Bool) (reached arcs : ℕ) (w : List ℕ) (found : Searched m ps v room full late reached arcs w)
     (oldStates oldArcs : List ℕ) (read work : ℕ) (d : Divides (length oldStates / stateSize) (length oldArcs / arcSize) read work room) where
@@ -56,7 +43,7 @@ module _ (m : Memory) (ps : List TapePair) (v : Config → Bool) (room : Room) (
       (subst (λ (k : ℕ). k < length (reachedConfigs (tableOf m) ps v k)) (d .state-cap) (found .over e)))
 
   module _ (e : full ≡ false) where
-    seen : Reached m ps v room late reached arcs w
+    seen : FoundWithin m ps v room late reached arcs w
     seen = found .within e
 
     -- all configurations are within the space
@@ -115,39 +102,3 @@ module _ (m : Memory) (ps : List TapePair) (v : Config → Bool) (room : Room) (
           ∙ ap (λ (k : ℕ). put (ok (assemble (tableOf m) ps v (reachedConfigs (tableOf m) ps v k) .automaton)) (slicesOf oldStates oldArcs)) (d .state-cap)
           ∙ ap (λ (a : Answer (Intersection ℕ)). put (a >>= λ I. ok (I .automaton)) (slicesOf oldStates oldArcs))
           (sym (fits-built (tableOf m) ps v space (record { states = few; arcs = within; undelayed = sym late-is ∙ f })))
-
--- ---- the whole call
-
-module _ (m : Memory) (listed : List TapePair) (oldStates oldArcs work : List ℕ) (r : Prepared)
-    (p : Prepares m listed (length oldStates / stateSize) (length oldArcs / arcSize) (length work) r) where
-  -- the slices, and what the call answers
-  abbrev slices : Slices
-  slices = slicesOf oldStates oldArcs
-
-  abbrev answer : Answer (Automaton ℕ)
-  answer = intersectAnswer m listed (spaceOf slices) work
-
-  -- a refusal before any configuration is reached
-  pub call-refused : (why : Refusal) → r .judged ≡ Refused why → madeOf (refused (refusalNumber why)) oldStates oldArcs ≡ put answer slices
-  call-refused why e =
-      sym (put-refused slices (refusalNumber why))
-      ∙ ap (λ (a : Answer (Automaton ℕ)). put a slices)
-      (sym (p .answer work refl ∙ ap (λ (j : Judged). judgedAs j >>= λ (u : Unit {0}). intersectOn (spaceOf slices) listed (tableOf m)) e))
-
-  -- what the search settles is the call's
-  pub call-settled : r .judged ≡ Fine → (a : Answer TableCounts) (states arcBytes : List ℕ)
-      → madeOf a states arcBytes ≡ put (tableBy m (pairsAs (r .pairs)) (viable (closingTables (tableOf m) (pairsAs (r .pairs)))) (spaceOf slices)) slices
-      → madeOf a states arcBytes ≡ put answer slices
-  unfolding intersectOn intersect
-  call-settled e a states arcBytes z =
-      z ∙ ap (λ (ps : List TapePair). put (tableBy m ps (viable (closingTables (tableOf m) ps)) (spaceOf slices)) slices) (p .pairs-are e)
-      ∙ ap (λ (x : Answer (Automaton ℕ)). put x slices)
-      (sym (p .answer work refl ∙ ap (λ (j : Judged). judgedAs j >>= λ (u : Unit {0}). intersectOn (spaceOf slices) listed (tableOf m)) e))
-
--- Work space is zero afterwards.
-pub call-cleared : (m : Memory) (ps : List TapePair) (s : Slices) (work zeroed : List ℕ) (n : ℕ) (a : Answer TableCounts) (states arcs : List ℕ)
-    → madeOf a states arcs ≡ put (intersectAnswer m ps (spaceOf s) work) s → n ≡ length work → zeroed ≡ zeros n
-    → builtOf a states arcs zeroed ≡ intersectOutcome m ps s work
-unfolding intersectOutcome build
-call-cleared m ps s work zeroed n a states arcs e l z =
-    λ i. record { made = e i; work = (z ∙ ap zeros l) i }

@@ -1,10 +1,10 @@
--- `intersect_result::keep::keep` meets its contract. Assumes nothing.
+-- `intersect_result::kept::number_kept` meets its contract. Assumes nothing.
 use Rattle.intersect_result.proofs.KeepFacts.{finals-bits, rows-kept}
 use borrow.Author.Needs.{needs}
-use Rattle.intersect_result.proofs.keep.keep.Statement.{statement}
-use Rattle.intersect_result.proofs.keep.keep.Tie as tie
-use Rattle.intersect_result.proofs.keep.keep.Reads as reads
-use Rattle.intersect_result.proofs.keep.keep.Lts as lts
+use Rattle.intersect_result.proofs.kept.number_kept.Statement.{statement}
+use Rattle.intersect_result.proofs.kept.number_kept.Tie as tie
+use Rattle.intersect_result.proofs.kept.number_kept.Reads as reads
+use Rattle.intersect_result.proofs.kept.number_kept.Lts as lts
 use Rattle.intersect_edges.proofs.mark.mark_coaccessible.Reads as mark-coaccessible-reads
 use Rattle.intersect_trim.proofs.final_marks.mark_final.Reads as mark-final-reads
 use Rattle.intersect_trim.proofs.rank.number_marked.Reads as number-marked-reads
@@ -27,8 +27,8 @@ same-length-2 c = search needs
 returns : tie.Need-returns
 returns c = rows-kept _ _ _ _ _ (c .before .before .before .before .before .before .before .before .before .before .before .mark-final .ensures) _ _ _ _ _ (c .before .before .before .before .before .before .before .mark-coaccessible .ensures) (c .before .before .number-marked .ensures)
 
-pub keep-spec : {M : Type 1} → statement M
-keep-spec =
+pub number-kept-spec : {M : Type 1} → statement M
+number-kept-spec =
     tie.close
     (tie.spec
     mark-final-requires

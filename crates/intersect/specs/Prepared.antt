@@ -15,7 +15,7 @@ use Rattle.table.specs.Pairs.{pairsAs, Named}
 use Rattle.pairs.specs.declared.PairsJudged.{PairsJudged}
 use Rattle.pairs.specs.Judgement.{KeepJudged}
 use Rattle.intersect_room.specs.Room.{lentSpace, Divides}
-use Rattle.intersect_result.specs.declared.prepare.Prepared.{Prepared}
+use Rattle.intersect.specs.declared.prepare.Prepared.{Prepared}
 
 -- The first refusal is the call's, and where there is none the call goes on to reach configurations; what then is known of its parts.
 pub record Prepares (m : Memory) (ps : List TapePair) (states arcs work : ℕ) (r : Prepared) : Type 0 where
