@@ -5,6 +5,7 @@ use delays::closing_tables;
 use table::answer::Counts;
 use table::bytes::copy_into;
 use table::bytes::get16;
+use table::layout::ARC_SIZE;
 use table::layout::DELAYS_SIZE;
 use table::pair::Pair;
 use table::pair::PairList;
@@ -12,11 +13,18 @@ ghost use mathlib.Core.Path.{_≡_};
 ghost use Prim.Native.Nat.{_+_, _*_, _≤_};
 ghost use lib.ListN.{length};
 ghost use Rattle.automata.specs.Memory.{Sound};
-ghost use Rattle.automata.specs.Layout.{delaysSize};
+ghost use Rattle.automata.specs.Layout.{arcSize, delaysSize};
 ghost use Rattle.table.specs.Answers.{lent};
 ghost use Rattle.table.specs.Region.{splice};
 ghost use Rattle.table.specs.Pairs.{Named};
 ghost use Rattle.cases_delays.specs.Tables.{symbols, arcBytes, arcsBytes, stateBytes, countsOf, only};
+
+// Where the third arc and the fourth stand, and the bytes of four.
+const THIRD_ARC: usize = 2 * ARC_SIZE;
+
+const FOURTH_ARC: usize = 3 * ARC_SIZE;
+
+const FOUR_ARCS: usize = 4 * ARC_SIZE;
 
 // How many symbols a label has, of none or one.
 fn symbols_of(symbol: u8) -> u8
@@ -26,10 +34,10 @@ fn symbols_of(symbol: u8) -> u8
 }
 
 // The record of an arc of weight 0: source, target, and one symbol or none (0) on each of three tapes.
-fn arc_record(arc: [u8; 5]) -> [u8; 80]
+fn arc_record(arc: [u8; 5]) -> [u8; ARC_SIZE]
     ensures { λ r. ⌜ r ≡ arcBytes arc ⌝ }
 {
-    let mut record = [0u8; 80];
+    let mut record = [0u8; ARC_SIZE];
     record[0] = arc[0];
     record[2] = arc[1];
     record[8] = symbols_of(arc[2]);
@@ -43,7 +51,7 @@ fn arc_record(arc: [u8; 5]) -> [u8; 80]
 
 // An arc written at a place.
 fn put_arc(arcs: &mut [u8], at: usize, arc: [u8; 5])
-    requires { ⌜ at + 80 ≤ length (now arcs) ⌝ }
+    requires { ⌜ at + arcSize ≤ length (now arcs) ⌝ }
     ensures { λ _. ⌜ now (arcs .exit) ≡ splice at (arcBytes arc) (now (arcs .entry)) ⌝ }
 {
     let record = arc_record(arc);
@@ -122,11 +130,11 @@ fn show(
     requires { ⌜ (countsOf size .states ≤ 4) × Sound (lent (countsOf size) (stateBytes finals) (arcsBytes a b c d)) × Named (countsOf size .tapes) (only tapes) ⌝ }
 {
     let states = state_records(finals);
-    let mut arcs = [0u8; 320];
+    let mut arcs = [0u8; FOUR_ARCS];
     put_arc(&mut arcs, 0, a);
-    put_arc(&mut arcs, 80, b);
-    put_arc(&mut arcs, 160, c);
-    put_arc(&mut arcs, 240, d);
+    put_arc(&mut arcs, ARC_SIZE, b);
+    put_arc(&mut arcs, THIRD_ARC, c);
+    put_arc(&mut arcs, FOURTH_ARC, d);
     let counts = Counts {
         tapes: size[0],
         states: size[1],

@@ -69,7 +69,7 @@ use Rattle.laws.proofs.TableRefused.{read-refused, table-refused}
 use Rattle.laws.proofs.BuildRefused.{build-call-refused, forecast-refused}
 use Rattle.laws.proofs.ProductRefused.{product-call-refused}
 use Rattle.laws.proofs.JoinRefused.{join-refused}
-use Rattle.laws.proofs.ColumnsRefused.{union-refused, project-refused, drop-refused}
+use Rattle.laws.proofs.TapesRefused.{union-refused, project-refused, drop-refused}
 use Rattle.laws.proofs.TextRefused.{write-refused, lookup-refused, path-refused}
 
 -- an outcome tells the refusal of its answer

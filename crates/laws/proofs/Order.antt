@@ -21,7 +21,7 @@ use Rattle.automata.specs.Projection.{isTape, choosable, droppable, relabelled,
 use Rattle.automata.specs.Join.{Lent, join}
 use Rattle.automata.proofs.AnswerFacts.{judge-ok, bind-ok, ok-injective}
 use Rattle.automata.proofs.JoinSteps.{join-steps}
-use Rattle.automata.proofs.ColumnTables.{fitted-ok}
+use Rattle.automata.proofs.TapeTables.{fitted-ok}
 use Rattle.automata.proofs.ProductTable.{product-formed}
 use Rattle.laws.specs.Order.{ProductOrder, LabelsOnly, ChosenInOrder, DroppedInOrder, OneAfterOther, IntersectedInOrder, JoinOrder, TablesInOrder}
 use Rattle.laws.proofs.Lemmas.IntersectionOrder.{intersection-order}

@@ -26,7 +26,7 @@ use Rattle.automata.proofs.TestFacts.{T-true, ltb-true, ltb-false, ltb-of-lt, l
 use Rattle.automata.proofs.MaskFacts.{droppable-mask}
 use Rattle.automata.proofs.CallTests.{drop-tape, drop-passed}
 use Rattle.automata.proofs.CallFacts.{put-refused}
-use Rattle.automata.proofs.ColumnTables.{fitted-ok}
+use Rattle.automata.proofs.TapeTables.{fitted-ok}
 use Rattle.automata.proofs.SoundFacts.{sound, tableOf-is, sound-decoded, sound-well-formed, sound-holds}
 use Rattle.automata.proofs.MemoryFacts.{decode-reads}
 use Rattle.automata.specs.Layout.{arcSize, stateSize}
@@ -40,7 +40,7 @@ use Rattle.tapes_records.specs.Choice.{tapesLeft, Droppable}
 use Rattle.intersect_room.specs.Room.{lentSpace}
 use Rattle.tapes_records.specs.Results.{fitting, Copied}
 use Rattle.tapes_records.proofs.ChoiceFacts.{left-few}
-use Rattle.tapes.proofs.ColumnFacts.{length-projected}
+use Rattle.tapes.proofs.TapesFacts.{length-projected}
 use Rattle.tapes.proofs.DropFacts.{left-named, without-chosen}
 use Rattle.tapes_records.proofs.RoomFacts.{forget-refused, next-refused, fitted-counts, copied-holds, copied-put}
 

@@ -31,7 +31,7 @@ use Rattle.table.proofs.SoundFacts.{few-tapes}
 use Rattle.tapes_records.specs.Choice.{Choice, tapesLeft, Droppable}
 use Rattle.tapes_records.specs.Rewritten.{rewritten, chosenArc}
 use Rattle.tapes_records.proofs.ChoiceFacts.{left-few}
-use Rattle.tapes.proofs.ColumnFacts.{Named, chosen-in-place}
+use Rattle.tapes.proofs.TapesFacts.{Named, chosen-in-place}
 
 -- ---- strings
 

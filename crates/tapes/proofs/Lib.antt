@@ -1,5 +1,5 @@
--- Laws of unions and columns of tables.
-pub mod ColumnFacts
+-- Facts of unions and of tables with other tapes.
+pub mod TapesFacts
 pub mod DropFacts
 pub mod DropCall
 pub mod ProjectCall

@@ -23,7 +23,7 @@ use Rattle.automata.proofs.AnswerFacts.{bind-ok, judge-ok}
 use Rattle.automata.proofs.TestFacts.{T-true, true-T, and-T}
 use Rattle.automata.proofs.CallTests.{project-width, project-tape, project-passed}
 use Rattle.automata.proofs.CallFacts.{put-refused}
-use Rattle.automata.proofs.ColumnTables.{fitted-ok}
+use Rattle.automata.proofs.TapeTables.{fitted-ok}
 use Rattle.automata.proofs.SoundFacts.{sound, tableOf-is, sound-decoded, sound-well-formed, sound-holds}
 use Rattle.automata.specs.Layout.{arcSize, stateSize}
 use Rattle.table.specs.Region.{splice}
@@ -38,7 +38,7 @@ use Rattle.tapes_records.specs.Choice.{Choice}
 use Rattle.tapes_records.specs.Rewritten.{rewritten, chosenArc}
 use Rattle.intersect_room.specs.Room.{lentSpace}
 use Rattle.tapes_records.specs.Results.{fitting, Copied, Choosable}
-use Rattle.tapes.proofs.ColumnFacts.{Named, length-projected, chosen-in-place}
+use Rattle.tapes.proofs.TapesFacts.{Named, length-projected, chosen-in-place}
 use Rattle.tapes_records.proofs.RoomFacts.{forget-refused, next-refused, fitted-counts, copied-holds, copied-put}
 
 -- ---- the choice

@@ -23,7 +23,7 @@ use Rattle.automata.proofs.RecordFacts.{writeAll-append}
 use Rattle.automata.proofs.AnswerFacts.{bind-ok, judge-ok}
 use Rattle.automata.proofs.CallTests.{union-tape, union-passed}
 use Rattle.automata.proofs.CallFacts.{put-refused, put-ok}
-use Rattle.automata.proofs.ColumnTables.{fitted-ok}
+use Rattle.automata.proofs.TapeTables.{fitted-ok}
 use Rattle.automata.proofs.SoundFacts.{sound, tableOf-is, sound-decoded, sound-well-formed, sound-holds}
 use Rattle.automata.specs.Layout.{arcSize, stateSize}
 use Rattle.table.specs.Region.{splice}
@@ -38,7 +38,7 @@ use Rattle.table.proofs.SoundFacts.{few-states, few-arcs, states-lent, arcs-len
 use Rattle.tapes_records.specs.Rewritten.{rewritten, raisedArc}
 use Rattle.intersect_room.specs.Room.{lentSpace}
 use Rattle.tapes_records.specs.Results.{fitting, Copies, Copied, Raisable, AllRaisable, Appends}
-use Rattle.tapes.proofs.ColumnFacts.{arcs-cut}
+use Rattle.tapes.proofs.TapesFacts.{arcs-cut}
 use Rattle.tapes_records.proofs.RoomFacts.{forget-refused, next-refused, fitted-counts, states-copied, arcs-copied, states-length, arcs-length}
 use Rattle.tapes_records.proofs.RaiseFacts.{arcs-shifted, arcs-raisable, length-raisedArc}
 use Rattle.tapes_records.proofs.RewriteFacts.{length-rewritten}

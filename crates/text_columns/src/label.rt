@@ -35,7 +35,7 @@ fn label_fits(column: &[u8]) -> bool
 }
 
 // The columns of a label, judged.
-fn judge_label(column: &[u8]) -> Judged
+fn judge_label_column(column: &[u8]) -> Judged
     requires { ⌜ length (now column) ≡ labelWidth ⌝ }
     ensures { λ r. ⌜ judgedAs r ≡ forget (readLabel (now (column .entry))) ⌝ }
 {
@@ -46,7 +46,7 @@ fn judge_label(column: &[u8]) -> Judged
 }
 
 // The labels of an arc on so many tapes.
-pub fn judge_labels(labels: &[u8], tapes: usize) -> Judged
+pub fn judge_label_columns(labels: &[u8], tapes: usize) -> Judged
     requires { ⌜ length (now labels) ≡ tapes * labelWidth ⌝ }
     ensures { λ r. ⌜ judgedAs r ≡ forget (labelsRead tapes (now (labels .entry))) ⌝ }
 {
@@ -54,7 +54,7 @@ pub fn judge_labels(labels: &[u8], tapes: usize) -> Judged
     let mut left = tapes;
     let mut at = 0;
     while 0 < left {
-        judged = both(judged, judge_label(&labels[at..at + LABEL_WIDTH]));
+        judged = both(judged, judge_label_column(&labels[at..at + LABEL_WIDTH]));
         left -= 1;
         at += LABEL_WIDTH;
     }

@@ -10,7 +10,7 @@ use table::layout::WEIGHT_COLUMN;
 use text_columns::decimal::Number;
 use text_columns::decimal::judge_number;
 use text_columns::decimal::read_state_number;
-use text_columns::label::judge_labels;
+use text_columns::label::judge_label_columns;
 use text_columns::label::line_end;
 use text_columns::weight::read_present;
 ghost use mathlib.Core.Path.{_≡_};
@@ -41,7 +41,7 @@ fn judge_arc_line(line: &[u8], tapes: usize, states: usize) -> Judged
     let target = read_state_number(&line[NUMBER_WIDTH..12], states);
     let weight = read_present(&line[WEIGHT_COLUMN..LABELS_COLUMN]);
     let end = line.len() - 1;
-    let labels = judge_labels(&line[LABELS_COLUMN..end], tapes);
+    let labels = judge_label_columns(&line[LABELS_COLUMN..end], tapes);
     judge_arc(source, target, weight, labels, line_end(line[end]))
 }
 

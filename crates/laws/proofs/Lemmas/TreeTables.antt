@@ -27,7 +27,7 @@ use Rattle.laws.specs.CallLaws.{JoinLent, joinMade}
 use Rattle.laws.specs.CallTrees.{Calls, keeping, joining, uniting, choosing, dropping, made, Gave, table, given-table}
 use Rattle.automata.proofs.MaskFacts.{mask-marked}
 use Rattle.automata.proofs.AnswerFacts.{bind-ok, judge-ok}
-use Rattle.automata.proofs.ColumnTables.{fitted-ok}
+use Rattle.automata.proofs.TapeTables.{fitted-ok}
 use Rattle.laws.proofs.Lemmas.CallsGiven.{kept-call, joined-call, united-call, chosen-call, dropped-call, no-second}
 use Rattle.laws.proofs.Lemmas.JoinWeight.{Joined, join-weighs}
 use Rattle.laws.proofs.Lemmas.Kept.{Kept, intersected-kept}

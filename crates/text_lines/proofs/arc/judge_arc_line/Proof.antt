@@ -7,7 +7,7 @@ use Rattle.text_lines.proofs.arc.judge_arc_line.Reads as reads
 use Rattle.text_lines.proofs.arc.judge_arc_line.Lts as lts
 use Rattle.text_lines.proofs.arc.judge_arc.Reads as judge-arc-reads
 use Rattle.text_columns.proofs.decimal.read_state_number.Reads as read-state-number-reads
-use Rattle.text_columns.proofs.label.judge_labels.Reads as judge-labels-reads
+use Rattle.text_columns.proofs.label.judge_label_columns.Reads as judge-label-columns-reads
 use Rattle.text_columns.proofs.label.line_end.Reads as line-end-reads
 use Rattle.text_columns.proofs.weight.read_present.Reads as read-present-reads
 
@@ -50,17 +50,17 @@ read-present-requires c κs = search needs
 sub-end : tie.Need-sub-end
 sub-end c = search needs
 
-sub-judge-labels : tie.Need-sub-judge-labels
-sub-judge-labels c = search needs
+sub-judge-label-columns : tie.Need-sub-judge-label-columns
+sub-judge-label-columns c = search needs
 
-part-judge-labels-start : tie.Need-part-judge-labels-start
-part-judge-labels-start c = search needs
+part-judge-label-columns-start : tie.Need-part-judge-label-columns-start
+part-judge-label-columns-start c = search needs
 
-part-judge-labels-end : tie.Need-part-judge-labels-end
-part-judge-labels-end c = search needs
+part-judge-label-columns-end : tie.Need-part-judge-label-columns-end
+part-judge-label-columns-end c = search needs
 
-judge-labels-requires : tie.Need-judge-labels-requires
-judge-labels-requires c κs = search needs
+judge-label-columns-requires : tie.Need-judge-label-columns-requires
+judge-label-columns-requires c κs = search needs
 
 shared-slice-read-line-end : tie.Need-shared-slice-read-line-end
 shared-slice-read-line-end c = search needs
@@ -73,8 +73,8 @@ judge-arc-requires c κs = search needs
 
 returns : tie.Need-returns
 returns c = let s = c .before .before .before .before .before .before .before .before .before .before .before .before in
-    arc-line-judged (s .args .tapes) (s .args .states) _ (s .pre) (c .before .before .before .before .before .before .before .before .before .read-state-number .result) (c .before .before .before .before .before .before .before .read-state-number2 .result) (c .before .before .before .before .before .read-present .result) (c .before .before .before .judge-labels .result) (c .before .line-end .result) (c .judge-arc .result)
-    (c .before .before .before .before .before .before .before .before .before .read-state-number .ensures) (c .before .before .before .before .before .before .before .read-state-number2 .ensures) (c .before .before .before .before .before .read-present .ensures) (c .before .before .before .judge-labels .ensures) (c .before .line-end .ensures) (c .judge-arc .ensures)
+    arc-line-judged (s .args .tapes) (s .args .states) _ (s .pre) (c .before .before .before .before .before .before .before .before .before .read-state-number .result) (c .before .before .before .before .before .before .before .read-state-number2 .result) (c .before .before .before .before .before .read-present .result) (c .before .before .before .judge-label-columns .result) (c .before .line-end .result) (c .judge-arc .result)
+    (c .before .before .before .before .before .before .before .before .before .read-state-number .ensures) (c .before .before .before .before .before .before .before .read-state-number2 .ensures) (c .before .before .before .before .before .read-present .ensures) (c .before .before .before .judge-label-columns .ensures) (c .before .line-end .ensures) (c .judge-arc .ensures)
 
 pub judge-arc-line-spec : {M : Type 1} → statement M
 judge-arc-line-spec =
@@ -93,10 +93,10 @@ judge-arc-line-spec =
     part-read-present-end
     read-present-requires
     sub-end
-    sub-judge-labels
-    part-judge-labels-start
-    part-judge-labels-end
-    judge-labels-requires
+    sub-judge-label-columns
+    part-judge-label-columns-start
+    part-judge-label-columns-end
+    judge-label-columns-requires
     shared-slice-read-line-end
     line-end-requires
     judge-arc-requires
