@@ -111,10 +111,6 @@ module _ {A : Type 0} where
   pub begins-take : {xs ys : List A} → Begins xs ys → (i : ℕ) → i ≤ length xs → take i ys ≡ take i xs
   begins-take {xs} b i h = ap (take i) (b .joined) ∙ take-append-le i xs (b .rest) h
 
-  -- a list begins with its first elements
-  pub take-begins : (i : ℕ) (xs : List A) → Begins (take i xs) xs
-  take-begins i xs = record { rest = drop i xs; joined = sym (take-append-drop i xs) }
-
 -- ---- the values of numbered elements, by the first elements
 
 module _ {A B : Type 0} (f : ℕ × A → Option B) (xs : List A) (j : ℕ) where

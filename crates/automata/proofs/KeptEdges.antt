@@ -26,20 +26,6 @@ module _ {L : Type 0} (marks : List Bool) where
   keptEdges-append es fs = ap (map (ranked marks)) (AppendFacts.filter-append (bothMarked marks) es fs)
       ∙ ListFacts.map-append (ranked marks) (filter (bothMarked marks) es) (filter (bothMarked marks) fs)
 
-  -- of one edge
-  kept-one : (x : Edge L) → keptEdges marks (x ∷ []) ≡ if (bothMarked marks x) (ranked marks x ∷ []) []
-  unfolding keptEdges
-  kept-one x = go (bothMarked marks x)
-    where
-      go : (b : Bool) → map (ranked marks) (if b (x ∷ []) []) ≡ if b (ranked marks x ∷ []) []
-      go true = refl
-      go false = refl
-
-  -- with one edge more behind
-  pub keptEdges-snoc : (es : List (Edge L)) (x : Edge L)
-      → keptEdges marks (es ++ (x ∷ [])) ≡ keptEdges marks es ++ if (bothMarked marks x) (ranked marks x ∷ []) []
-  keptEdges-snoc es x = keptEdges-append es (x ∷ []) ∙ ap {B = List (Edge L)} (λ r. keptEdges marks es ++ r) (kept-one x)
-
   -- with one edge more in front
   pub keptEdges-cons : (x : Edge L) (es : List (Edge L))
       → keptEdges marks (x ∷ es) ≡ if (bothMarked marks x) (ranked marks x ∷ keptEdges marks es) (keptEdges marks es)

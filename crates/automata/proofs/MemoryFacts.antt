@@ -17,10 +17,10 @@ use Rattle.automata.specs.Sequence.{readAll}
 use Rattle.automata.specs.Limits.{maxTapes, maxStates, maxWeight, maxLabel}
 use Rattle.automata.specs.Table.{Weight, Label, Counts, countsFit, WellFormedState, WellFormed, WellFormedArc}
 use Rattle.automata.specs.Symbols.{isSymbol}
-use Rattle.automata.specs.Memory.{flag, flagged, weightRecord, isZero, zeros, toLabel, fromLabel, labelRecord, stateRecord, arcRecord, Memory, encodeStates, encodeArcs, encodeTable, decodeTable, judgeTable, Holds, trim}
+use Rattle.automata.specs.Memory.{flag, flagged, weightRecord, isZero, zeros, toLabel, fromLabel, labelRecord, stateRecord, arcRecord, Memory, encodeStates, encodeArcs, encodeTable, decodeTable, Holds, trim}
 use Rattle.automata.specs.Layout.{stateSize, arcSize, labelSize, labelsPlace}
 use Rattle.automata.proofs.TestFacts.{T-true, and-T, T-and}
-use Rattle.automata.proofs.AnswerFacts.{refused≢ok, refusal-none, check-ok, check-pass, bind-ok, require-ok}
+use Rattle.automata.proofs.AnswerFacts.{refused≢ok, check-ok, check-pass, bind-ok, require-ok}
 use Rattle.automata.proofs.RecordFacts.{All-at, Sized, record-at, field-at}
 use Rattle.automata.proofs.FormatFacts.{Lawful, pair-lawful, convert-lawful, place-lawful, followed-lawful, all-sized, length-many, copies-lawful}
 use Rattle.automata.proofs.SequenceFacts.{readAll-take, readAll-reads, readAll-only}
@@ -155,10 +155,6 @@ decode-only m t r =
     let q = bind-ok (readAll (arcRecord (m .tapes) (m .states)) (m .arcs) (m .arcBytes)) _ t (p .2) in
     records-only m (p .0) (q .0) (countsFit→Counts (m .tapes) (m .states) (m .arcs) (c .0)) (p .1) (q .1) t (cc (q .2))
 
--- one table at most stands in memory
-pub holds-unique : (m : Memory) (t u : Automaton ℕ) → WellFormed t → WellFormed u → Holds m t → Holds m u → t ≡ u
-holds-unique m t u w v h k = cc (decode-reads m t w h, decode-reads m u v k)
-
 -- the bytes of a table
 pub length-encodeStates : (t : Automaton ℕ) → WellFormed t → length (encodeStates t) ≡ length (t .states) * stateSize
 length-encodeStates t w = length-many stateRecord-lawful (t .states) (w .states)
@@ -178,14 +174,6 @@ decode-encode t w =
       stateBytes = take-all (length (t .states) * stateSize) (encodeStates t) (le-of-eq (length-encodeStates t w));
       arcBytes = take-all (length (t .arcs) * arcSize) (encodeArcs t) (le-of-eq (length-encodeArcs t w));
     })
-
--- a table that is not refused stands in memory
-pub judge-none : (m : Memory) → judgeTable m ≡ none → (t : Automaton ℕ) × (decodeTable m ≡ ok t) × WellFormed t × Holds m t
-unfolding judgeTable
-judge-none m e =
-    let s = refusal-none (decodeTable m) e in
-    let d = decode-only m (s .0) (s .1) in
-    (s .0, s .1, d .0, d .1)
 
 -- the bytes past the records do not matter, whatever the answer
 pub decode-trim : (m : Memory) → decodeTable (trim m) ≡ decodeTable m

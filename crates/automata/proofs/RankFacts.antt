@@ -3,7 +3,7 @@ use mathlib.Core.Path.{_≡_, refl, _∙_, ap}
 use mathlib.Core.Logic.{inl, inr}
 use mathlib.Core.Bool.{Bool, true, false}
 use mathlib.Core.Option.{some}
-use mathlib.Core.List.{List, [], _∷_, _++_}
+use mathlib.Core.List.{List, [], _∷_}
 use Prim.Native.Nat.{ℕ, zero, suc, _+_, _-_, _≤_, _<_}
 use native.Mathlib.Omega.{arith}
 use lib.Dec.{ltb}
@@ -65,13 +65,6 @@ rank-grows marks (suc m) i j e = go (getD marks i false) (rank-suc marks i) (ran
 pub rank-monotone : (marks : List Bool) (i j : ℕ) → i ≤ j → rank marks i ≤ rank marks j
 rank-monotone marks i j h = rank-grows marks (j - i) i j (omega arith)
 
--- beyond the marks it stays
-pub rank-beyond : (marks : List Bool) (i : ℕ) → length marks ≤ i → rank marks i ≡ rank marks (length marks)
-unfolding rank
-rank-beyond [] i h = refl
-rank-beyond (b ∷ bs) zero h = absurd (omega arith)
-rank-beyond (b ∷ bs) (suc i) h = rw (rank-beyond bs i (omega arith))
-
 -- a marked place comes before as many as there are in all
 pub rank-below : (marks : List Bool) (i : ℕ) → getD marks i false ≡ true → rank marks i < rank marks (length marks)
 rank-below marks i e = elim (TestFacts.decide (ltb i (length marks))) [
@@ -116,16 +109,3 @@ module _ {C : Type 0} where
           → getElem? (if b (x ∷ atMarks bs cs) (atMarks bs cs)) (if b (suc (rank bs i)) (rank bs i)) ≡ some c
       go true e = e
       go false e = e
-
-  -- one element more
-  pub atMarks-snoc : (bs : List Bool) (cs : List C) (b : Bool) (c : C) → length bs ≡ length cs
-      → atMarks (bs ++ (b ∷ [])) (cs ++ (c ∷ [])) ≡ atMarks bs cs ++ if b (c ∷ []) []
-  atMarks-snoc [] [] b c h = refl
-  atMarks-snoc [] (x ∷ cs) b c h = absurd (omega arith)
-  atMarks-snoc (a ∷ bs) [] b c h = absurd (omega arith)
-  atMarks-snoc (a ∷ bs) (x ∷ cs) b c h = rw (atMarks-snoc bs cs b c (omega arith)) (go a)
-    where
-      go : (a : Bool) → if a (x ∷ (atMarks bs cs ++ if b (c ∷ []) [])) (atMarks bs cs ++ if b (c ∷ []) [])
-          ≡ if a (x ∷ atMarks bs cs) (atMarks bs cs) ++ if b (c ∷ []) []
-      go true = refl
-      go false = refl

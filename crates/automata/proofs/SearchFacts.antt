@@ -233,26 +233,6 @@ module _ {C L : Type 0} (same : C → C → Bool) (decided : Decides same) (out 
         absurd (omega arith))
   ]
 
-  -- the same in the middle of the steps of a vertex
-  pub search-over : (cap k : ℕ) (c : C) (xs ys : List (L × C)) → getElem? (searched same out starts k .vertices) k ≡ some c → out c ≡ xs ++ ys
-      → cap < length (noteAll same k (searched same out starts k) xs .vertices) → cap < length (reached same out cap starts)
-  search-over cap k c xs ys e steps h =
-      let whole : at (suc k) ≡ noteAll same k (noteAll same k (at k) xs) ys =
-      searched-some k c e ∙ ap (noteAll same k (at k)) steps ∙ noteAll-append same decided k (at k) xs ys in
-      let grown : length (noteAll same k (at k) xs .vertices) ≤ length (noteAll same k (noteAll same k (at k) xs) ys .vertices) =
-      noteAll-length same decided k (noteAll same k (at k) xs) ys in
-      let same-length = ap (λ (s : Search C L). length (s .vertices)) whole in
-      found-over cap (suc k) (omega arith)
-
-  -- and in the middle of the starting vertices
-  pub starts-over : (cap : ℕ) (xs ys : List C) → starts ≡ xs ++ ys → cap < length (insertAll same [] xs) → cap < length (reached same out cap starts)
-  unfolding searched searchFrom
-  starts-over cap xs ys e h =
-      let whole : found zero ≡ insertAll same (insertAll same [] xs) ys = ap (insertAll same []) e ∙ insertAll-append same [] xs ys in
-      let grown : length (insertAll same [] xs) ≤ length (insertAll same (insertAll same [] xs) ys) = AppendFacts.begins-length (insertAll-begins same (insertAll same [] xs) ys) in
-      let same-length = ap length whole in
-      found-over cap zero (omega arith)
-
   -- a test of the vertices taken up, with one vertex more
   pub taken-any : (p : C → Bool) (k : ℕ) (c : C) → getElem? (searched same out starts k .vertices) k ≡ some c
       → any p (take (suc k) (searched same out starts (suc k) .vertices)) ≡ or (any p (take k (searched same out starts k .vertices))) (p c)

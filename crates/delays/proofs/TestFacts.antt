@@ -1,9 +1,9 @@
 -- The test on the region is the definition's.
-use Prim.Native.Nat.{ℕ, zero, suc, _+_, _*_, _<_, _≤_, min}
+use Prim.Native.Nat.{ℕ, zero, suc, _+_, _*_, _≤_}
 use mathlib.Core.Path.{_≡_, refl, sym, ap, ap₂, _∙_}
 use mathlib.Core.Bool.{Bool, true, false}
 use mathlib.Core.Option.{some}
-use mathlib.Core.List.{List, [], _∷_, map}
+use mathlib.Core.List.{List, [], _∷_}
 use native.Mathlib.Omega.{arith}
 use lib.Dec.{eqb}
 use lib.ListN.{length, length-map, length-take, getD, getElem?, take}
@@ -11,16 +11,14 @@ use Rattle.table.specs.Region.{part}
 use Rattle.table.specs.Endian.{le}
 use Rattle.automata.specs.Lists.{if, and}
 use Rattle.automata.specs.Leftover.{Leftover}
-use Rattle.automata.specs.Config.{Config}
 use Rattle.automata.specs.Memory.{Memory, tableOf}
-use Rattle.automata.specs.Closing.{missing, Closing, ClosingTables, closing, closingTables, canClose, canCloseAll, viable}
+use Rattle.automata.specs.Closing.{missing, Closing, closing, closingTables, canClose, canCloseAll, viable}
 use Rattle.automata.proofs.ReachingDelays.{held, held-at}
 use Rattle.automata.specs.Layout.{delaysSize}
-use Rattle.delays_relaxation.specs.Column.{column}
 use Rattle.delays_relaxation.proofs.ColumnFacts.{column-at}
 use Rattle.table.specs.declared.pair.PairList.{PairList}
 use Rattle.table.specs.Pairs.{pairAs, pairsAs}
-use Rattle.delays.specs.ClosingRegion.{HoldsClosing, closableAt, closableFrom, viableAt, Lengths, Tests}
+use Rattle.delays.specs.ClosingRegion.{closableAt, closableFrom, viableAt, Tests}
 
 module _ (q : ℕ) (firsts seconds w : List ℕ) where
   closable-all : (at h left : ℕ) (cs : List Closing) (ls : List Leftover) → length cs ≡ left → length ls ≡ left
@@ -73,10 +71,3 @@ pub length-closings : (m : Memory) (ps : PairList) → ps .used ≤ length (ps .
 unfolding closingTables
 length-closings m ps h =
     length-map (pairsAs ps) (closing (tableOf m)) ∙ length-map (take (ps .used) (ps .pairs)) pairAs ∙ length-take (ps .used) (ps .pairs) ∙ omega arith
-
--- where the region holds the closing tables of a table in memory, the test on it is the test with these tables
-pub tests-table : (m : Memory) (ps : PairList) (base q : ℕ) (firsts seconds w : List ℕ) (ls : List Leftover) (r : Bool)
-    → ps .used ≤ length (ps .pairs) → HoldsClosing (closingTables (tableOf m) (pairsAs ps)) base (m .states) w → base + delaysSize * m .states ≤ length w → q < m .states
-    → Lengths (ps .used) firsts seconds ls → Tests base q (ps .used) firsts seconds w r → r ≡ viable (closingTables (tableOf m) (pairsAs ps)) (record { state = q; leftovers = ls })
-tests-table m ps base q firsts seconds w ls r l o b h x test =
-    test (closingTables (tableOf m) (pairsAs ps)) (m .states) (record { state = q; leftovers = ls }) o b h (length-closings m ps l) refl x

@@ -91,10 +91,6 @@ outside-in a m b k n i h l u (inr (inr s)) = near (ltb i a) refl
     near true e = inl (ltb→lt _ _ (rw e tt))
     near false e = let j : a ≤ i = ltb-false e in inr (inr (omega arith))
 
--- a wider frame
-pub frame-wider : (a m b k n : ℕ) (w v : List ℕ) → Frame a m n w v → b ≤ a → a + m ≤ b + k → k ≤ delaysSize → Frame b k n w v
-frame-wider a m b k n w v f h l u = record { same-length = f .same-length; same = λ i s. f .same i (outside-in a m b k n i h l u s) }
-
 -- ---- one edge, and several
 
 module _ (d : Bool) (at n : ℕ) where

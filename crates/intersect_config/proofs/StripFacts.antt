@@ -168,14 +168,6 @@ pub joined-is : (n k : ℕ) (xs ys b : List ℕ) → n ≤ maxDelay → k ≤ 8 
 joined-is n k xs ys b hn hk lx ly f = ap (take (n + k)) f ∙ take-splice-in n k ys xs (omega arith) (omega arith)
 
 -- ---- the answer for what is left
-leftover-good : (m : automata.Leftover) → length (m .first) ≤ leftoverRoom → length (m .second) ≤ leftoverRoom → Good (leftoverOf m)
-unfolding leftoverOf
-leftover-good m h k = go (m .first) h
-  where
-    go : (xs : List ℕ) → length xs ≤ leftoverRoom → Good (packedTwo xs (m .second))
-    go [] l = packed-good true (m .second) k
-    go (x ∷ xs) l = packed-good false (x ∷ xs) l
-
 pub strip-advances : (u v : List ℕ) → length u ≤ leftoverRoom → length v ≤ leftoverRoom → Advances (automata.strip u v) (advancedOf (automata.strip u v))
 unfolding advancedOf leftoverOf
 strip-advances [] v h k = record { meaning = ap some (packed-as true v); good = packed-good true v k; refused-blank = λ e. absurd (false≢true (sym e)) }

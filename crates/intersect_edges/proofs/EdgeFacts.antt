@@ -1,5 +1,5 @@
 -- Edges in work space: what is stored is read back, and what is held stays.
-use Prim.Native.Nat.{ℕ, zero, suc, _+_, _-_, _*_, _<_, _≤_}
+use Prim.Native.Nat.{ℕ, zero, suc, _+_, _*_, _<_, _≤_}
 use mathlib.Core.Path.{_≡_, refl, sym, ap, ap₂, _∙_, subst}
 use mathlib.Core.Bool.{Bool, false}
 use mathlib.Core.Option.{some}
@@ -90,12 +90,6 @@ holds-none at room w = stand-none EdgeStands at room w
 pub holds-kept : (at room : ℕ) (es : List (Edge (ℕ × Arc ℕ))) (w v : List ℕ) → ((a n : ℕ) → at ≤ a → part a n v ≡ part a n w) → HoldsEdges at room es w → HoldsEdges at room es v
 unfolding HoldsEdges
 holds-kept at room es w v k h = stand-kept EdgeStands EdgeStands edge-stays at room es w v k h
-
--- one of them
-pub held-at : (at room : ℕ) (es : List (Edge (ℕ × Arc ℕ))) (w : List ℕ) → HoldsEdges at room es w
-    → (j : ℕ) (x : Edge (ℕ × Arc ℕ)) → j < room → getElem? es j ≡ some x → edgeAt (at + stepSize * j) w ≡ recordOf x
-unfolding HoldsEdges
-held-at at room es w h = h
 
 -- Writing the record of one edge more behind them.
 pub holds-more : (at room : ℕ) (es : List (Edge (ℕ × Arc ℕ))) (x : Edge (ℕ × Arc ℕ)) (w v : List ℕ) → Fits (recordOf x) → length es < room

@@ -40,14 +40,6 @@ bits-bools (m ∷ ms) h = ap₂ (λ (x : ℕ) (r : List ℕ). x ∷ r) (one m (h
     one (suc zero) l = refl
     one (suc (suc m)) l = absurd (omega arith)
 
--- marks are bytes 0 and 1
-pub bits-are : (bs : List Bool) → Bits (bits bs)
-unfolding Bits
-bits-are [] i = omega arith
-bits-are (true ∷ bs) zero = omega arith
-bits-are (false ∷ bs) zero = omega arith
-bits-are (b ∷ bs) (suc i) = bits-are bs i
-
 -- what a byte says
 pub mark-at : (ms : List ℕ) (i : ℕ) → getD (bools ms) i false ≡ isMark (getD ms i 0)
 mark-at ms i = List·getD-map isMark ms i 0

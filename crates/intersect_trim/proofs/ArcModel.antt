@@ -35,11 +35,6 @@ use Rattle.intersect_trim.specs.Result.{bothMarks, arcBytes, keptArcs, A
 use Rattle.intersect_trim.specs.Model.{resultOf, EdgeOf}
 use Rattle.intersect_trim.proofs.RowFacts.{front-fits}
 
--- a property of every place is one of every element
-pub places-all : {X : Type 0} (P : X → Type 0) (xs : List X) → ((j : ℕ) (x : X) → getElem? xs j ≡ some x → P x) → All P xs
-places-all P [] f = tt
-places-all P (x ∷ xs) f = (f zero x refl, places-all P xs (λ j. f (suc j)))
-
 module _ (n : ℕ) (marks : List ℕ) where
   -- the marks of the first n configurations
   abbrev pub kept : List Bool

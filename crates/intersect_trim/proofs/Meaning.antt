@@ -27,7 +27,7 @@ use Rattle.intersect_edges.specs.declared.edge.EdgeRecord.{EdgeRecord}
 use Rattle.intersect_edges.specs.Edges.{edgesAt, recordGraph, Joined, recordOf, HoldsEdges}
 use Rattle.intersect_edges.specs.Marked.{bit, bits, bools, Bits}
 use Rattle.intersect_edges.proofs.EdgeFacts.{edges-held, coaccessible-held}
-use Rattle.intersect_edges.proofs.MarkFacts.{bools-bits, bits-are}
+use Rattle.intersect_edges.proofs.MarkFacts.{bools-bits}
 use Rattle.intersect_trim.specs.Ranks.{Numbered}
 use Rattle.intersect_trim.specs.Rows.{rowState, finalByte, Within, RowsOf}
 use Rattle.intersect_trim.specs.Result.{rowRecord, keptStates, bothMarks, arcBytes, keptArcs, ArcsWithin, ArcsWritten}
@@ -64,10 +64,6 @@ length-arcs marks ranks inputs (e ∷ es) i = go (bothMarks marks e) (length-arc
         length-append (arcBytes ranks inputs e) (writeAll (arcBytes ranks inputs) (filter (bothMarks marks) es)) ∙ omega arith
     go false f = f
 
--- the front of a list that was written from its front
-front : (n : ℕ) (ms v w : List ℕ) → length ms ≡ n → w ≡ ms ++ drop n v → take n w ≡ ms
-front n ms v w l e = ap (take n) e ∙ take-at ms (drop n v) n l
-
 -- ---- Configurations cs in the rows of w, and edges es between them from place base on.
 module _ (m : Memory) (s : Sound m) (cs : List Config) (es : List (Edge (ℕ × Arc ℕ))) (base room : ℕ) (w : List ℕ)
     (placed : RowsOf (length (tableOf m .states)) cs (rows 0 configSize (length cs) w)) (held : HoldsEdges base room es w) (fits : length es ≤ room)
@@ -85,29 +81,6 @@ module _ (m : Memory) (s : Sound m) (cs : List Config) (es : List (Edge (ℕ × 
 
   pub joins : Joined (length cs) (edgesAt base (length es) w)
   joins = rw records (edges-joined (tableOf m) (length cs) es joined)
-
-  -- The final marks are those of the accepting configurations, ...
-  pub final-marks : (v u : List ℕ) → u ≡ map (finalByte (m .stateBytes)) (rows 0 configSize (length cs) w) ++ drop (length cs) v
-      → (bools (take (length cs) u) ≡ map (accepting (tableOf m)) cs) × Bits (take (length cs) u)
-  final-marks v u e =
-      let f = finals-model m s cs (rows 0 configSize (length cs) w) placed in
-      let l : length (bits (map (accepting (tableOf m)) cs)) ≡ length cs =
-      length-map (map (accepting (tableOf m)) cs) bit ∙ length-map cs (accepting (tableOf m)) in
-      let t : take (length cs) u ≡ bits (map (accepting (tableOf m)) cs) =
-      front (length cs) (bits (map (accepting (tableOf m)) cs)) v u l (e ∙ ap (λ (x : List ℕ). x ++ drop (length cs) v) f) in
-      (ap bools t ∙ bools-bits (map (accepting (tableOf m)) cs), rw t (bits-are (map (accepting (tableOf m)) cs)))
-
-  -- ... and the marks after the rounds those of the configurations from which an accepting one is reached.
-  pub kept-marks : (v u : List ℕ) → bools (take (length cs) v) ≡ map (accepting (tableOf m)) cs
-      → u ≡ bits (coaccessible (recordGraph (edgesAt base (length es) w)) (bools (take (length cs) v))) ++ drop (length cs) v
-      → bools (take (length cs) u) ≡ coaccessible (edgeGraph es) (map (accepting (tableOf m)) cs)
-  kept-marks v u f e =
-      let marks : List Bool = coaccessible (edgeGraph es) (map (accepting (tableOf m)) cs) in
-      let c : coaccessible (recordGraph (edgesAt base (length es) w)) (bools (take (length cs) v)) ≡ marks =
-      coaccessible-held base room es w (bools (take (length cs) v)) held fits ∙ ap (coaccessible (edgeGraph es)) f in
-      let l : length (bits marks) ≡ length cs =
-      length-map marks bit ∙ length-coaccessible (edgeGraph es) (map (accepting (tableOf m)) cs) ∙ length-map cs (accepting (tableOf m)) in
-      ap bools (front (length cs) (bits marks) v u l (e ∙ ap (λ (b : List Bool). bits b ++ drop (length cs) v) c)) ∙ bools-bits marks
 
   module _ (marks ranks : List ℕ) (count : ℕ) (numbers : Numbered (bools (take (length cs) marks)) (length cs) ranks count) where
     -- the result, by the marks

@@ -96,11 +96,6 @@ pub kept-none : (k at left : ℕ) (states ms w : List ℕ) → left ≡ 0 → ke
 unfolding keptStates rows
 kept-none k at left states ms w s = rw (s, part-zero k ms)
 
--- the whole, by its first marks
-pub kept-whole : (n : ℕ) (states ms : List ℕ) (rs : List (List ℕ)) → keptStates states (part 0 n ms) rs ≡ keptStates states (take n ms) rs
-unfolding part
-kept-whole n states ms rs = refl
-
 -- ---- arcs
 
 -- the record of an arc takes up 80 bytes

@@ -1,7 +1,7 @@
 -- From the judgement of a list of pairs to the call that it is made for: a refusal is the call's, and where there is
 -- none the call goes on behind its test of the limits.
 use Prim.Native.Nat.{ℕ, _+_, _≤_}
-use mathlib.Core.Path.{_≡_, refl, sym, ap, _∙_}
+use mathlib.Core.Path.{_≡_, refl, _∙_}
 use mathlib.Core.Bool.{Bool, true, false}
 use mathlib.Core.List.{List, map}
 use lib.Dec.{leb}
@@ -10,7 +10,7 @@ use borrow.Author.Tests.{le-leb}
 use Rattle.automata.specs.Limits.{maxTapes, maxPairs}
 use Rattle.automata.specs.Refusal as refusal
 use Rattle.automata.specs.Lists.{and, all}
-use Rattle.automata.specs.Answer.{_>>=_, Answer, ok, refused, judge}
+use Rattle.automata.specs.Answer.{_>>=_, Answer, ok, judge}
 use Rattle.automata.specs.Space.{Space}
 use Rattle.automata.specs.OrderedSum.{OrderedSum}
 use Rattle.automata.specs.Automaton.{Automaton}
@@ -19,10 +19,6 @@ use Rattle.automata.specs.Projection.{isTape}
 use Rattle.automata.specs.IntersectCall.{distinct, named, intersectOn, intersectCall}
 use Rattle.automata.specs.ForecastCall.{forecastOf, forecastCall}
 use Rattle.automata.specs.Join.{Lent, within, separate, joinSteps, join}
-use Rattle.table.specs.declared.answer.Refusal.{Refusal}
-use Rattle.table.specs.declared.answer.Judged.{Judged}
-use Rattle.table.specs.declared.answer.Judged.the-variants.{Fine, Refused}
-use Rattle.table.specs.Answers.{judgedAs, refusalNumber}
 use Rattle.pairs.specs.PairTests.{pairsAnswer, joinPairsAnswer, tapesAnswer}
 
 -- three tests and what follows them: the tests by themselves, and then what follows
@@ -41,20 +37,6 @@ module _ {W : Type 0} (enough : Bool) (space : Space) (ps : List TapePair) (A : 
       rw (← e)
       (three-then (all (isTape (A .tapes)) (named (tapesOf ps))) (and (leb (length ps) maxPairs) (distinct (named (tapesOf ps)))) (limitsFit ps) refusal.tape refusal.pairs
       refusal.limit (judge enough refusal.space (intersectOn space ps A)))
-
-  pub intersect-refused : (n : ℕ) → pairsAnswer tapes ps ≡ refused n → intersectCall enough space ps A ≡ refused n
-  intersect-refused n r = intersect-then ∙ rw r
-
-  pub intersect-fine : pairsAnswer tapes ps ≡ ok tt → intersectCall enough space ps A ≡ judge enough refusal.space (intersectOn space ps A)
-  intersect-fine r = intersect-then ∙ rw r
-
-  -- by what the judgement answered
-  module _ (j : Judged) (is : judgedAs j ≡ pairsAnswer tapes ps) where
-    pub intersect-judged-refused : (why : Refusal) → j ≡ Refused why → intersectCall enough space ps A ≡ refused (refusalNumber why)
-    intersect-judged-refused why r = intersect-refused (refusalNumber why) (sym is ∙ ap judgedAs r)
-
-    pub intersect-judged-fine : j ≡ Fine → intersectCall enough space ps A ≡ judge enough refusal.space (intersectOn space ps A)
-    intersect-judged-fine r = intersect-fine (sym is ∙ ap judgedAs r)
 
 -- ---- the forecast, which reads no limit
 pub forecast-then : {W : Type 0} (enough : Bool) (ps : List Pair) (A : Automaton W) (tapes : ℕ) → A .tapes ≡ tapes
@@ -78,17 +60,3 @@ module _ (S : OrderedSum) (fits : S .W → Bool) (lent : Lent) (ps : List TapePa
     where
       same-width : leb (A .tapes + B .tapes) maxTapes ≡ leb (n + m) maxTapes
       same-width = rw (e, f)
-
-  pub join-refused : (k : ℕ) → joinPairsAnswer n m ps ≡ refused k → join S fits lent ps A B ≡ refused k
-  join-refused k r = join-then ∙ rw r
-
-  pub join-fine : joinPairsAnswer n m ps ≡ ok tt → join S fits lent ps A B ≡ judge (lent .enough) refusal.space (joinSteps S fits lent ps A B)
-  join-fine r = join-then ∙ rw r
-
-  -- by what the judgement answered
-  module _ (j : Judged) (is : judgedAs j ≡ joinPairsAnswer n m ps) where
-    pub join-judged-refused : (why : Refusal) → j ≡ Refused why → join S fits lent ps A B ≡ refused (refusalNumber why)
-    join-judged-refused why r = join-refused (refusalNumber why) (sym is ∙ ap judgedAs r)
-
-    pub join-judged-fine : j ≡ Fine → join S fits lent ps A B ≡ judge (lent .enough) refusal.space (joinSteps S fits lent ps A B)
-    join-judged-fine r = join-fine (sym is ∙ ap judgedAs r)

@@ -42,10 +42,6 @@ use Rattle.product_records.specs.Sums.{placeState, plus, plusState, vertexSum, 
 use Rattle.product_records.specs.Results.{statesFit, stateRecords, Vertices, movesFit, moveRecords, Moves}
 use Rattle.product.proofs.SideModel.{SideOf, place-model, place-fits, place-number, side-follows, side-stays}
 
--- the element at a place of a mapped list
-getD-map : {X : Type 0} (f : X → List ℕ) (xs : List X) (q : ℕ) (x : X) (d : List ℕ) → getElem? xs q ≡ some x → getD (map f xs) q d ≡ f x
-getD-map f xs q x d e = place-default (map f xs) q d (map-place f xs q ∙ ap (Option·map f) e)
-
 -- ---- rows
 
 -- the two numbers of a row

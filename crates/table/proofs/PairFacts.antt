@@ -6,7 +6,7 @@ use mathlib.Core.Option.{some}
 use mathlib.Core.List.{List, [], _∷_, map}
 use native.Mathlib.Omega.{arith}
 use lib.Dec.{T, leb, leb→le}
-use lib.ListN.{length, getD, getElem?, take, length-map, List·getD-eq-default}
+use lib.ListN.{length, getD, getElem?, take, List·getD-eq-default}
 use lib.Seq.{length-take-le}
 use borrow.Author.Tests.{leb-true, leb-false}
 use Rattle.automata.specs.Lists.{all, All}
@@ -41,9 +41,6 @@ module _ (tapes : ℕ) (ps : PairList) (n : Named tapes ps) where
 
   pub length-front : length (take (ps .used) (ps .pairs)) ≡ ps .used
   length-front = length-take-le (ps .used) (ps .pairs) named-fit
-
-  pub length-pairs : length (pairsAs ps) ≡ ps .used
-  length-pairs = length-map (take (ps .used) (ps .pairs)) pairAs ∙ length-front
 
   -- each of them names tapes
   pub named-all : All (Within tapes) (take (ps .used) (ps .pairs))

@@ -5,7 +5,7 @@ use mathlib.Core.List.{List, [], _∷_, _++_}
 use native.Mathlib.Omega.{arith}
 use native.Mathlib.Numerals.{add-one}
 use lib.ListN.{length, getD, take, drop, length-take, length-drop}
-use lib.Seq.{length-take-le, take-all, take-at, take-length, drop-append-add, drop-drop, drop-at, drop-append-le, take-append-le, getD-drop, getD-take, drop-cons, take-add}
+use lib.Seq.{length-take-le, take-all, take-at, drop-append-add, drop-drop, drop-at, getD-drop, getD-take, drop-cons, take-add}
 use Rattle.automata.proofs.RecordFacts.{take-drop-take}
 use Rattle.table.specs.Region.{part}
 
@@ -35,22 +35,10 @@ module _ {A : Type 0} where
   unfolding part
   part-part k m a n xs h = take-drop-take k m n (drop a xs) h ∙ ap (take m) (drop-drop k a xs)
 
-  -- a part of two lists joined that lies in the first
-  pub part-append-left : (k n : ℕ) (ys zs : List A) → k + n ≤ length ys → part k n (ys ++ zs) ≡ part k n ys
-  unfolding part
-  part-append-left k n ys zs h =
-      let e : n ≤ length (drop k ys) = simp length-drop (omega arith) in
-      ap (take n) (drop-append-le k ys zs (omega arith)) ∙ take-append-le n (drop k ys) zs e
-
-  -- one that lies in the second
+  -- a part of two lists joined that lies in the second
   pub part-append-right : (k n : ℕ) (ys zs : List A) → part (length ys + k) n (ys ++ zs) ≡ part k n zs
   unfolding part
   part-append-right k n ys zs = ap (take n) (drop-append-add ys zs k)
-
-  -- the region that is the whole list
-  pub part-whole : (ys : List A) → part 0 (length ys) ys ≡ ys
-  unfolding part
-  part-whole ys = take-length ys
 
   -- the first field of a record that is written field by field
   pub part-front : (n : ℕ) (p q : List A) → length p ≡ n → part 0 n (p ++ q) ≡ p

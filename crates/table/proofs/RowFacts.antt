@@ -1,7 +1,7 @@
 -- Laws of `rows`: a run of records of one size as a list, and what a store to one of them does.
-use Prim.Native.Nat.{ℕ, zero, suc, _+_, _-_, _*_, _≤_, _<_}
+use Prim.Native.Nat.{ℕ, zero, suc, _+_, _*_, _≤_, _<_}
 use mathlib.Core.Path.{_≡_, refl, sym, ap, ap₂, _∙_}
-use mathlib.Core.List.{List, [], _∷_, _++_}
+use mathlib.Core.List.{List, _∷_}
 use native.Mathlib.Omega.{arith}
 use native.Mathlib.Nat.{add-zero, zero-mul, suc-mul, mul-le-mul-right}
 use lib.ListN.{length, getD, set}
@@ -35,14 +35,6 @@ module _ {A : Type 0} where
   rows-splice-before a size (suc n) b ys xs h k =
       ap₂ (λ (r : List A) (rs : List (List A)). r ∷ rs) (part-splice-after a size b ys xs h k) (rows-splice-before (a + size) size n b ys xs (omega arith) k)
 
-  -- rows before it
-  pub rows-splice-after : (a size n b : ℕ) (ys xs : List A) → a + n * size ≤ b → b ≤ length xs → rows a size n (splice b ys xs) ≡ rows a size n xs
-  unfolding rows
-  rows-splice-after a size zero b ys xs h k = refl
-  rows-splice-after a size (suc n) b ys xs h k =
-      let e : suc n * size ≡ n * size + size = suc-mul n size in
-      ap₂ (λ (r : List A) (rs : List (List A)). r ∷ rs) (part-splice-before a size b ys xs (omega arith) k) (rows-splice-after (a + size) size n b ys xs (omega arith) k)
-
   -- a row written anew
   pub rows-splice-row : (a size n k : ℕ) (r xs : List A) → k < n → length r ≡ size → a + n * size ≤ length xs → rows a size n (splice (a + k * size) r xs) ≡ set (rows a size n xs) k r
   unfolding rows
@@ -62,20 +54,3 @@ module _ {A : Type 0} where
       ap₂ (λ (y : List A) (ys : List (List A)). y ∷ ys)
       (part-splice-before a size (a + suc k * size) r xs (omega arith) (omega arith))
       (ap (λ (i : ℕ). rows (a + size) size n (splice i r xs)) p ∙ rows-splice-row (a + size) size n k r xs (omega arith) e (omega arith))
-
-  -- one row more
-  pub rows-snoc : (a size n : ℕ) (xs : List A) → rows a size (suc n) xs ≡ rows a size n xs ++ (part (a + n * size) size xs ∷ [])
-  unfolding rows
-  rows-snoc a size zero xs = rw (zero-mul, add-zero)
-  rows-snoc a size (suc n) xs =
-      let e : a + size + n * size ≡ a + suc n * size = rw suc-mul (omega arith) in
-      ap (λ (rs : List (List A)). part a size xs ∷ rs) (rows-snoc (a + size) size n xs ∙ ap (λ (i : ℕ). rows (a + size) size n xs ++ (part i size xs ∷ [])) e)
-
-  -- a row written behind the last
-  pub rows-add : (a size n : ℕ) (r xs : List A) → length r ≡ size → a + n * size + size ≤ length xs → rows a size (suc n) (splice (a + n * size) r xs) ≡ rows a size n xs ++ (r ∷ [])
-  rows-add a size n r xs e l =
-      let f : a + n * size + length r ≤ length xs = omega arith in
-      rows-snoc a size n (splice (a + n * size) r xs)
-      ∙ ap₂ (λ (rs : List (List A)) (y : List A). rs ++ (y ∷ []))
-      (rows-splice-after a size n (a + n * size) r xs (omega arith) (omega arith))
-      (ap (λ (j : ℕ). part (a + n * size) j (splice (a + n * size) r xs)) (sym e) ∙ part-splice-same (a + n * size) r xs f)

@@ -1,23 +1,33 @@
 -- What the records by value stand for, the bytes that they are written to, and what is loaded from bytes.
 use mathlib.Core.Path.{_≡_}
 use mathlib.Core.Option.{Option, none, some}
-use mathlib.Core.List.{List, [], _∷_, _++_, map}
+use mathlib.Core.List.{List, [], _∷_, map}
 use Prim.Native.Nat.{ℕ, zero, suc, _+_, _-_, _≤_}
 use lib.ListN.{length, getD, take, drop, replicate}
 use Rattle.automata.specs.Automaton as automata
 use Rattle.automata.specs.Lists.{All}
-use Rattle.automata.specs.Records.{writeAll}
 use Rattle.automata.specs.Memory.{weightRecord, stateRecord}
-use Rattle.automata.specs.Layout.{labelSize, weightSize}
+use Rattle.automata.specs.Layout.{weightSize, targetPlace, contentPlace, labelSize}
 use Rattle.table.specs.Region.{part}
-use Rattle.table.specs.Endian.{le, toLe}
+use Rattle.table.specs.Endian.{le}
 use Rattle.table.specs.declared.record.Weight.{Weight}
 use Rattle.table.specs.declared.record.Weight.the-variants.{Absent, Present}
 use Rattle.table.specs.declared.record.State.{State}
 use Rattle.table.specs.declared.record.Label.{Label}
-use Rattle.table.specs.declared.record.Content.{Content}
-use Rattle.table.specs.declared.record.InputArc.{InputArc}
-use Rattle.table.specs.declared.record.ResultArc.{ResultArc}
+use Rattle.table.specs.declared.record.InputState.{InputState}
+
+-- ---- an arc in its record
+
+-- what it carries: its weight, and a label for each of eight tapes, empty on those that the table has not
+pub record Content : Type 0 where
+  pub weight : ℕ
+  pub labels : List Label
+
+-- an arc of a table that is read
+pub record InputArc : Type 0 where
+  pub source : InputState
+  pub target : InputState
+  pub content : Content
 
 -- ---- what a record by value stands for
 
@@ -46,10 +56,6 @@ arcOf tapes source target c = record { source = source; target = target; weight 
 abbrev pub arcAs : ℕ → InputArc → automata.Arc ℕ
 arcAs tapes a = arcOf tapes (a .source .0) (a .target .0) (a .content)
 
--- an arc of a table that is made
-abbrev pub resultArcAs : ℕ → ResultArc → automata.Arc ℕ
-resultArcAs tapes a = arcOf tapes (a .source .0) (a .target .0) (a .content)
-
 -- ---- the bytes that a record is stored as
 
 -- the 5 bytes of a weight
@@ -59,18 +65,6 @@ weightBytes w = weightRecord .write (optionOf w)
 -- the 10 bytes of a state
 unfoldable pub stateBytes : State → List ℕ
 stateBytes s = stateRecord .write (stateAs s)
-
--- the 9 bytes of a label: its length and its symbols
-unfoldable pub labelBytes : Label → List ℕ
-labelBytes l = l .len ∷ l .symbols
-
--- the 76 bytes of a content: its weight and its eight labels
-unfoldable pub contentBytes : Content → List ℕ
-contentBytes c = toLe 4 (c .weight) ++ writeAll labelBytes (c .labels)
-
--- the 80 bytes of an arc: source, target, content
-unfoldable pub arcBytes : ResultArc → List ℕ
-arcBytes a = toLe 2 (a .source .0) ++ (toLe 2 (a .target .0) ++ contentBytes (a .content))
 
 -- ---- what is loaded from the bytes at a place
 
@@ -102,7 +96,7 @@ contentAt at xs = record { weight = le (part at 4 xs); labels = labelsAt 8 (at +
 
 -- the arc at a place
 unfoldable pub arcAt : ℕ → List ℕ → InputArc
-arcAt at xs = record { source = record { 0 = le (part at 2 xs) }; target = record { 0 = le (part (at + 2) 2 xs) }; content = contentAt (at + 4) xs }
+arcAt at xs = record { source = record { 0 = le (part at 2 xs) }; target = record { 0 = le (part (at + targetPlace) 2 xs) }; content = contentAt (at + contentPlace) xs }
 
 -- ---- contents of which each byte is decided by the arc that they stand for
 

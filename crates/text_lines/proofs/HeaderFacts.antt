@@ -28,9 +28,6 @@ use Rattle.text_lines.proofs.ArcFacts.{forget-left}
 
 -- ---- the test of the counts
 module _ (j : Judged) (t s a : ℕ) where
-  pub counts-refused : (k : Refusal) → j ≡ judged.Refused k → judgedAs j ≡ countsJudged (judgedAs j) t s a
-  counts-refused k e = rw e
-
   module _ (e : j ≡ judged.Fine) where
     pub counts-none : t < 1 → refused 3 ≡ countsJudged (judgedAs j) t s a
     counts-none h = rw (e, lt-leb 1 t h)
