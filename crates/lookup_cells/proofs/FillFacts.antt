@@ -29,7 +29,8 @@ use Rattle.lookup_moves.specs.Distances.{far, weightOf, cellsOf, farByte}
 use Rattle.lookup_cells.specs.Ends.{startedFrom, StartsAll, Stated, leastUpTo}
 use Rattle.lookup_cells.specs.Fillable.{Fillable, CellsFilled}
 use Rattle.lookup_moves.specs.Spots.{Spanned, spotOf, Placed, Positive}
-use Rattle.lookup_cells.specs.Pushes.{targetOf, Ready, Spaced, Settles}
+use Rattle.table.specs.Arcs.{targetOf}
+use Rattle.lookup_cells.specs.Pushes.{Ready, Spaced, Settles}
 use Rattle.lookup_moves.proofs.CellFacts.{length-cells}
 use Rattle.lookup_cells.proofs.DistanceFacts.{Distances, distances-filled}
 use Rattle.lookup_cells.proofs.PushFacts.{reach-rest}

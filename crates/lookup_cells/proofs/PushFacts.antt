@@ -17,7 +17,8 @@ use Rattle.lookup_moves.specs.declared.spot.Spot.{Spot}
 use Rattle.lookup_moves.specs.Distances.{far, cellsOf, lowered, sum, Trend, Lowers}
 use Rattle.lookup_cells.specs.Chains.{firstOf, nextOf, Chained}
 use Rattle.lookup_cells.specs.Queues.{countOf, Queue, Enqueues, Dequeues}
-use Rattle.lookup_cells.specs.Pushes.{sourceOf, targetOf, arcWeight, backBy, cellAt, cellBack, passed, pushed, Pushed, start, more, Still, Done, toDo, AllDone, Passable, Spaced, Ready, Marking, Visits, Spreads, Pushes, PushesAll, Marks, Settles}
+use Rattle.table.specs.Arcs.{sourceOf, targetOf, arcWeight}
+use Rattle.lookup_cells.specs.Pushes.{backBy, cellAt, cellBack, passed, pushed, Pushed, start, more, Still, Done, toDo, AllDone, Passable, Spaced, Ready, Marking, Visits, Spreads, Pushes, PushesAll, Marks, Settles}
 use Rattle.lookup_cells.proofs.QueueFacts.{queue-done}
 
 -- ---- weights only become less

@@ -26,7 +26,8 @@ use Rattle.table.specs.declared.record.Label.{Label}
 use Rattle.lookup_moves.specs.declared.spot.Spot.{Spot}
 use Rattle.lookup_moves.specs.Moves.{Laid, Labelled, Spotted}
 use Rattle.lookup_moves.specs.Distances.{cellsOf, lowered}
-use Rattle.lookup_cells.specs.Pushes.{sourceOf, targetOf, arcWeight, backBy, cellAt, cellBack, passed, pushed, Pushed, start, more, Still, Passable, Ready, Settles}
+use Rattle.table.specs.Arcs.{sourceOf, targetOf, arcWeight}
+use Rattle.lookup_cells.specs.Pushes.{backBy, cellAt, cellBack, passed, pushed, Pushed, start, more, Still, Passable, Ready, Settles}
 use Rattle.lookup_cells.proofs.DistanceFacts.{val, Distances}
 use Rattle.lookup_cells.proofs.MoveMeaning.{shift, place-moved, labelled, Before, moves-sound, moves-complete}
 use Rattle.lookup_cells.proofs.PushFacts.{pushed-length}

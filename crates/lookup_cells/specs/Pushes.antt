@@ -7,8 +7,7 @@ use mathlib.Core.Option.{Option, none, some}
 use mathlib.Core.List.{List}
 use Prim.Native.Nat.{ℕ, _+_, _-_, _*_, _≤_, _<_}
 use lib.ListN.{length, getD}
-use Rattle.table.specs.Region.{part}
-use Rattle.table.specs.Endian.{le}
+use Rattle.table.specs.Arcs.{sourceOf, targetOf, arcWeight}
 use Rattle.table.specs.declared.answer.Counts.{Counts}
 use Rattle.lookup_moves.specs.declared.spot.Spot.{Spot}
 use Rattle.lookup_moves.specs.Distances.{far, cellsOf, lowered, sum}
@@ -16,16 +15,6 @@ use Rattle.lookup_moves.specs.Moves.{movesFrom, Laid, Labelled}
 use Rattle.lookup_cells.specs.Chains.{Chained}
 use Rattle.lookup_cells.specs.Queues.{countOf, Queue}
 use Rattle.automata.specs.Layout.{arcSize, labelsPlace}
-
--- source, target and weight of arc e
-abbrev pub sourceOf : List ℕ → ℕ → ℕ
-sourceOf arcs e = le (part (arcSize * e) 2 arcs)
-
-abbrev pub targetOf : List ℕ → ℕ → ℕ
-targetOf arcs e = le (part (arcSize * e + 2) 2 arcs)
-
-abbrev pub arcWeight : List ℕ → ℕ → ℕ
-arcWeight arcs e = le (part (arcSize * e + 4) 4 arcs)
 
 -- how far back its labels lead from the combination, if they end there
 abbrev pub backBy : ℕ → ℕ → List ℕ → List ℕ → Spot → Option ℕ

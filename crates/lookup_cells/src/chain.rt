@@ -1,13 +1,13 @@
 // The arcs of a table in chains by their targets: the first arc into each state, and behind these the next arc of each
 // arc.
 use table::answer::Counts;
-use table::bytes::get16;
+use table::arc::target_at;
 use table::layout::ARC_SIZE;
 ghost use mathlib.Core.Path.{_≡_};
 ghost use Prim.Native.Nat.{_+_, _*_, _≤_, _<_};
 ghost use lib.ListN.{length, getD, set, replicate};
 ghost use Rattle.lookup_cells.specs.Chains.{Chained};
-ghost use Rattle.lookup_cells.specs.Pushes.{targetOf};
+ghost use Rattle.table.specs.Arcs.{targetOf};
 ghost use Rattle.automata.specs.Layout.{arcSize};
 
 // Chains without an arc: 65,535 is none.
@@ -22,7 +22,7 @@ fn chain_arc(arcs: &[u8], e: usize, index: &mut [u16])
     requires { ⌜ (arcSize * e + arcSize ≤ length (now arcs)) × (e < 8192) × (targetOf (now arcs) e < 1024) × (length (now index) ≡ 9216) ⌝ }
     ensures { λ _. ⌜ now (index .exit) ≡ set (set (now (index .entry)) (1024 + e) (getD (now (index .entry)) (targetOf (now (arcs .entry)) e) 0)) (targetOf (now (arcs .entry)) e) e ⌝ }
 {
-    let target = get16(arcs, ARC_SIZE * e + 2) as usize;
+    let target = target_at(arcs, ARC_SIZE * e).0 as usize;
     index[1024 + e] = index[target];
     index[target] = e as u16;
 }

@@ -11,8 +11,9 @@ use lookup_moves::cell::lower;
 use lookup_moves::cell::weight_at;
 use lookup_moves::spot::Spot;
 use table::answer::Counts;
-use table::bytes::get16;
-use table::bytes::get32;
+use table::arc::arc_weight_at;
+use table::arc::source_at;
+use table::arc::target_at;
 use table::layout::ARC_SIZE;
 ghost use Prim.Native.Nat.{_+_, _≤_, _<_};
 ghost use Rattle.lookup_moves.specs.Moves.{spotWith};
@@ -55,9 +56,9 @@ fn visit_arc(
     if number < by {
         return false;
     }
-    let source = cell_number(get16(arcs, at) as usize, all, number - by);
-    let target = cell_number(get16(arcs, at + 2) as usize, all, number);
-    let through = get32(arcs, at + 4) as u64 + weight_at(work, target);
+    let source = cell_number(source_at(arcs, at).0 as usize, all, number - by);
+    let target = cell_number(target_at(arcs, at).0 as usize, all, number);
+    let through = arc_weight_at(arcs, at) as u64 + weight_at(work, target);
     let lowered = lower(work, source, through);
     if by != 0 {
         return false;
@@ -101,7 +102,7 @@ fn push_arc(
     if !near {
         return;
     }
-    let source = get16(arcs, ARC_SIZE * e) as usize;
+    let source = source_at(arcs, ARC_SIZE * e).0 as usize;
     enqueue(source, queue);
 }
 

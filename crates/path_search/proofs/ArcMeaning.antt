@@ -22,7 +22,8 @@ use Rattle.lookup_tuple.specs.declared.Strings.{Strings}
 use Rattle.lookup_tuple.specs.Strings.{Stands}
 use Rattle.lookup_moves.specs.declared.spot.Spans.{Spans}
 use Rattle.lookup_moves.specs.Spots.{Spanned, spotOf}
-use Rattle.lookup_cells.specs.Pushes.{targetOf, backBy}
+use Rattle.table.specs.Arcs.{targetOf}
+use Rattle.lookup_cells.specs.Pushes.{backBy}
 use Rattle.lookup_cells.proofs.MoveMeaning.{combinations-positive, label-length, first-short, next-short, labelled, shift, place-moved}
 use Rattle.lookup_cells.proofs.PushMeaning.{AtSpot, ready, arc-labels, arc-before, arc-back}
 use Rattle.lookup_cells.proofs.SpotMeaning.{digits, place-digits, span-at, all-at, at-spot}

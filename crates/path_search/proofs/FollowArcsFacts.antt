@@ -21,7 +21,7 @@ use Rattle.table_adjacency.proofs.ChainFacts.{First, first-arc, next-arc}
 use Rattle.path_search.specs.Search.{Search, searchOf, enter, entered, follow, followArcs}
 use Rattle.path_search.specs.FirstPath.{Kept}
 use Rattle.path_search.proofs.FollowFacts.{follow-front, follow-kept}
-use Rattle.lookup_cells.specs.Pushes.{sourceOf}
+use Rattle.table.specs.Arcs.{sourceOf}
 use Rattle.path_search.specs.Tight.{shiftBy, shiftOf, tightTo, nextCell}
 use Rattle.path_search.specs.declared.answer.Reached.{Reached}
 use Rattle.path_search.specs.declared.answer.Reached.the-variants.{Cell, Nowhere}

@@ -17,7 +17,8 @@ use Rattle.lookup_tuple.specs.declared.Strings.{Strings}
 use Rattle.lookup_moves.specs.declared.spot.Spans.{Spans}
 use Rattle.lookup_moves.specs.Spots.{spotOf}
 use Rattle.lookup_cells.specs.Ends.{beginning, fromState}
-use Rattle.lookup_cells.specs.Pushes.{sourceOf, targetOf, arcWeight, backBy}
+use Rattle.table.specs.Arcs.{sourceOf, targetOf, arcWeight}
+use Rattle.lookup_cells.specs.Pushes.{backBy}
 use Rattle.path_search.specs.Tight.{endThere, tightTo, nextCell, startCell, endsBy, endCell}
 use Rattle.path_search.proofs.TightArcFacts.{numberTo}
 

@@ -34,7 +34,8 @@ use Rattle.path_search.specs.Search.{Search, searchOf, enterStarts, sear
 use Rattle.path_search.specs.FirstPath.{FirstTo, Kept}
 use Rattle.path_search.proofs.EnterFacts.{none-found}
 use Rattle.path_search.proofs.SearchFacts.{search-first, search-none}
-use Rattle.lookup_cells.specs.Pushes.{targetOf, Ready}
+use Rattle.table.specs.Arcs.{targetOf}
+use Rattle.lookup_cells.specs.Pushes.{Ready}
 use Rattle.lookup_cells.proofs.PushMeaning.{ready}
 use Rattle.lookup_cells.proofs.SpotMeaning.{digits, all-at, spans-positive, at-spot}
 use Rattle.lookup_cells.specs.Fillable.{Fillable, CellsFilled}

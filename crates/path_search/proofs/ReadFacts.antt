@@ -18,7 +18,8 @@ use Rattle.lookup_tuple.specs.declared.Strings.{Strings}
 use Rattle.lookup_moves.specs.declared.spot.Spans.{Spans}
 use Rattle.lookup_moves.specs.Distances.{cellsOf}
 use Rattle.lookup_moves.specs.Spots.{spotOf}
-use Rattle.lookup_cells.specs.Pushes.{targetOf, arcWeight, backBy}
+use Rattle.table.specs.Arcs.{targetOf, arcWeight}
+use Rattle.lookup_cells.specs.Pushes.{backBy}
 use Rattle.path_search.specs.Tight.{endThere, tightTo}
 use Rattle.path_search.proofs.KeptFacts.{cell-kept}
 use Rattle.path_search.specs.Searchable.{Searchable, Weights}

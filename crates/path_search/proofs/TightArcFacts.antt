@@ -25,7 +25,8 @@ use Rattle.lookup_tuple.specs.Strings.{Stands}
 use Rattle.lookup_moves.specs.declared.spot.Spans.{Spans}
 use Rattle.lookup_moves.specs.Spots.{Spanned, spotOf}
 use Rattle.lookup_cells.specs.Ends.{fromState}
-use Rattle.lookup_cells.specs.Pushes.{sourceOf, targetOf, arcWeight, backBy}
+use Rattle.table.specs.Arcs.{sourceOf, targetOf, arcWeight}
+use Rattle.lookup_cells.specs.Pushes.{backBy}
 use Rattle.lookup_cells.proofs.MoveMeaning.{combinations-positive}
 use Rattle.lookup_cells.proofs.SpotMeaning.{all-at}
 use Rattle.path_search.specs.Tight.{shiftOf, endThere, tightTo, nextCell, cellBefore, startCell, endsBy, endCell}

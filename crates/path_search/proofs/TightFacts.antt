@@ -24,7 +24,8 @@ use Rattle.lookup_moves.specs.Distances.{far, cellsOf}
 use Rattle.lookup_moves.specs.Moves.{stepAs, movesFrom, Laid, Labelled, spotWith}
 use Rattle.lookup_moves.specs.Spots.{spotOf}
 use Rattle.lookup_moves.proofs.MoveFacts.{laid-any, moves-any}
-use Rattle.lookup_cells.specs.Pushes.{targetOf, arcWeight, backBy}
+use Rattle.table.specs.Arcs.{targetOf, arcWeight}
+use Rattle.lookup_cells.specs.Pushes.{backBy}
 use Rattle.path_search.specs.Tight.{shiftBy, endThere, tightTo}
 use Rattle.path_search.specs.Searchable.{Spannable, Weights}
 

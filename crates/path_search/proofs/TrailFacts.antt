@@ -16,7 +16,7 @@ use Rattle.table.specs.declared.answer.Counts.{Counts}
 use Rattle.table.proofs.SpliceFacts.{length-splice, splice-none, splice-append, splice-swap, splice-front}
 use Rattle.lookup_moves.specs.declared.spot.Spans.{Spans}
 use Rattle.path_search.specs.Search.{noArc}
-use Rattle.lookup_cells.specs.Pushes.{sourceOf}
+use Rattle.table.specs.Arcs.{sourceOf}
 use Rattle.path_search.specs.Tight.{shiftOf, cellBefore}
 use Rattle.path_search.specs.Trail.{Retraceable, Behind, markOf, foundFrom, countBack, runBack, CanCount, CanWalk}
 

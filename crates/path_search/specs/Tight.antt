@@ -17,7 +17,8 @@ use Rattle.lookup_tuple.specs.declared.Strings.{Strings}
 use Rattle.lookup_moves.specs.declared.spot.Spans.{Spans}
 use Rattle.lookup_moves.specs.Spots.{spotOf}
 use Rattle.lookup_cells.specs.Ends.{fromState}
-use Rattle.lookup_cells.specs.Pushes.{sourceOf, targetOf, arcWeight, backBy}
+use Rattle.table.specs.Arcs.{sourceOf, targetOf, arcWeight}
+use Rattle.lookup_cells.specs.Pushes.{backBy}
 
 -- by how much labels move the number of a combination: those of n tapes from tape h on, the first at place `at`, by the
 -- numbers of combinations behind each string

@@ -11,7 +11,7 @@ use Rattle.table.specs.declared.answer.Counts.{Counts}
 use Rattle.lookup_moves.specs.declared.spot.Spans.{Spans}
 use Rattle.lookup_moves.specs.Moves.{Labelled}
 use Rattle.path_search.specs.Search.{noArc, markAt}
-use Rattle.lookup_cells.specs.Pushes.{sourceOf}
+use Rattle.table.specs.Arcs.{sourceOf}
 use Rattle.path_search.specs.Tight.{shiftOf, cellBefore}
 use Rattle.path_search.specs.Searchable.{Spannable}
 

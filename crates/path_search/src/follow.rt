@@ -13,7 +13,7 @@ ghost use Rattle.table_adjacency.specs.Chains.{Chained};
 ghost use Rattle.lookup_moves.specs.Distances.{cellsOf};
 ghost use Rattle.path_search.specs.Search.{searchOf, follow, followArcs};
 ghost use Rattle.path_search.specs.FirstPath.{Kept};
-ghost use Rattle.lookup_cells.specs.Pushes.{sourceOf};
+ghost use Rattle.table.specs.Arcs.{sourceOf};
 ghost use Rattle.path_search.specs.Tight.{nextCell};
 ghost use Rattle.path_search.specs.Searchable.{Searchable, Weights};
 

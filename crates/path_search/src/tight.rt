@@ -9,8 +9,8 @@ use lookup_moves::spot::Spans;
 use lookup_moves::spot::spot_at;
 use lookup_tuple::Strings;
 use table::answer::Counts;
-use table::bytes::get16;
-use table::bytes::get32;
+use table::arc::arc_weight_at;
+use table::arc::target_at;
 use table::layout::ARC_SIZE;
 use table::layout::LABEL_SIZE;
 use table::layout::LABELS_PLACE;
@@ -93,8 +93,8 @@ pub fn tight_to(
         return Reached::Nowhere;
     }
     let at = ARC_SIZE * e;
-    let there = cell_number(get16(arcs, at + 2) as usize, spans.all, to);
-    if get32(arcs, at + 4) as u64 + weight_at(work, there) != weight_at(work, here) {
+    let there = cell_number(target_at(arcs, at).0 as usize, spans.all, to);
+    if arc_weight_at(arcs, at) as u64 + weight_at(work, there) != weight_at(work, here) {
         return Reached::Nowhere;
     }
     if !ends_at(counts, arcs, e, text, strings, spans, to) {

@@ -5,7 +5,7 @@ use crate::tight::shift_of;
 use lookup_moves::cell::weight_at;
 use lookup_moves::spot::Spans;
 use table::answer::Counts;
-use table::bytes::get16;
+use table::arc::source_at;
 use table::bytes::put16;
 use table::layout::ARC_SIZE;
 ghost use mathlib.Core.Path.{_≡_};
@@ -23,7 +23,7 @@ fn cell_before(counts: Counts, arcs: &[u8], e: usize, spans: Spans, there: usize
     requires { ⌜ Retraceable counts (now arcs) spans × Behind counts (now arcs) spans e there ⌝ }
     ensures { λ r. ⌜ r ≡ cellBefore counts (now (arcs .entry)) spans e there ⌝ }
 {
-    let source = get16(arcs, ARC_SIZE * e) as usize;
+    let source = source_at(arcs, ARC_SIZE * e).0 as usize;
     source * spans.all + (there % spans.all - shift_of(counts, arcs, e, spans))
 }
 

@@ -46,7 +46,7 @@ use Rattle.product.proofs.SideModel.{SideOf, place-model, place-fits, p
 
 -- the two numbers of a row
 row-read : (at : ℕ) (w : List ℕ) (x y : ℕ) → x < 65536 → y < 65536 → part at 4 w ≡ toLe 2 x ++ toLe 2 y
-    → (le (part at 2 w) ≡ x) × (le (part (at + 2) 2 w) ≡ y)
+    → (vertexAt at w .first .0 ≡ x) × (vertexAt at w .second .0 ≡ y)
 unfolding part
 row-read at w x y hx hy e =
     let z : at + 0 ≡ at = omega arith in
@@ -97,7 +97,7 @@ module _ (a b : Memory) (sa : Sound a) (sb : Sound b) where
     unfolding vertexBytes
     row-vertex at c h e =
         let r = row-read at w (placeNumber (c .0)) (placeNumber (c .1)) (place-number a sa (c .0) (h .0)) (place-number b sb (c .1) (h .1)) e in
-        λ i. record { first = r .0 i; second = r .1 i }
+        λ i. record { first = record { 0 = r .0 i }; second = record { 0 = r .1 i } }
 
     -- the rows are those of the states
     pub vertices-held : (at : ℕ) (cs : List product.Vertex) → All Below cs → fronts at vertexSize 4 (length cs) w ≡ map rowOf cs → verticesAt at (length cs) w ≡ map vertexOf cs
@@ -105,7 +105,7 @@ module _ (a b : Memory) (sa : Sound a) (sb : Sound b) where
     vertices-held at [] h e = refl
     vertices-held at (c ∷ cs) h e =
         ap₂ (λ (v : Vertex) (vs : List Vertex). v ∷ vs) (row-vertex at c (h .0) (ap (λ (rs : List (List ℕ)). getD rs 0 []) e))
-        (vertices-held (at + stepSize) cs (h .1) (ap (λ (rs : List (List ℕ)). drop 1 rs) e))
+        (vertices-held (at + vertexSize) cs (h .1) (ap (λ (rs : List (List ℕ)). drop 1 rs) e))
 
   -- the places of the states are within the bytes
   pub vertices-fit : (cs : List product.Vertex) → All Below cs → Vertices (a .stateBytes) (b .stateBytes) (map vertexOf cs)
@@ -179,7 +179,7 @@ module _ (a b : Memory) (sa : Sound a) (sb : Sound b) where
   module _ (few : A .tapes + B .tapes ≤ 8) (w : List ℕ) (cs : List product.Vertex) (bound : All Below cs) (long : vertexSize * length cs ≤ length w) (held : HoldsVertices cs w) where
     -- the row of a state
     row-of : (q : ℕ) (c : product.Vertex) → getElem? cs q ≡ some c
-        → (le (part (vertexSize * q) 2 w) ≡ placeNumber (c .0)) × (le (part (vertexSize * q + 2) 2 w) ≡ placeNumber (c .1))
+        → (vertexAt (vertexSize * q) w .first .0 ≡ placeNumber (c .0)) × (vertexAt (vertexSize * q) w .second .0 ≡ placeNumber (c .1))
     unfolding vertexBytes
     row-of q c at =
         let l = place-bound cs q at in

@@ -24,14 +24,15 @@ use Rattle.automata.proofs.SoundFacts.{sound-well-formed, sound-holds}
 use Rattle.automata.proofs.WellFormedFacts.{all-place}
 use Rattle.automata.specs.Layout.{arcSize, stateSize, labelSize, labelsPlace}
 use Rattle.table.specs.Region.{part}
-use Rattle.table.specs.Endian.{le}
+use Rattle.table.specs.Arcs.{arcWeight}
 use Rattle.table.specs.declared.record.Weight.{Weight}
 use Rattle.table.specs.declared.record.Weight.the-variants.{Absent, Present}
 use Rattle.table.specs.Records.{optionOf, stateAs, stateAt, arcAs, arcAt, contentAt}
 use Rattle.table.proofs.RegionFacts.{part-part}
 use Rattle.table.proofs.LoadedFacts.{zeros-label}
 use Rattle.table.proofs.SoundFacts.{few-tapes, few-states, few-arcs, states-lent, arcs-lent, state-loaded, arc-bytes, arc-loaded}
-use Rattle.product_search.specs.Vertices.{placeNumber, PlaceBelow}
+use Rattle.product_search.specs.Vertices.{ended, placeNumber, PlaceBelow}
+use Rattle.product_search.specs.Moves.{noArc}
 use Rattle.product_records.specs.Sums.{placeState, amount, sideSum, sideLabels, PlaceFits, SideFits}
 
 -- zeros are the records of empty labels
@@ -62,7 +63,7 @@ module _ (m : Memory) (s : Sound m) where
   -- ---- places
 
   -- a state's number is none of an ended path
-  not-ended : (q : ℕ) → q < m .states → q ≡ 65535 → ⊥
+  not-ended : (q : ℕ) → q < m .states → q ≡ ended → ⊥
   not-ended q l e = omega (arith, e, l, few-states m s)
 
   below : (q : ℕ) → q < length (A .states) → q < m .states
@@ -75,9 +76,9 @@ module _ (m : Memory) (s : Sound m) where
   place-model none h = refl
   place-model (some q) h =
       let l = below q h in
-      rw (eqb-false q 65535 (not-ended q l), state-loaded m s q l)
+      rw (eqb-false q ended (not-ended q l), state-loaded m s q l)
 
-  place-there : (x : Option ℕ) → PlaceBelow (length (A .states)) x → (placeNumber x ≡ 65535 → ⊥) → stateSize * placeNumber x + stateSize ≤ length (m .stateBytes)
+  place-there : (x : Option ℕ) → PlaceBelow (length (A .states)) x → (placeNumber x ≡ ended → ⊥) → stateSize * placeNumber x + stateSize ≤ length (m .stateBytes)
   place-there none h e = absurd (e refl)
   place-there (some q) h e = omega (arith, below q h, states-lent m s)
 
@@ -103,13 +104,13 @@ module _ (m : Memory) (s : Sound m) where
     there : i < m .arcs
     there = subst (λ (n : ℕ). i < n) (sym (sound-holds m s .arcs)) (place-bound (A .arcs) i at)
 
-    arc-number : i ≡ 65535 → ⊥
+    arc-number : i ≡ noArc → ⊥
     arc-number e = omega (arith, e, there, few-arcs m s)
 
     formed : WellFormedArc (A .tapes) (length (A .states)) a
     formed = all-place (WellFormedArc (A .tapes) (length (A .states))) (A .arcs) (sound-well-formed m s .arcs) i a at
 
-    weight-model : le (part (arcSize * i + 4) 4 (m .arcBytes)) ≡ a .weight
+    weight-model : arcWeight (m .arcBytes) i ≡ a .weight
     unfolding arcAt contentAt
     weight-model =
         ap (λ (x : Arc ℕ). x .weight) (Option·some-injective (arcAs (m .tapes) (arcAt (arcSize * i) (m .arcBytes))) a (sym (arc-loaded m s i there) ∙ at))
@@ -119,7 +120,7 @@ module _ (m : Memory) (s : Sound m) where
     labels-model =
         let x = writeAll (labelRecord .write) (a .labels) in
         let z = zeros ((8 - m .tapes) * labelSize) in
-        let t : 8 + labelSize * m .tapes ≤ arcSize = omega (arith, few-tapes m s) in
+        let t : labelsPlace + labelSize * m .tapes ≤ arcSize = omega (arith, few-tapes m s) in
         let l : length x ≡ labelSize * m .tapes = length-many labelRecord-lawful (a .labels) (formed .labels) ∙ (omega (arith, formed .width, sound-holds m s .tapes)) in
         let d : getD (A .arcs) i a ≡ a = place-default (A .arcs) i a at in
         sym (part-part labelsPlace (labelSize * m .tapes) (arcSize * i) arcSize (m .arcBytes) t)
@@ -131,7 +132,7 @@ module _ (m : Memory) (s : Sound m) where
     pub side-follows : (x : Option ℕ) → PlaceBelow (length (A .states)) x → SideOf m i (placeNumber x) (a .weight) (a .labels)
     unfolding sideSum sideLabels
     side-follows x h =
-        let e = eqb-false i 65535 arc-number in
+        let e = eqb-false i noArc arc-number in
         let sum : sideSum (m .stateBytes) (m .arcBytes) i (placeNumber x) ≡ a .weight = rw e weight-model in
         record {
           fits = record {
@@ -144,7 +145,7 @@ module _ (m : Memory) (s : Sound m) where
         }
 
   -- its path ends, or has ended
-  pub side-stays : (x : Option ℕ) (f : ℕ) → PlaceBelow (length (A .states)) x → finalAt ℕ-sum (system A) x ≡ some f → SideOf m 65535 (placeNumber x) f (emptyTuple (A .tapes))
+  pub side-stays : (x : Option ℕ) (f : ℕ) → PlaceBelow (length (A .states)) x → finalAt ℕ-sum (system A) x ≡ some f → SideOf m noArc (placeNumber x) f (emptyTuple (A .tapes))
   unfolding sideSum sideLabels
   side-stays x f h e =
       let k : finalAt ℕ-sum (system A) x ≡ optionOf (placeState (m .stateBytes) (placeNumber x) .last) = sym (ap (λ (q : State ℕ). q .final) (place-model x h)) in

@@ -10,12 +10,13 @@ use lib.Seq.{getD-drop}
 use Rattle.automata.specs.Lists.{if}
 use Rattle.automata.specs.Memory.{zeros}
 use Rattle.automata.proofs.TestFacts.{eqb-false, false-not-true, T-true}
-use Rattle.automata.specs.Layout.{arcSize, labelSize, labelsPlace, labelsSize}
+use Rattle.automata.specs.Layout.{arcSize, contentPlace, labelSize, labelsPlace, labelsSize}
 use Rattle.table.specs.Region.{part, splice}
 use Rattle.table.specs.Endian.{le, toLe}
 use Rattle.table.proofs.EndianFacts.{Bytes, toLe-part}
 use Rattle.table.proofs.RegionFacts.{length-part, part-zero, part-suc, part-add, length-splice, splice-none, splice-twice, splice-append, splice-behind, splice-swap, one-store}
 use Rattle.product_search.specs.declared.vertex.Move.{Move}
+use Rattle.product_search.specs.Moves.{noArc}
 use Rattle.product_records.specs.Sums.{sideLabels, sideOver, moveSum, moveFront, moveLabels, moveRecord, MoveFits}
 
 -- a test for equal numbers that fails
@@ -58,15 +59,15 @@ label-copied arcs from to w out out2 bytes h k e f =
 -- ---- the labels of a side
 
 -- its path has ended
-pub side-ended : (arcs : List ℕ) (tapes k to : ℕ) (out : List ℕ) → k ≡ 65535 → out ≡ sideOver arcs tapes k to out
+pub side-ended : (arcs : List ℕ) (tapes k to : ℕ) (out : List ℕ) → k ≡ noArc → out ≡ sideOver arcs tapes k to out
 unfolding sideOver
 side-ended arcs tapes k to out e = rw e
 
 -- its arc
-pub side-arc : (arcs : List ℕ) (tapes k to : ℕ) (out out2 : List ℕ) → (k ≡ 65535 → ⊥) → out2 ≡ splice to (part (arcSize * k + labelsPlace) (labelSize * tapes) arcs) out
+pub side-arc : (arcs : List ℕ) (tapes k to : ℕ) (out out2 : List ℕ) → (k ≡ noArc → ⊥) → out2 ≡ splice to (part (arcSize * k + labelsPlace) (labelSize * tapes) arcs) out
     → out2 ≡ sideOver arcs tapes k to out
 unfolding sideOver
-side-arc arcs tapes k to out out2 e h = rw (eqb-false k 65535 e) h
+side-arc arcs tapes k to out out2 e h = rw (eqb-false k noArc e) h
 
 -- one label copied, and so many behind it
 pub labels-more : (arcs : List ℕ) (from at left left2 : ℕ) (out out2 : List ℕ) → left ≡ left2 + 1 → from + labelSize * left ≤ length arcs → at + labelSize * left ≤ length out
@@ -106,13 +107,13 @@ splice-between to p y z q out e h =
     ∙ ap (splice (a + length z) q) (splice-twice a z y s (sym e) (omega (arith, lz, lp, ls)))
     ∙ ap (λ (j : ℕ). splice (a + j) q (splice a y s)) (sym e) ∙ after
 
-module _ (arcs : List ℕ) (tapes k : ℕ) (h : (k ≡ 65535 → ⊥) → arcSize * k + arcSize ≤ length arcs) (t : tapes ≤ 8) where
+module _ (arcs : List ℕ) (tapes k : ℕ) (h : (k ≡ noArc → ⊥) → arcSize * k + arcSize ≤ length arcs) (t : tapes ≤ 8) where
   -- the labels of a side take up nine bytes a tape
   length-side : length (sideLabels arcs tapes k) ≡ labelSize * tapes
   unfolding sideLabels
-  length-side = go (eqb k 65535) (λ f. eqb-differs k 65535 f)
+  length-side = go (eqb k noArc) (λ f. eqb-differs k noArc f)
     where
-      go : (b : Bool) → (b ≡ false → k ≡ 65535 → ⊥) → length (if b (zeros (labelSize * tapes)) (part (arcSize * k + labelsPlace) (labelSize * tapes) arcs)) ≡ labelSize * tapes
+      go : (b : Bool) → (b ≡ false → k ≡ noArc → ⊥) → length (if b (zeros (labelSize * tapes)) (part (arcSize * k + labelsPlace) (labelSize * tapes) arcs)) ≡ labelSize * tapes
       go true f = length-replicate (labelSize * tapes) 0
       go false f = let l = h (f refl) in length-part (arcSize * k + labelsPlace) (labelSize * tapes) arcs (omega (arith, l, t))
 
@@ -120,7 +121,7 @@ module _ (arcs : List ℕ) (tapes k : ℕ) (h : (k ≡ 65535 → ⊥) → arcSiz
   side-between : (to at : ℕ) (p q out out1 out2 : List ℕ) → at ≡ to + length p → to + length (p ++ (zeros (labelSize * tapes) ++ q)) ≤ length out
       → out1 ≡ splice to (p ++ (zeros (labelSize * tapes) ++ q)) out → out2 ≡ sideOver arcs tapes k at out1 → out2 ≡ splice to (p ++ (sideLabels arcs tapes k ++ q)) out
   unfolding sideLabels sideOver
-  side-between to at p q out out1 out2 e l e1 e2 = e2 ∙ ap (sideOver arcs tapes k at) e1 ∙ go (eqb k 65535) (λ f. eqb-differs k 65535 f)
+  side-between to at p q out out1 out2 e l e1 e2 = e2 ∙ ap (sideOver arcs tapes k at) e1 ∙ go (eqb k noArc) (λ f. eqb-differs k noArc f)
     where
       z : List ℕ
       z = zeros (labelSize * tapes)
@@ -131,15 +132,15 @@ module _ (arcs : List ℕ) (tapes k : ℕ) (h : (k ≡ 65535 → ⊥) → arcSiz
       w : List ℕ
       w = splice to (p ++ (z ++ q)) out
 
-      go : (b : Bool) → (b ≡ false → k ≡ 65535 → ⊥) → if b w (splice at y w) ≡ splice to (p ++ (if b z y ++ q)) out
+      go : (b : Bool) → (b ≡ false → k ≡ noArc → ⊥) → if b w (splice at y w) ≡ splice to (p ++ (if b z y ++ q)) out
       go true f = refl
       go false f =
           let r = h (f refl) in
           let ly : length y ≡ length z = length-part (arcSize * k + labelsPlace) (labelSize * tapes) arcs (omega (arith, r, t)) ∙ sym (length-replicate (labelSize * tapes) 0) in
           ap (λ (j : ℕ). splice j y w) e ∙ splice-between to p y z q out ly l
 
-module _ (a1 a2 : List ℕ) (n k : ℕ) (m : Move) (f : (m .first ≡ 65535 → ⊥) → arcSize * m .first + arcSize ≤ length a1)
-    (g : (m .second ≡ 65535 → ⊥) → arcSize * m .second + arcSize ≤ length a2) (t : n + k ≤ 8) where
+module _ (a1 a2 : List ℕ) (n k : ℕ) (m : Move) (f : (m .first ≡ noArc → ⊥) → arcSize * m .first + arcSize ≤ length a1)
+    (g : (m .second ≡ noArc → ⊥) → arcSize * m .second + arcSize ≤ length a2) (t : n + k ≤ 8) where
   -- the labels of both sides and the zeros behind them take up 72 bytes
   length-labels : length (moveLabels a1 a2 n k m) ≡ labelsSize
   unfolding moveLabels
@@ -175,25 +176,22 @@ module _ (a1 a2 : List ℕ) (n k : ℕ) (m : Move) (f : (m .first ≡ 65535 → 
 -- ---- the record
 
 -- the ends and the weight
-pub front-stored : (m : Move) (weight to : ℕ) (out out1 out2 out3 : List ℕ) → to + 8 ≤ length out → out1 ≡ splice to (toLe 2 (m .from .0)) out
-    → out2 ≡ splice (to + 2) (toLe 2 (m .to .0)) out1 → out3 ≡ splice (to + 4) (toLe 4 weight) out2 → out3 ≡ splice to (moveFront m weight) out
+pub front-stored : (m : Move) (weight to : ℕ) (out out1 out2 : List ℕ) → to + arcSize ≤ length out → out1 ≡ splice to (toLe 2 (m .from .0) ++ toLe 2 (m .to .0)) out
+    → out2 ≡ splice (to + contentPlace) (toLe 4 weight) out1 → out2 ≡ splice to (moveFront m weight) out
 unfolding moveFront
-front-stored m weight to out out1 out2 out3 h a b c =
-    let x = toLe 2 (m .from .0) in
-    let y = toLe 2 (m .to .0) in
-    let z = toLe 4 weight in
-    splice-behind to (to + 4) (x ++ y) z out out2 out3 (splice-behind to (to + 2) x y out out1 out2 a b (omega arith) (omega arith)) c (omega arith) (omega arith)
+front-stored m weight to out out1 out2 h a b =
+    splice-behind to (to + contentPlace) (toLe 2 (m .from .0) ++ toLe 2 (m .to .0)) (toLe 4 weight) out out1 out2 a b (omega arith) (omega arith)
 
 -- the whole record
 pub move-stored : (s1 a1 s2 a2 w : List ℕ) (n k : ℕ) (m : Move) (weight to : ℕ) (out out1 out2 : List ℕ) → to + arcSize ≤ length out → weight ≡ moveSum s1 a1 s2 a2 w m
-    → out1 ≡ splice to (moveFront m weight) out → out2 ≡ splice (to + 8) (moveLabels a1 a2 n k m) out1 → length (moveLabels a1 a2 n k m) ≡ labelsSize
+    → out1 ≡ splice to (moveFront m weight) out → out2 ≡ splice (to + labelsPlace) (moveLabels a1 a2 n k m) out1 → length (moveLabels a1 a2 n k m) ≡ labelsSize
     → (out2 ≡ splice to (moveRecord s1 a1 s2 a2 w n k m) out) × (length (moveRecord s1 a1 s2 a2 w n k m) ≡ arcSize)
 unfolding moveRecord moveFront
 move-stored s1 a1 s2 a2 w n k m weight to out out1 out2 h e a b l =
     let f = moveFront m weight in
-    let lf : length f ≡ 8 = refl in
+    let lf : length f ≡ labelsPlace = refl in
     let x = moveLabels a1 a2 n k m in
-    let p : out2 ≡ splice to (f ++ x) out = splice-behind to (to + 8) f x out out1 out2 a b (omega (arith, lf)) (omega (arith, lf, l)) in
+    let p : out2 ≡ splice to (f ++ x) out = splice-behind to (to + labelsPlace) f x out out1 out2 a b (omega (arith, lf)) (omega (arith, lf, l)) in
     (p ∙ ap (λ (v : ℕ). splice to (moveFront m v ++ x) out) e, length-append (moveFront m (moveSum s1 a1 s2 a2 w m)) x ∙ (omega (arith, l)))
 
 -- the record of a move takes up 80 bytes

@@ -11,15 +11,16 @@ use Rattle.automata.specs.Product.{fitsAt}
 use Rattle.automata.specs.Memory.{zeros}
 use Rattle.automata.specs.Layout.{arcSize, stateSize, stepSize, vertexSize, labelSize, labelsPlace, labelsSize}
 use Rattle.table.specs.Region.{part, splice}
-use Rattle.table.specs.Endian.{le, toLe}
+use Rattle.table.specs.Endian.{toLe}
+use Rattle.table.specs.Arcs.{arcWeight}
 use Rattle.table.specs.Records.{optionOf, stateAs, stateAt}
 use Rattle.table.specs.declared.record.Weight.{Weight}
 use Rattle.table.specs.declared.record.Weight.the-variants.{Absent, Present}
 use Rattle.table.specs.declared.record.State.{State}
 use Rattle.product_search.specs.declared.vertex.Vertex.{Vertex}
 use Rattle.product_search.specs.declared.vertex.Move.{Move}
-use Rattle.product_search.specs.Vertices.{vertexAt}
-use Rattle.product_search.specs.Moves.{moveAt}
+use Rattle.product_search.specs.Vertices.{ended, vertexAt}
+use Rattle.product_search.specs.Moves.{noArc, moveAt}
 
 -- ---- states
 
@@ -29,7 +30,7 @@ endedState = record { initial = Absent; last = Present 0 }
 
 -- the state of a side at a place, by the records of its states
 unfoldable pub placeState : List ℕ → ℕ → State
-placeState states k = if (eqb k 65535) endedState (stateAt (stateSize * k) states)
+placeState states k = if (eqb k ended) endedState (stateAt (stateSize * k) states)
 
 -- two weights added, absent where either is
 abbrev pub plus : Weight → Weight → Weight
@@ -43,7 +44,7 @@ plusState s t = record { initial = plus (s .initial) (t .initial); last = plus (
 
 -- the state of the product at a place on each side
 unfoldable pub vertexSum : List ℕ → List ℕ → Vertex → State
-vertexSum s1 s2 v = plusState (placeState s1 (v .first)) (placeState s2 (v .second))
+vertexSum s1 s2 v = plusState (placeState s1 (v .first .0)) (placeState s2 (v .second .0))
 
 -- both weights of a state are in range, or absent
 abbrev pub stateFits : State → Bool
@@ -58,20 +59,20 @@ amount (Present w) = w
 
 -- what a side adds to the weight of a move: that of its arc, or the final weight of its place where its path ends or has ended
 unfoldable pub sideSum : List ℕ → List ℕ → ℕ → ℕ → ℕ
-sideSum states arcs k place = if (eqb k 65535) (amount (placeState states place .last)) (le (part (arcSize * k + 4) 4 arcs))
+sideSum states arcs k place = if (eqb k noArc) (amount (placeState states place .last)) (arcWeight arcs k)
 
 -- the weight of a move from the row of its first state in w
 unfoldable pub moveSum : List ℕ → List ℕ → List ℕ → List ℕ → List ℕ → Move → ℕ
 moveSum s1 a1 s2 a2 w m =
-    sideSum s1 a1 (m .first) (le (part (vertexSize * m .from .0) 2 w)) + sideSum s2 a2 (m .second) (le (part (vertexSize * m .from .0 + 2) 2 w))
+    sideSum s1 a1 (m .first) (vertexAt (vertexSize * m .from .0) w .first .0) + sideSum s2 a2 (m .second) (vertexAt (vertexSize * m .from .0) w .second .0)
 
 -- the records of the labels of a side with so many tapes: those of its arc, zeros where its path has ended
 unfoldable pub sideLabels : List ℕ → ℕ → ℕ → List ℕ
-sideLabels arcs tapes k = if (eqb k 65535) (zeros (labelSize * tapes)) (part (arcSize * k + labelsPlace) (labelSize * tapes) arcs)
+sideLabels arcs tapes k = if (eqb k noArc) (zeros (labelSize * tapes)) (part (arcSize * k + labelsPlace) (labelSize * tapes) arcs)
 
 -- bytes with the labels of a side's arc written over them from a place on; the same bytes where its path has ended
 unfoldable pub sideOver : List ℕ → ℕ → ℕ → ℕ → List ℕ → List ℕ
-sideOver arcs tapes k to out = if (eqb k 65535) out (splice to (part (arcSize * k + labelsPlace) (labelSize * tapes) arcs) out)
+sideOver arcs tapes k to out = if (eqb k noArc) out (splice to (part (arcSize * k + labelsPlace) (labelSize * tapes) arcs) out)
 
 -- the 8 bytes before the labels of a move of a weight
 unfoldable pub moveFront : Move → ℕ → List ℕ
@@ -101,22 +102,22 @@ movesAt at (suc n) w = moveAt at w ∷ movesAt (at + stepSize) n w
 
 -- a place that has not ended is that of a record in the bytes, and its weights are in range
 pub record PlaceFits (states : List ℕ) (k : ℕ) : Type 0 where
-  pub there : (k ≡ 65535 → ⊥) → stateSize * k + stateSize ≤ length states
+  pub there : (k ≡ ended → ⊥) → stateSize * k + stateSize ≤ length states
   pub small : WellFormedState (stateAs (placeState states k))
 
 -- both places of a state of the product
 pub record VertexFits (s1 s2 : List ℕ) (v : Vertex) : Type 0 where
-  pub first : PlaceFits s1 (v .first)
-  pub second : PlaceFits s2 (v .second)
+  pub first : PlaceFits s1 (v .first .0)
+  pub second : PlaceFits s2 (v .second .0)
 
 -- the arc of a side is that of a record in the bytes, and what the side adds is in range
 pub record SideFits (states arcs : List ℕ) (k place : ℕ) : Type 0 where
-  pub place-there : (place ≡ 65535 → ⊥) → stateSize * place + stateSize ≤ length states
-  pub arc-there : (k ≡ 65535 → ⊥) → arcSize * k + arcSize ≤ length arcs
+  pub place-there : (place ≡ ended → ⊥) → stateSize * place + stateSize ≤ length states
+  pub arc-there : (k ≡ noArc → ⊥) → arcSize * k + arcSize ≤ length arcs
   pub small : sideSum states arcs k place ≤ 999999999
 
 -- both sides of a move
 pub record MoveFits (s1 a1 s2 a2 w : List ℕ) (m : Move) : Type 0 where
   pub row : vertexSize * m .from .0 + 4 ≤ length w
-  pub first : SideFits s1 a1 (m .first) (le (part (vertexSize * m .from .0) 2 w))
-  pub second : SideFits s2 a2 (m .second) (le (part (vertexSize * m .from .0 + 2) 2 w))
+  pub first : SideFits s1 a1 (m .first) (vertexAt (vertexSize * m .from .0) w .first .0)
+  pub second : SideFits s2 a2 (m .second) (vertexAt (vertexSize * m .from .0) w .second .0)

@@ -4,6 +4,7 @@ use crate::sum::state_fits;
 use crate::sum::vertex_state;
 use product_search::vertex::load_move;
 use product_search::vertex::load_vertex;
+use table::layout::STEP_SIZE;
 use table::layout::VERTEX_SIZE;
 ghost use mathlib.Core.Path.{_≡_};
 ghost use Prim.Native.Nat.{_+_, _*_, _≤_, _<_};
@@ -60,7 +61,7 @@ fn moves_fit(
         if 999999999 < weight {
             return false;
         }
-        at += VERTEX_SIZE;
+        at += STEP_SIZE;
         left -= 1;
     }
     true

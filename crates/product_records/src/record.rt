@@ -1,19 +1,22 @@
 // The record of a move as an arc: its ends, its weight, and the labels of both sides.
 use crate::sum::move_weight;
 use product_search::vertex::Move;
+use product_search::vertex::NO_ARC;
+use table::arc::store_arc_weight;
+use table::arc::store_ends;
 use table::bytes::get64;
-use table::bytes::put16;
-use table::bytes::put32;
 use table::bytes::put64;
 use table::layout::ARC_SIZE;
 use table::layout::LABEL_SIZE;
 use table::layout::LABELS_PLACE;
+use table::record::ResultState;
 ghost use mathlib.Core.Path.{_≡_};
 ghost use Prim.Native.Nat.{_+_, _*_, _≤_, _<_};
 ghost use lib.ListN.{length};
 ghost use Rattle.automata.specs.Memory.{zeros};
 ghost use Rattle.automata.specs.Layout.{arcSize, labelSize, labelsSize};
 ghost use Rattle.table.specs.Region.{part, splice};
+ghost use Rattle.product_search.specs.Moves.{noArc};
 ghost use Rattle.product_records.specs.Sums.{sideOver, moveFront, moveLabels, moveRecord, MoveFits};
 
 // A label: its length and its eight bytes.
@@ -49,10 +52,10 @@ fn clear_labels(out: &mut [u8], to: usize)
 
 // The labels of a side's arc on so many tapes; nothing where its path has ended.
 fn store_side(arcs: &[u8], arc: u16, tapes: usize, out: &mut [u8], to: usize)
-    requires { ⌜ ((arc ≡ 65535 → ⊥) → arcSize * arc + arcSize ≤ length (now arcs)) × (tapes ≤ 8) × (to + labelSize * tapes ≤ length (now out)) ⌝ }
+    requires { ⌜ ((arc ≡ noArc → ⊥) → arcSize * arc + arcSize ≤ length (now arcs)) × (tapes ≤ 8) × (to + labelSize * tapes ≤ length (now out)) ⌝ }
     ensures { λ _. ⌜ now (out .exit) ≡ sideOver (now (arcs .entry)) tapes arc to (now (out .entry)) ⌝ }
 {
-    if arc == 65535 {
+    if arc == NO_ARC {
         return;
     }
     let mut from = ARC_SIZE * arc as usize + LABELS_PLACE;
@@ -76,7 +79,7 @@ fn store_labels(
     out: &mut [u8],
     to: usize,
 )
-    requires { ⌜ ((m .first ≡ 65535 → ⊥) → arcSize * m .first + arcSize ≤ length (now «first_arcs»)) × ((m .second ≡ 65535 → ⊥) → arcSize * m .second + arcSize ≤ length (now «second_arcs»)) × («first_tapes» + «second_tapes» ≤ 8) × (to + labelsSize ≤ length (now out)) ⌝ }
+    requires { ⌜ ((m .first ≡ noArc → ⊥) → arcSize * m .first + arcSize ≤ length (now «first_arcs»)) × ((m .second ≡ noArc → ⊥) → arcSize * m .second + arcSize ≤ length (now «second_arcs»)) × («first_tapes» + «second_tapes» ≤ 8) × (to + labelsSize ≤ length (now out)) ⌝ }
     ensures { λ _. ⌜ (now (out .exit) ≡ splice to (moveLabels (now («first_arcs» .entry)) (now («second_arcs» .entry)) «first_tapes» «second_tapes» m) (now (out .entry))) × (length (moveLabels (now («first_arcs» .entry)) (now («second_arcs» .entry)) «first_tapes» «second_tapes» m) ≡ labelsSize) ⌝ }
 {
     clear_labels(out, to);
@@ -92,12 +95,11 @@ fn store_labels(
 
 // The ends of a move and its weight.
 fn store_front(m: Move, weight: u32, out: &mut [u8], to: usize)
-    requires { ⌜ to + 8 ≤ length (now out) ⌝ }
+    requires { ⌜ to + arcSize ≤ length (now out) ⌝ }
     ensures { λ _. ⌜ now (out .exit) ≡ splice to (moveFront m weight) (now (out .entry)) ⌝ }
 {
-    put16(out, to, m.from.0);
-    put16(out, to + 2, m.to.0);
-    put32(out, to + 4, weight);
+    store_ends(out, to, ResultState(m.from.0), ResultState(m.to.0));
+    store_arc_weight(out, to, weight);
 }
 
 // The record of a move.
@@ -132,6 +134,6 @@ pub fn store_move(
         first_arcs,
         second_arcs,
         out,
-        to + 8,
+        to + LABELS_PLACE,
     );
 }

@@ -5,6 +5,7 @@ use product_search::vertex::load_move;
 use product_search::vertex::load_vertex;
 use table::layout::ARC_SIZE;
 use table::layout::STATE_SIZE;
+use table::layout::STEP_SIZE;
 use table::layout::VERTEX_SIZE;
 use table::record::store_state;
 ghost use mathlib.Core.Path.{_≡_};
@@ -72,7 +73,7 @@ pub fn write_moves(
             out,
             to,
         );
-        at += VERTEX_SIZE;
+        at += STEP_SIZE;
         to += ARC_SIZE;
         left -= 1;
     }

@@ -1,11 +1,14 @@
 // The sums of a product: the weights of a state by its place on each side, the weight of a move by its arcs.
+use product_search::vertex::ENDED;
 use product_search::vertex::Move;
+use product_search::vertex::NO_ARC;
 use product_search::vertex::Vertex;
-use table::bytes::get16;
-use table::bytes::get32;
+use product_search::vertex::load_vertex;
+use table::arc::arc_weight_at;
 use table::layout::ARC_SIZE;
 use table::layout::STATE_SIZE;
 use table::layout::VERTEX_SIZE;
+use table::record::InputState;
 use table::record::State;
 use table::record::Weight;
 use table::record::load_state;
@@ -16,20 +19,21 @@ ghost use Rattle.automata.specs.Table.{weightFits};
 ghost use Rattle.automata.specs.Product.{fitsAt};
 ghost use Rattle.automata.specs.Layout.{stateSize};
 ghost use Rattle.table.specs.Records.{optionOf};
+ghost use Rattle.product_search.specs.Vertices.{ended};
 ghost use Rattle.product_records.specs.Sums.{placeState, plus, vertexSum, stateFits, amount, sideSum, moveSum, VertexFits, SideFits, MoveFits};
 
 // The state of a side at a place: no initial weight and the final weight 0 where its path has ended.
-fn place_state(states: &[u8], place: u16) -> State
-    requires { ⌜ ((place ≡ 65535 → ⊥) → stateSize * place + stateSize ≤ length (now states)) ⌝ }
-    ensures { λ r. ⌜ r ≡ placeState (now (states .entry)) place ⌝ }
+fn place_state(states: &[u8], place: InputState) -> State
+    requires { ⌜ ((place .0 ≡ ended → ⊥) → stateSize * place .0 + stateSize ≤ length (now states)) ⌝ }
+    ensures { λ r. ⌜ r ≡ placeState (now (states .entry)) (place .0) ⌝ }
 {
-    if place == 65535 {
+    if place.0 == ENDED {
         return State {
             initial: Weight::Absent,
             last: Weight::Present(0),
         };
     }
-    load_state(states, STATE_SIZE * place as usize)
+    load_state(states, STATE_SIZE * place.0 as usize)
 }
 
 // Two weights added, absent where either is.
@@ -95,16 +99,16 @@ fn weight_amount(w: Weight) -> u32
 }
 
 // What a side adds to the weight of a move: that of its arc, or the final weight of its place where its path ends or has ended.
-fn side_weight(states: &[u8], arcs: &[u8], arc: u16, place: u16) -> u32
-    requires { ⌜ SideFits (now states) (now arcs) arc place ⌝ }
-    ensures { λ r. ⌜ (r ≡ sideSum (now (states .entry)) (now (arcs .entry)) arc place) × (r ≤ 999999999) ⌝ }
+fn side_weight(states: &[u8], arcs: &[u8], arc: u16, place: InputState) -> u32
+    requires { ⌜ SideFits (now states) (now arcs) arc (place .0) ⌝ }
+    ensures { λ r. ⌜ (r ≡ sideSum (now (states .entry)) (now (arcs .entry)) arc (place .0)) × (r ≤ 999999999) ⌝ }
 {
-    if arc == 65535 {
+    if arc == NO_ARC {
         let s = place_state(states, place);
         let last = s.last;
         return weight_amount(last);
     }
-    get32(arcs, ARC_SIZE * arc as usize + 4)
+    arc_weight_at(arcs, ARC_SIZE * arc as usize)
 }
 
 // The weight of a move, from the row of its first state in `work`.
@@ -119,10 +123,8 @@ pub fn move_weight(
     requires { ⌜ MoveFits (now «first_states») (now «first_arcs») (now «second_states») (now «second_arcs») (now work) m ⌝ }
     ensures { λ r. ⌜ r ≡ moveSum (now («first_states» .entry)) (now («first_arcs» .entry)) (now («second_states» .entry)) (now («second_arcs» .entry)) (now (work .entry)) m ⌝ }
 {
-    let row = VERTEX_SIZE * m.from.0 as usize;
-    let p = get16(work, row);
-    let q = get16(work, row + 2);
-    let first = side_weight(first_states, first_arcs, m.first, p);
-    let second = side_weight(second_states, second_arcs, m.second, q);
+    let v = load_vertex(work, VERTEX_SIZE * m.from.0 as usize);
+    let first = side_weight(first_states, first_arcs, m.first, v.first);
+    let second = side_weight(second_states, second_arcs, m.second, v.second);
     first + second
 }

@@ -12,13 +12,12 @@ use Rattle.automata.specs.System.{system, outAt}
 use Rattle.automata.specs.Product as automata
 use Rattle.automata.specs.Product.{bothContent, both, allBoth}
 use Rattle.automata.specs.Layout.{arcSize}
-use Rattle.table.specs.Region.{part}
-use Rattle.table.specs.Endian.{le}
+use Rattle.table.specs.Arcs.{sourceOf, targetOf}
 use Rattle.table.specs.Records.{arcAs, arcAt}
 use Rattle.product_search.specs.declared.vertex.Vertex.{Vertex}
 use Rattle.product_search.specs.declared.plan.Plan.{Plan}
 use Rattle.product_search.specs.declared.head.Head.{Head}
-use Rattle.product_search.specs.Vertices.{placeNumber, vertexOf}
+use Rattle.product_search.specs.Vertices.{ended, placeNumber, vertexOf}
 use Rattle.product_search.specs.Moves.{by-both}
 use Rattle.table_adjacency.specs.Chains.{sourceIn, inChain, FirstIn, firstFor}
 use Rattle.table_adjacency.proofs.ChainFacts.{first-for, next-for}
@@ -35,28 +34,28 @@ both-append rs (x ∷ xs) ys = ap {B = List Step} (λ l. map (both ℕ-sum x) rs
 -- ---- one arc of the first side
 
 module _ (p : Plan) (h : Head) (c : Vertex) (a1 a2 n2 : List ℕ) (i : ℕ) (v : List ℕ) (q : Ready p h 8192 (length v)) (within : i < p .first .arcs)
-    (x : ℕ) (source-is : x ≡ le (part (arcSize * i) 2 a1)) where
+    (x : ℕ) (source-is : x ≡ sourceOf a1 i) where
   abbrev arc : Arc ℕ
   arc = arcAs (p .first .tapes) (arcAt (arcSize * i) a1)
 
   -- it leaves another state
-  pub both-away : (x ≡ c .first → ⊥) → TriesBoth p h c a1 a2 n2 i v h v
+  pub both-away : (x ≡ c .first .0 → ⊥) → TriesBoth p h c a1 a2 n2 i v h v
   both-away n = record {
     grows = grows-none p 8192 h v (q .fits);
     meaning = λ A B b k l e.
         let rs = outAt ℕ-sum (system (chainedOnly n2 B)) (b .1) in
-        let o : outBy (arc ∷ []) (b .0) ≡ [] = out-away arc (b .0) (λ z. n (source-is ∙ sym (source-at (arcSize * i) a1) ∙ z ∙ sym (ap (λ (y : Vertex). y .first) e))) in
+        let o : outBy (arc ∷ []) (b .0) ≡ [] = out-away arc (b .0) (λ z. n (source-is ∙ sym (source-at (arcSize * i) a1) ∙ z ∙ sym (ap (λ (y : Vertex). y .first .0) e))) in
         notes-same p A B b [] (allBoth ℕ-sum (outBy (arc ∷ []) (b .0)) rs) h h v v (sym (ap {B = List Step} (λ ss. allBoth ℕ-sum ss rs) o)) (notes-none p A B b h v);
   }
 
   -- it leaves the first side's state
-  pub both-there : x ≡ c .first → (t : ℕ) → t ≡ le (part (arcSize * i + 2) 2 a1) → (r : Head) (w : List ℕ) → PassesSecond p h c i t a2 n2 v r w → TriesBoth p h c a1 a2 n2 i v r w
+  pub both-there : x ≡ c .first .0 → (t : ℕ) → t ≡ targetOf a1 i → (r : Head) (w : List ℕ) → PassesSecond p h c i t a2 n2 v r w → TriesBoth p h c a1 a2 n2 i v r w
   both-there n t target-is r w a = record {
     grows = a .grows;
     meaning = λ A B b k l e. go A B b k l e (b .0) refl;
   }
     where
-      source : arc .source ≡ c .first
+      source : arc .source ≡ c .first .0
       source = source-at (arcSize * i) a1 ∙ sym source-is ∙ n
 
       target : t ≡ arc .target
@@ -66,11 +65,11 @@ module _ (p : Plan) (h : Head) (c : Vertex) (a1 a2 n2 : List ℕ) (i : ℕ) (v :
           → Notes p A B b (allBoth ℕ-sum (outBy (arc ∷ []) (b .0)) (outAt ℕ-sum (system (chainedOnly n2 B)) (b .1))) h v r w
       go A B b k l e none f =
           let s = source in
-          let z : c .first ≡ 65535 = ap (λ (y : Vertex). y .first) e ∙ ap placeNumber f in
+          let z : c .first .0 ≡ ended = ap (λ (y : Vertex). y .first .0) e ∙ ap placeNumber f in
           absurd (omega (arith, s, z, k .source-fits i within, k .few-states))
       go A B b k l e (some d) f =
           let rs = outAt ℕ-sum (system (chainedOnly n2 B)) (b .1) in
-          let s : arc .source ≡ d = source ∙ ap (λ (y : Vertex). y .first) e ∙ ap placeNumber f in
+          let s : arc .source ≡ d = source ∙ ap (λ (y : Vertex). y .first .0) e ∙ ap placeNumber f in
           let o : outBy (arc ∷ []) (b .0) ≡ (content arc, arc .target) ∷ [] = ap (outBy (arc ∷ [])) f ∙ out-one arc d s in
           let F : Content ℕ → Content ℕ = bothContent ℕ-sum (content arc) in
           let steps : List Step = map (onSecond F (some (arc .target))) rs in
@@ -79,7 +78,7 @@ module _ (p : Plan) (h : Head) (c : Vertex) (a1 a2 n2 : List ℕ) (i : ℕ) (v :
           (a .meaning A B b F (some (arc .target)) (record {
             reads = l;
             few = k .few-states;
-            vertex-is = ap (λ (y : Vertex). y .second) e;
+            vertex-is = ap (λ (y : Vertex). y .second .0) e;
             place-is = target;
             below = k .target-fits i within;
             carries = λ j y g. by-both (k .loaded i within) g;
@@ -103,12 +102,12 @@ module _ (p : Plan) (h : Head) (c : Vertex) (a1 n1 a2 n2 : List ℕ) (v : List �
   -- and the next one, where there is one, is in the chain of the first side's place
   pub record PassingBoth (g : Head) (w : List ℕ) (i : ℕ) : Type 0 where
     pub turned : TurnedBoth g w i
-    pub leaves : i < p .first .arcs → (inChain n1 i ≡ true) × (sourceIn a1 i ≡ c .first)
+    pub leaves : i < p .first .arcs → (inChain n1 i ≡ true) × (sourceIn a1 i ≡ c .first .0)
 
 module _ (p : Plan) (h : Head) (c : Vertex) (a1 f1 n1 a2 f2 n2 : List ℕ) (v : List ℕ) (q : Ready p h 67108864 (length v)) (lent-first : ArcsLent (p .first) a1) (lent-second : ArcsLent (p .second) a2)
     (indexed : Indexed p a1 f1 n1 a2 f2 n2) where
   -- up to the next arc of the chain
-  to-next : (g : Head) (w : List ℕ) (k i : ℕ) → TurnedBoth p h c a1 n1 a2 n2 v g w k → FirstIn a1 n1 (c .first) (p .first .arcs) k i → PassingBoth p h c a1 n1 a2 n2 v g w i
+  to-next : (g : Head) (w : List ℕ) (k i : ℕ) → TurnedBoth p h c a1 n1 a2 n2 v g w k → FirstIn a1 n1 (c .first .0) (p .first .arcs) k i → PassingBoth p h c a1 n1 a2 n2 v g w i
   to-next g w k i t f =
       let b = f .behind in
       record {
@@ -118,12 +117,12 @@ module _ (p : Plan) (h : Head) (c : Vertex) (a1 f1 n1 a2 f2 n2 : List ℕ) (v : 
           grows = grows-wider p (8192 * k) (8192 * i) h g v w (t .grows) (omega (arith, b));
           meaning = λ A B d y l e.
               turn-pass (pairsWith n2 B d) refl (both-append (outAt ℕ-sum (system (chainedOnly n2 B)) (d .1))) p A B d n1 (A .arcs) (d .0) h v (i - k) k i g w (omega (arith, b)) (omega (arith, f .within, y .count))
-              (λ n a m x z o s. f .between n m x o (at-source (p .first) a1 A y n a (omega (arith, x, f .within)) z ∙ s ∙ sym (ap (λ (o : Vertex). o .first) e))) (t .meaning A B d y l e);
+              (λ n a m x z o s. f .between n m x o (at-source (p .first) a1 A y n a (omega (arith, x, f .within)) z ∙ s ∙ sym (ap (λ (o : Vertex). o .first .0) e))) (t .meaning A B d y l e);
         };
         leaves = f .leaves;
       }
 
-  pub both-start : h .full ≡ false → (i : ℕ) → i ≡ firstFor (p .first .states) (p .first .arcs) f1 (c .first) → PassingBoth p h c a1 n1 a2 n2 v h v i
+  pub both-start : h .full ≡ false → (i : ℕ) → i ≡ firstFor (p .first .states) (p .first .arcs) f1 (c .first .0) → PassingBoth p h c a1 n1 a2 n2 v h v i
   both-start f i e = to-next h v 0 i
       (record {
         within = omega arith;
@@ -131,7 +130,7 @@ module _ (p : Plan) (h : Head) (c : Vertex) (a1 f1 n1 a2 f2 n2 : List ℕ) (v : 
         grows = grows-none p (8192 * 0) h v (q .fits);
         meaning = λ A B b k l e. turn-start (pairsWith n2 B b) refl (both-append (outAt ℕ-sum (system (chainedOnly n2 B)) (b .1))) p A B b n1 (A .arcs) (b .0) h v;
       })
-      (subst (FirstIn a1 n1 (c .first) (p .first .arcs) 0) (sym e) (first-for (p .first .states) (p .first .arcs) a1 f1 n1 (indexed .first) (c .first)))
+      (subst (FirstIn a1 n1 (c .first .0) (p .first .arcs) 0) (sym e) (first-for (p .first .states) (p .first .arcs) a1 f1 n1 (indexed .first) (c .first .0)))
 
   module _ (g : Head) (w : List ℕ) (i : ℕ) (t : PassingBoth p h c a1 n1 a2 n2 v g w i) where
     pub both-requires : i < p .first .arcs
@@ -140,8 +139,8 @@ module _ (p : Plan) (h : Head) (c : Vertex) (a1 f1 n1 a2 f2 n2 : List ℕ) (v : 
 
     module _ (b : i < p .first .arcs) where
       -- the next arc of the chain
-      following : FirstIn a1 n1 (c .first) (p .first .arcs) (i + 1) (getD n1 i 0)
-      following = next-for (p .first .states) (p .first .arcs) a1 f1 n1 (indexed .first) (c .first) i b (t .leaves b)
+      following : FirstIn a1 n1 (c .first .0) (p .first .arcs) (i + 1) (getD n1 i 0)
+      following = next-for (p .first .states) (p .first .arcs) a1 f1 n1 (indexed .first) (c .first .0) i b (t .leaves b)
 
       -- stands behind, and has a small number
       pub both-goes : i < getD n1 i 0

@@ -123,9 +123,9 @@ length-second n (some g) xs = length-map {B = Step} xs (afterSecond ℕ-sum n g)
 pub pairs-few : (d1 d2 : ℕ) → d1 ≤ 8192 → d2 ≤ 8192 → d1 * d2 ≤ 67108864
 pairs-few d1 d2 a b = let m = mul-le-mul a b in omega (arith, m)
 
-module _ (p : Plan) (c : Vertex) (s1 f1 n1 s2 f2 n2 : List ℕ) (d1 d2 : ℕ) (x1 : Leaves (p .first) f1 n1 (c .first) d1) (x2 : Leaves (p .second) f2 n2 (c .second) d2) where
+module _ (p : Plan) (c : Vertex) (s1 f1 n1 s2 f2 n2 : List ℕ) (d1 d2 : ℕ) (x1 : Leaves (p .first) f1 n1 (c .first .0) d1) (x2 : Leaves (p .second) f2 n2 (c .second .0) d2) where
   -- the moves that there are, by whether each side may end
-  pub moves-counted : (e1 e2 : Bool) → TellsEnd (p .first) s1 (c .first) e1 → TellsEnd (p .second) s2 (c .second) e2 → (k1 k2 : ℕ) → (k1 ≡ if e1 d2 0) × (k1 ≤ d2)
+  pub moves-counted : (e1 e2 : Bool) → TellsEnd (p .first) s1 (c .first .0) e1 → TellsEnd (p .second) s2 (c .second .0) e2 → (k1 k2 : ℕ) → (k1 ≡ if e1 d2 0) × (k1 ≤ d2)
       → (k2 ≡ if e2 d1 0) × (k2 ≤ d1) → CountsMoves p c s1 f1 n1 s2 f2 n2 (d1 * d2 + k1 + k2)
   moves-counted e1 e2 t1 t2 k1 k2 o1 o2 = record {
     few = let m = pairs-few d1 d2 (x1 .few) (x2 .few) in omega (arith, m, o1 .1, o2 .1, x1 .few, x2 .few);
@@ -135,8 +135,8 @@ module _ (p : Plan) (c : Vertex) (s1 f1 n1 s2 f2 n2 : List ℕ) (d1 d2 : ℕ) (x
         let ps : List Step = allBoth ℕ-sum xs ys in
         let fs : List Step = allAfterFirst ℕ-sum (A .tapes) (finalAt ℕ-sum (system A) (b .0)) ys in
         let ss : List Step = allAfterSecond ℕ-sum (B .tapes) (finalAt ℕ-sum (system B) (b .1)) xs in
-        let first-is = ap (λ (z : Vertex). z .first) e in
-        let second-is = ap (λ (z : Vertex). z .second) e in
+        let first-is = ap (λ (z : Vertex). z .first .0) e in
+        let second-is = ap (λ (z : Vertex). z .second .0) e in
         let z1 = x1 .meaning a1 A (b .0) (i .first) (r .first-arcs) first-is in
         let z2 = x2 .meaning a2 B (b .1) (i .second) (r .second-arcs) second-is in
         let u : d1 * d2 ≡ length ps = ap₂ (λ (k n : ℕ). k * n) z1 z2 ∙ sym (length-both xs ys) in

@@ -18,8 +18,8 @@ use Rattle.table.specs.Records.{stateAs, stateAt}
 use Rattle.product_search.specs.declared.vertex.Vertex.{Vertex}
 use Rattle.product_search.specs.declared.plan.Plan.{Plan}
 use Rattle.product_search.specs.declared.head.Head.{Head}
-use Rattle.product_search.specs.Vertices.{vertexOf, VertexBelow}
-use Rattle.product_search.specs.Moves.{by-second, by-first}
+use Rattle.product_search.specs.Vertices.{ended, vertexOf, VertexBelow}
+use Rattle.product_search.specs.Moves.{noArc, by-second, by-first}
 use Rattle.product_search.specs.Reading.{StatesLent, ReadsStates, chainedOnly}
 use Rattle.product_search.specs.Searching.{Step, Ready, TellsEnd, onSecond, onFirst, PassesSecond, PassesFirst, EndsFirst, EndsSecond}
 use Rattle.product_search.proofs.NoteFacts.{grows-none, notes-none, notes-over, notes-same}
@@ -69,10 +69,10 @@ module _ (p : Plan) (h : Head) (c : Vertex) (s1 a2 n2 : List ℕ) (v : List ℕ)
     meaning = λ A B b k l e t. notes-over p A B b (allAfterFirst ℕ-sum (A .tapes) (finalAt ℕ-sum (system A) (b .0)) (outAt ℕ-sum (system (chainedOnly n2 B)) (b .1))) h v f;
   }
 
-  module _ (x : Bool) (tells : TellsEnd (p .first) s1 (c .first) x) where
+  module _ (x : Bool) (tells : TellsEnd (p .first) s1 (c .first .0) x) where
     told : (A B : Automaton ℕ) (b : automata.Vertex) → ReadsStates (p .first) s1 A → c ≡ vertexOf b → VertexBelow (length (A .states)) (length (B .states)) b
         → x ≡ isSome (finalAt ℕ-sum (system A) (b .0))
-    told A B b k e t = tells A (b .0) k (ap (λ (y : Vertex). y .first) e) (t .0)
+    told A B b k e t = tells A (b .0) k (ap (λ (y : Vertex). y .first .0) e) (t .0)
 
     -- its path may not end
     pub first-stays : not x ≡ true → EndsFirst p h c s1 a2 n2 v h v
@@ -86,7 +86,7 @@ module _ (p : Plan) (h : Head) (c : Vertex) (s1 a2 n2 : List ℕ) (v : List ℕ)
     }
 
     -- it may
-    pub first-ends : not x ≡ false → (r : Head) (w : List ℕ) → PassesSecond p h c 65535 65535 a2 n2 v r w → EndsFirst p h c s1 a2 n2 v r w
+    pub first-ends : not x ≡ false → (r : Head) (w : List ℕ) → PassesSecond p h c noArc ended a2 n2 v r w → EndsFirst p h c s1 a2 n2 v r w
     first-ends n r w a = record {
       grows = a .grows;
       meaning = λ A B b k l e t.
@@ -98,7 +98,7 @@ module _ (p : Plan) (h : Head) (c : Vertex) (s1 a2 n2 : List ℕ) (v : List ℕ)
           (a .meaning A B b F none (record {
             reads = l;
             few = k .few;
-            vertex-is = ap (λ (z : Vertex). z .second) e;
+            vertex-is = ap (λ (z : Vertex). z .second .0) e;
             place-is = refl;
             below = tt;
             carries = λ j z g. by-second (y .1) g;
@@ -115,10 +115,10 @@ module _ (p : Plan) (h : Head) (c : Vertex) (a1 n1 s2 : List ℕ) (v : List ℕ)
     meaning = λ A B b k l e t. notes-over p A B b (allAfterSecond ℕ-sum (B .tapes) (finalAt ℕ-sum (system B) (b .1)) (outAt ℕ-sum (system (chainedOnly n1 A)) (b .0))) h v f;
   }
 
-  module _ (x : Bool) (tells : TellsEnd (p .second) s2 (c .second) x) where
+  module _ (x : Bool) (tells : TellsEnd (p .second) s2 (c .second .0) x) where
     told-second : (A B : Automaton ℕ) (b : automata.Vertex) → ReadsStates (p .second) s2 B → c ≡ vertexOf b → VertexBelow (length (A .states)) (length (B .states)) b
         → x ≡ isSome (finalAt ℕ-sum (system B) (b .1))
-    told-second A B b k e t = tells B (b .1) k (ap (λ (y : Vertex). y .second) e) (t .1)
+    told-second A B b k e t = tells B (b .1) k (ap (λ (y : Vertex). y .second .0) e) (t .1)
 
     -- its path may not end
     pub second-stays : not x ≡ true → EndsSecond p h c a1 n1 s2 v h v
@@ -144,7 +144,7 @@ module _ (p : Plan) (h : Head) (c : Vertex) (a1 n1 s2 : List ℕ) (v : List ℕ)
           (a .meaning A B b F (record {
             reads = k;
             few = l .few;
-            vertex-is = ap (λ (z : Vertex). z .first) e;
+            vertex-is = ap (λ (z : Vertex). z .first .0) e;
             carries = λ i z g. by-first (y .1) g;
           }));
     }

@@ -10,13 +10,13 @@ use Rattle.automata.specs.Automaton.{Automaton, Arc, Content, content}
 use Rattle.automata.specs.Product as automata
 use Rattle.automata.proofs.ListFacts
 use Rattle.automata.specs.Layout.{arcSize}
-use Rattle.table.specs.Region.{part}
-use Rattle.table.specs.Endian.{le}
+use Rattle.table.specs.Arcs.{sourceOf, targetOf}
 use Rattle.table.specs.Records.{arcAs, arcAt}
 use Rattle.product_search.specs.declared.vertex.Vertex.{Vertex}
 use Rattle.product_search.specs.declared.plan.Plan.{Plan}
 use Rattle.product_search.specs.declared.head.Head.{Head}
-use Rattle.product_search.specs.Vertices.{placeNumber}
+use Rattle.product_search.specs.Vertices.{ended, placeNumber}
+use Rattle.product_search.specs.Moves.{noArc}
 use Rattle.table_adjacency.specs.Chains.{sourceIn, inChain, FirstIn, firstFor}
 use Rattle.table_adjacency.proofs.ChainFacts.{first-for, next-for}
 use Rattle.product_search.specs.Reading.{ArcsLent, LinkedArcs, chainedArcs, chainedOnly}
@@ -27,12 +27,12 @@ use Rattle.product_search.proofs.ReadFacts.{source-at, target-at, out-o
 -- ---- one arc
 
 module _ (p : Plan) (h : Head) (c : Vertex) (arcs : List ℕ) (i : ℕ) (v : List ℕ) (q : Ready p h 1 (length v)) (within : i < p .first .arcs)
-    (x : ℕ) (source-is : x ≡ le (part (arcSize * i) 2 arcs)) where
+    (x : ℕ) (source-is : x ≡ sourceOf arcs i) where
   abbrev arc : Arc ℕ
   arc = arcAs (p .first .tapes) (arcAt (arcSize * i) arcs)
 
   -- it leaves another state
-  pub first-away : (x ≡ c .first → ⊥) → TriesFirst p h c arcs i v h v
+  pub first-away : (x ≡ c .first .0 → ⊥) → TriesFirst p h c arcs i v h v
   first-away n = record {
     grows = grows-none p 1 h v (q .fits);
     meaning = λ A B b F k.
@@ -41,14 +41,14 @@ module _ (p : Plan) (h : Head) (c : Vertex) (arcs : List ℕ) (i : ℕ) (v : Lis
   }
 
   -- it leaves the first side's state
-  pub first-there : x ≡ c .first → (t : ℕ) → t ≡ le (part (arcSize * i + 2) 2 arcs) → (r : Head) (w : List ℕ) → Arrives p h (record { first = t; second = 65535 }) i 65535 v r w
+  pub first-there : x ≡ c .first .0 → (t : ℕ) → t ≡ targetOf arcs i → (r : Head) (w : List ℕ) → Arrives p h (record { first = record { 0 = t }; second = record { 0 = ended } }) i noArc v r w
       → TriesFirst p h c arcs i v r w
   first-there n t target-is r w a = record {
     grows = a .grows;
     meaning = λ A B b F k. go A B b F k (b .0) refl;
   }
     where
-      source : arc .source ≡ c .first
+      source : arc .source ≡ c .first .0
       source = source-at (arcSize * i) arcs ∙ sym source-is ∙ n
 
       target : t ≡ arc .target
@@ -58,14 +58,14 @@ module _ (p : Plan) (h : Head) (c : Vertex) (arcs : List ℕ) (i : ℕ) (v : Lis
           → Notes p A B b (map (onFirst F) (outBy (arc ∷ []) (b .0))) h v r w
       go A B b F k none e =
           let s = source in
-          let z : c .first ≡ 65535 = k .vertex-is ∙ ap placeNumber e in
+          let z : c .first .0 ≡ ended = k .vertex-is ∙ ap placeNumber e in
           absurd (omega (arith, s, z, k .reads .source-fits i within, k .reads .few-states))
       go A B b F k (some d) e =
           let s : arc .source ≡ d = source ∙ k .vertex-is ∙ ap placeNumber e in
           let l : outBy (arc ∷ []) (b .0) ≡ (content arc, arc .target) ∷ [] = ap (outBy (arc ∷ [])) e ∙ out-one arc d s in
           notes-same p A B b ((F (content arc), (some (arc .target), none)) ∷ []) (map (onFirst F) (outBy (arc ∷ []) (b .0))) h r v w (sym (ap (map (onFirst F)) l))
           (a .meaning A B b (some (arc .target), none) (F (content arc)) (k .reads .few-states) (k .few)
-          (λ z. record { first = target z; second = 65535 }) (k .reads .target-fits i within, tt) (k .carries i arc (k .reads .loaded i within)))
+          (λ z. record { first = record { 0 = target z }; second = record { 0 = ended } }) (k .reads .target-fits i within, tt) (k .carries i arc (k .reads .loaded i within)))
 
 -- ---- all arcs
 
@@ -81,12 +81,12 @@ module _ (p : Plan) (h : Head) (c : Vertex) (arcs next : List ℕ) (v : List ℕ
   -- and the next one, where there is one, is in the chain of the first side's place
   pub record PassingFirst (g : Head) (w : List ℕ) (i : ℕ) : Type 0 where
     pub turned : TurnedFirst g w i
-    pub leaves : i < p .first .arcs → (inChain next i ≡ true) × (sourceIn arcs i ≡ c .first)
+    pub leaves : i < p .first .arcs → (inChain next i ≡ true) × (sourceIn arcs i ≡ c .first .0)
 
 module _ (p : Plan) (h : Head) (c : Vertex) (arcs first next : List ℕ) (v : List ℕ) (q : Ready p h 8192 (length v)) (lent : ArcsLent (p .first) arcs)
     (linked : LinkedArcs (p .first) arcs first next) where
   -- up to the next arc of the chain
-  to-next : (g : Head) (w : List ℕ) (k i : ℕ) → TurnedFirst p h c arcs next v g w k → FirstIn arcs next (c .first) (p .first .arcs) k i → PassingFirst p h c arcs next v g w i
+  to-next : (g : Head) (w : List ℕ) (k i : ℕ) → TurnedFirst p h c arcs next v g w k → FirstIn arcs next (c .first .0) (p .first .arcs) k i → PassingFirst p h c arcs next v g w i
   to-next g w k i t f =
       let b = f .behind in
       record {
@@ -101,7 +101,7 @@ module _ (p : Plan) (h : Head) (c : Vertex) (arcs first next : List ℕ) (v : Li
         leaves = f .leaves;
       }
 
-  pub first-start : h .full ≡ false → (i : ℕ) → i ≡ firstFor (p .first .states) (p .first .arcs) first (c .first) → PassingFirst p h c arcs next v h v i
+  pub first-start : h .full ≡ false → (i : ℕ) → i ≡ firstFor (p .first .states) (p .first .arcs) first (c .first .0) → PassingFirst p h c arcs next v h v i
   first-start f i e = to-next h v 0 i
       (record {
         within = omega arith;
@@ -109,7 +109,7 @@ module _ (p : Plan) (h : Head) (c : Vertex) (arcs first next : List ℕ) (v : Li
         grows = grows-none p 0 h v (q .fits);
         meaning = λ A B b F k. turn-start (map (onFirst F)) refl (ListFacts.map-append (onFirst F)) p A B b next (A .arcs) (b .0) h v;
       })
-      (subst (FirstIn arcs next (c .first) (p .first .arcs) 0) (sym e) (first-for (p .first .states) (p .first .arcs) arcs first next linked (c .first)))
+      (subst (FirstIn arcs next (c .first .0) (p .first .arcs) 0) (sym e) (first-for (p .first .states) (p .first .arcs) arcs first next linked (c .first .0)))
 
   module _ (g : Head) (w : List ℕ) (i : ℕ) (t : PassingFirst p h c arcs next v g w i) where
     pub first-requires : i < p .first .arcs → (Ready p g 1 (length w)) × (g .full ≡ false) × (ArcsLent (p .first) arcs) × (i < p .first .arcs)
@@ -117,8 +117,8 @@ module _ (p : Plan) (h : Head) (c : Vertex) (arcs first next : List ℕ) (v : Li
 
     module _ (b : i < p .first .arcs) where
       -- the next arc of the chain
-      following : FirstIn arcs next (c .first) (p .first .arcs) (i + 1) (getD next i 0)
-      following = next-for (p .first .states) (p .first .arcs) arcs first next linked (c .first) i b (t .leaves b)
+      following : FirstIn arcs next (c .first .0) (p .first .arcs) (i + 1) (getD next i 0)
+      following = next-for (p .first .states) (p .first .arcs) arcs first next linked (c .first .0) i b (t .leaves b)
 
       -- stands behind, and has a small number
       pub first-goes : i < getD next i 0

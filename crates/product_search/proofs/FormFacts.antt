@@ -37,18 +37,18 @@ place-injective n (some p) none l a b e = absurd (omega (arith, a, e))
 place-injective n (some p) (some q) l a b e = ap {B = Option ℕ} some e
 
 -- a state is read back from the four bytes of its row
-vertex-back : (v : Vertex) → v .first < 65536 → v .second < 65536 → vertexAt 0 (vertexBytes v) ≡ v
+vertex-back : (v : Vertex) → v .first .0 < 65536 → v .second .0 < 65536 → vertexAt 0 (vertexBytes v) ≡ v
 unfolding vertexBytes
 vertex-back v a b = λ i. record {
-  first = (ap le (part-front 2 (toLe 2 (v .first)) (toLe 2 (v .second)) refl) ∙ le-toLe 2 (v .first) a) i;
-  second = (ap le (part-end 2 2 (toLe 2 (v .first)) (toLe 2 (v .second)) refl refl) ∙ le-toLe 2 (v .second) b) i;
+  first = record { 0 = (ap le (part-front 2 (toLe 2 (v .first .0)) (toLe 2 (v .second .0)) refl) ∙ le-toLe 2 (v .first .0) a) i };
+  second = record { 0 = (ap le (part-end 2 2 (toLe 2 (v .first .0)) (toLe 2 (v .second .0)) refl refl) ∙ le-toLe 2 (v .second .0) b) i };
 }
 
 -- what is read at a place is read from the four bytes there
 vertex-row : (at : ℕ) (w : List ℕ) → vertexAt at w ≡ vertexAt 0 (part at 4 w)
 vertex-row at w = λ i. record {
-  first = le ((ap (λ (n : ℕ). part n 2 w) (sym (add-zero at)) ∙ sym (part-part 0 2 at 4 w (omega arith))) i);
-  second = le (sym (part-part 2 2 at 4 w (omega arith)) i);
+  first = record { 0 = le ((ap (λ (n : ℕ). part n 2 w) (sym (add-zero at)) ∙ sym (part-part 0 2 at 4 w (omega arith))) i) };
+  second = record { 0 = le (sym (part-part 2 2 at 4 w (omega arith)) i) };
 }
 
 module _ (n m : ℕ) (few-first : n ≤ 1024) (few-second : m ≤ 1024) where
@@ -60,8 +60,8 @@ module _ (n m : ℕ) (few-first : n ≤ 1024) (few-second : m ≤ 1024) where
   row-injective : (c d : automata.Vertex) → VertexBelow n m c → VertexBelow n m d → rowOf c ≡ rowOf d → c ≡ d
   row-injective c d a b e =
       let v : vertexOf c ≡ vertexOf d = sym (row-back c a) ∙ ap (vertexAt 0) e ∙ row-back d b in
-      let x = place-injective n (c .0) (d .0) few-first (a .0) (b .0) (ap (λ (z : Vertex). z .first) v) in
-      let y = place-injective m (c .1) (d .1) few-second (a .1) (b .1) (ap (λ (z : Vertex). z .second) v) in
+      let x = place-injective n (c .0) (d .0) few-first (a .0) (b .0) (ap (λ (z : Vertex). z .first .0) v) in
+      let y = place-injective m (c .1) (d .1) few-second (a .1) (b .1) (ap (λ (z : Vertex). z .second .0) v) in
       λ i. (x i, y i)
 
   -- so they tell a state from all others

@@ -21,11 +21,11 @@ use Rattle.product_search.specs.Vertices.{vertexBytes, vertexShape, buck
 use Rattle.automata.specs.Layout.{vertexSize}
 
 -- the bytes of a state are those of its number
-pub key-bytes : (v : Vertex) → v .first < 65536 → v .second < 65536 → toLe 4 (v .first + 65536 * v .second) ≡ vertexBytes v
+pub key-bytes : (v : Vertex) → v .first .0 < 65536 → v .second .0 < 65536 → toLe 4 (v .first .0 + 65536 * v .second .0) ≡ vertexBytes v
 unfolding vertexBytes
 key-bytes v f g =
-    let x = v .first in
-    let y = v .second in
+    let x = v .first .0 in
+    let y = v .second .0 in
     let k = x + 65536 * y in
     let e : k ≡ x + 256 * (256 * y) = omega arith in
     let p : k % 256 ≡ x % 256 = ap (λ (n : ℕ). n % 256) e ∙ add-mul-mod-self-left x 256 (256 * y) in

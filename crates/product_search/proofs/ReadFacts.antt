@@ -18,6 +18,7 @@ use Rattle.automata.proofs.ListFacts
 use Rattle.automata.proofs.AppendFacts
 use Rattle.automata.specs.Layout.{arcSize, stateSize, finalPlace}
 use Rattle.table.specs.Region.{part}
+use Rattle.table.specs.Arcs.{sourceAt, targetAt}
 use Rattle.table.specs.Endian.{le}
 use Rattle.table.specs.declared.answer.Counts.{Counts}
 use Rattle.table.specs.Records.{optionOf, stateAs, stateAt, arcAs, arcAt}
@@ -53,11 +54,11 @@ module _ (q : ℕ) (bytes : List ℕ) where
   final-present n = (le (part (stateSize * q + finalPlace + 1) 4 bytes), ap optionOf (sym (weight-present (stateSize * q + finalPlace) bytes _ n refl)))
 
 -- the ends of an arc are the first two numbers of its record
-pub source-at : (at : ℕ) (bytes : List ℕ) → arcAt at bytes .source .0 ≡ le (part at 2 bytes)
+pub source-at : (at : ℕ) (bytes : List ℕ) → arcAt at bytes .source .0 ≡ sourceAt at bytes
 unfolding arcAt
 source-at at bytes = refl
 
-pub target-at : (at : ℕ) (bytes : List ℕ) → arcAt at bytes .target .0 ≡ le (part (at + 2) 2 bytes)
+pub target-at : (at : ℕ) (bytes : List ℕ) → arcAt at bytes .target .0 ≡ targetAt at bytes
 unfolding arcAt
 target-at at bytes = refl
 

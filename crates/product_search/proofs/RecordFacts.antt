@@ -23,8 +23,8 @@ unfolding vertexBytes
 length-vertex v = refl
 
 -- a state, from its numbers
-pub vertex-read : (at : ℕ) (w : List ℕ) (x y : ℕ) → x ≡ le (part at 2 w) → y ≡ le (part (at + 2) 2 w) → _≡_ {A = Vertex} (record { first = x; second = y }) (vertexAt at w)
-vertex-read at w x y a b = λ i. record { first = a i; second = b i }
+pub vertex-read : (at : ℕ) (w : List ℕ) (x y : ℕ) → x ≡ le (part at 2 w) → y ≡ le (part (at + 2) 2 w) → _≡_ {A = Vertex} (record { first = record { 0 = x }; second = record { 0 = y } }) (vertexAt at w)
+vertex-read at w x y a b = λ i. record { first = record { 0 = a i }; second = record { 0 = b i } }
 
 -- ---- a move
 

@@ -10,13 +10,12 @@ use Rattle.automata.specs.Automaton.{Automaton, Arc, Content, content}
 use Rattle.automata.specs.Product as automata
 use Rattle.automata.proofs.ListFacts
 use Rattle.automata.specs.Layout.{arcSize}
-use Rattle.table.specs.Region.{part}
-use Rattle.table.specs.Endian.{le}
+use Rattle.table.specs.Arcs.{sourceOf, targetOf}
 use Rattle.table.specs.Records.{arcAs, arcAt}
 use Rattle.product_search.specs.declared.vertex.Vertex.{Vertex}
 use Rattle.product_search.specs.declared.plan.Plan.{Plan}
 use Rattle.product_search.specs.declared.head.Head.{Head}
-use Rattle.product_search.specs.Vertices.{placeNumber}
+use Rattle.product_search.specs.Vertices.{ended, placeNumber}
 use Rattle.table_adjacency.specs.Chains.{sourceIn, inChain, FirstIn, firstFor}
 use Rattle.table_adjacency.proofs.ChainFacts.{first-for, next-for}
 use Rattle.product_search.specs.Reading.{ArcsLent, LinkedArcs, chainedArcs, chainedOnly}
@@ -27,12 +26,12 @@ use Rattle.product_search.proofs.ReadFacts.{source-at, target-at, out-o
 -- ---- one arc
 
 module _ (p : Plan) (h : Head) (c : Vertex) (i to : ℕ) (arcs : List ℕ) (j : ℕ) (v : List ℕ) (q : Ready p h 1 (length v)) (within : j < p .second .arcs)
-    (x : ℕ) (source-is : x ≡ le (part (arcSize * j) 2 arcs)) where
+    (x : ℕ) (source-is : x ≡ sourceOf arcs j) where
   abbrev arc : Arc ℕ
   arc = arcAs (p .second .tapes) (arcAt (arcSize * j) arcs)
 
   -- it leaves another state
-  pub second-away : (x ≡ c .second → ⊥) → TriesSecond p h c i to arcs j v h v
+  pub second-away : (x ≡ c .second .0 → ⊥) → TriesSecond p h c i to arcs j v h v
   second-away n = record {
     grows = grows-none p 1 h v (q .fits);
     meaning = λ A B b F y k.
@@ -41,14 +40,14 @@ module _ (p : Plan) (h : Head) (c : Vertex) (i to : ℕ) (arcs : List ℕ) (j : 
   }
 
   -- it leaves the second side's state
-  pub second-there : x ≡ c .second → (t : ℕ) → t ≡ le (part (arcSize * j + 2) 2 arcs) → (r : Head) (w : List ℕ) → Arrives p h (record { first = to; second = t }) i j v r w
+  pub second-there : x ≡ c .second .0 → (t : ℕ) → t ≡ targetOf arcs j → (r : Head) (w : List ℕ) → Arrives p h (record { first = record { 0 = to }; second = record { 0 = t } }) i j v r w
       → TriesSecond p h c i to arcs j v r w
   second-there n t target-is r w a = record {
     grows = a .grows;
     meaning = λ A B b F y k. go A B b F y k (b .1) refl;
   }
     where
-      source : arc .source ≡ c .second
+      source : arc .source ≡ c .second .0
       source = source-at (arcSize * j) arcs ∙ sym source-is ∙ n
 
       target : t ≡ arc .target
@@ -58,14 +57,14 @@ module _ (p : Plan) (h : Head) (c : Vertex) (i to : ℕ) (arcs : List ℕ) (j : 
           → (o : Option ℕ) → b .1 ≡ o → Notes p A B b (map (onSecond F y) (outBy (arc ∷ []) (b .1))) h v r w
       go A B b F y k none e =
           let s = source in
-          let z : c .second ≡ 65535 = k .vertex-is ∙ ap placeNumber e in
+          let z : c .second .0 ≡ ended = k .vertex-is ∙ ap placeNumber e in
           absurd (omega (arith, s, z, k .reads .source-fits j within, k .reads .few-states))
       go A B b F y k (some d) e =
           let s : arc .source ≡ d = source ∙ k .vertex-is ∙ ap placeNumber e in
           let l : outBy (arc ∷ []) (b .1) ≡ (content arc, arc .target) ∷ [] = ap (outBy (arc ∷ [])) e ∙ out-one arc d s in
           notes-same p A B b ((F (content arc), (y, some (arc .target))) ∷ []) (map (onSecond F y) (outBy (arc ∷ []) (b .1))) h r v w (sym (ap (map (onSecond F y)) l))
           (a .meaning A B b (y, some (arc .target)) (F (content arc)) (k .few) (k .reads .few-states)
-          (λ z. record { first = k .place-is z; second = target z }) (k .below, k .reads .target-fits j within) (k .carries j arc (k .reads .loaded j within)))
+          (λ z. record { first = record { 0 = k .place-is z }; second = record { 0 = target z } }) (k .below, k .reads .target-fits j within) (k .carries j arc (k .reads .loaded j within)))
 
 -- ---- all arcs
 
@@ -81,12 +80,12 @@ module _ (p : Plan) (h : Head) (c : Vertex) (i to : ℕ) (arcs next : List ℕ) 
   -- and the next one, where there is one, is in the chain of the second side's place
   pub record PassingSecond (g : Head) (w : List ℕ) (j : ℕ) : Type 0 where
     pub turned : TurnedSecond g w j
-    pub leaves : j < p .second .arcs → (inChain next j ≡ true) × (sourceIn arcs j ≡ c .second)
+    pub leaves : j < p .second .arcs → (inChain next j ≡ true) × (sourceIn arcs j ≡ c .second .0)
 
 module _ (p : Plan) (h : Head) (c : Vertex) (i to : ℕ) (arcs first next : List ℕ) (v : List ℕ) (q : Ready p h 8192 (length v)) (lent : ArcsLent (p .second) arcs)
     (linked : LinkedArcs (p .second) arcs first next) where
   -- up to the next arc of the chain
-  to-next : (g : Head) (w : List ℕ) (k j : ℕ) → TurnedSecond p h c i to arcs next v g w k → FirstIn arcs next (c .second) (p .second .arcs) k j → PassingSecond p h c i to arcs next v g w j
+  to-next : (g : Head) (w : List ℕ) (k j : ℕ) → TurnedSecond p h c i to arcs next v g w k → FirstIn arcs next (c .second .0) (p .second .arcs) k j → PassingSecond p h c i to arcs next v g w j
   to-next g w k j t f =
       let b = f .behind in
       record {
@@ -101,7 +100,7 @@ module _ (p : Plan) (h : Head) (c : Vertex) (i to : ℕ) (arcs first next : List
         leaves = f .leaves;
       }
 
-  pub second-start : h .full ≡ false → (j : ℕ) → j ≡ firstFor (p .second .states) (p .second .arcs) first (c .second) → PassingSecond p h c i to arcs next v h v j
+  pub second-start : h .full ≡ false → (j : ℕ) → j ≡ firstFor (p .second .states) (p .second .arcs) first (c .second .0) → PassingSecond p h c i to arcs next v h v j
   second-start f j e = to-next h v 0 j
       (record {
         within = omega arith;
@@ -109,7 +108,7 @@ module _ (p : Plan) (h : Head) (c : Vertex) (i to : ℕ) (arcs first next : List
         grows = grows-none p 0 h v (q .fits);
         meaning = λ A B b F x k. turn-start (map (onSecond F x)) refl (ListFacts.map-append (onSecond F x)) p A B b next (B .arcs) (b .1) h v;
       })
-      (subst (FirstIn arcs next (c .second) (p .second .arcs) 0) (sym e) (first-for (p .second .states) (p .second .arcs) arcs first next linked (c .second)))
+      (subst (FirstIn arcs next (c .second .0) (p .second .arcs) 0) (sym e) (first-for (p .second .states) (p .second .arcs) arcs first next linked (c .second .0)))
 
   module _ (g : Head) (w : List ℕ) (j : ℕ) (t : PassingSecond p h c i to arcs next v g w j) where
     pub second-requires : j < p .second .arcs → (Ready p g 1 (length w)) × (g .full ≡ false) × (ArcsLent (p .second) arcs) × (j < p .second .arcs)
@@ -117,8 +116,8 @@ module _ (p : Plan) (h : Head) (c : Vertex) (i to : ℕ) (arcs first next : List
 
     module _ (b : j < p .second .arcs) where
       -- the next arc of the chain
-      following : FirstIn arcs next (c .second) (p .second .arcs) (j + 1) (getD next j 0)
-      following = next-for (p .second .states) (p .second .arcs) arcs first next linked (c .second) j b (t .leaves b)
+      following : FirstIn arcs next (c .second .0) (p .second .arcs) (j + 1) (getD next j 0)
+      following = next-for (p .second .states) (p .second .arcs) arcs first next linked (c .second .0) j b (t .leaves b)
 
       -- stands behind, and has a small number
       pub second-goes : j < getD next j 0

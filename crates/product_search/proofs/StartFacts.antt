@@ -159,7 +159,7 @@ module _ (p : Plan) (h : Head) (x : ℕ) (states : List ℕ) (q : ℕ) (v : List
   }
 
   -- one does
-  pub one-there : (getD states (stateSize * q) 0 ≡ 0 → ⊥) → (r : Head) (w : List ℕ) → Admits p h (record { first = x; second = q }) v r w → StartsOne p h x states q v r w
+  pub one-there : (getD states (stateSize * q) 0 ≡ 0 → ⊥) → (r : Head) (w : List ℕ) → Admits p h (record { first = record { 0 = x }; second = record { 0 = q } }) v r w → StartsOne p h x states q v r w
   one-there n r w a = record {
     widens = a .widens;
     meaning = λ A B la b l.

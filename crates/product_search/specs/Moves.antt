@@ -16,6 +16,10 @@ use Rattle.table.specs.Region.{part}
 use Rattle.table.specs.Endian.{le, toLe}
 use Rattle.product_search.specs.declared.vertex.Move.{Move}
 
+-- what stands for the number of a side's arc where its path has ended
+abbrev pub noArc : ℕ
+noArc = 65535
+
 -- the bytes of a move
 unfoldable pub moveBytes : Move → List ℕ
 moveBytes m = toLe 2 (m .from .0) ++ (toLe 2 (m .first) ++ (toLe 2 (m .second) ++ toLe 2 (m .to .0)))
@@ -34,9 +38,9 @@ moveAt at w = record {
 pub data Carries (A B : Automaton ℕ) (c : automata.Vertex) : ℕ → ℕ → Content ℕ → Type 0 where
   by-both : {i j : ℕ} {a b : Arc ℕ} → getElem? (A .arcs) i ≡ some a → getElem? (B .arcs) j ≡ some b → Carries A B c i j (bothContent ℕ-sum (content a) (content b))
   by-second : {j f : ℕ} {b : Arc ℕ} → finalAt ℕ-sum (system A) (c .0) ≡ some f → getElem? (B .arcs) j ≡ some b
-      → Carries A B c 65535 j (afterFirstContent ℕ-sum (A .tapes) f (content b))
+      → Carries A B c noArc j (afterFirstContent ℕ-sum (A .tapes) f (content b))
   by-first : {i g : ℕ} {a : Arc ℕ} → finalAt ℕ-sum (system B) (c .1) ≡ some g → getElem? (A .arcs) i ≡ some a
-      → Carries A B c i 65535 (afterSecondContent ℕ-sum (B .tapes) g (content a))
+      → Carries A B c i noArc (afterSecondContent ℕ-sum (B .tapes) g (content a))
 
 -- the record m is that of the edge x between the states cs of the product: its ends, and arcs that carry its label
 pub record RecordOf (A B : Automaton ℕ) (cs : List automata.Vertex) (x : Edge (Content ℕ)) (m : Move) : Type 0 where

@@ -21,7 +21,7 @@ use Rattle.product_search.specs.declared.vertex.Vertex.{Vertex}
 use Rattle.product_search.specs.declared.plan.Plan.{Plan}
 use Rattle.product_search.specs.declared.head.Head.{Head}
 use Rattle.product_search.specs.Vertices.{placeNumber, vertexOf, HoldsVertices, ChainedVertices, PlaceBelow, VertexBelow}
-use Rattle.product_search.specs.Moves.{Carries, HoldsMoves}
+use Rattle.product_search.specs.Moves.{noArc, Carries, HoldsMoves}
 use Rattle.product_search.specs.Reading.{StatesLent, ArcsLent, ReadsStates, ReadsArcs, LinkedArcs, Walkable, chainedOnly}
 
 -- a head with so many states
@@ -119,7 +119,7 @@ onFirst F s = (F (s .0), (some (s .1), none))
 pub record BySecond (p : Plan) (arcs : List ℕ) (c : Vertex) (i to : ℕ) (A B : Automaton ℕ) (b : automata.Vertex) (F : Content ℕ → Content ℕ) (x : Option ℕ) : Type 0 where
   pub reads : ReadsArcs (p .second) arcs B
   pub few : length (A .states) ≤ 1024
-  pub vertex-is : c .second ≡ placeNumber (b .1)
+  pub vertex-is : c .second .0 ≡ placeNumber (b .1)
   pub place-is : to ≡ placeNumber x
   pub below : PlaceBelow (length (A .states)) x
   pub carries : (j : ℕ) (a : Arc ℕ) → getElem? (B .arcs) j ≡ some a → Carries A B b i j (F (content a))
@@ -128,8 +128,8 @@ pub record BySecond (p : Plan) (arcs : List ℕ) (c : Vertex) (i to : ℕ) (A B 
 pub record ByFirst (p : Plan) (arcs : List ℕ) (c : Vertex) (A B : Automaton ℕ) (b : automata.Vertex) (F : Content ℕ → Content ℕ) : Type 0 where
   pub reads : ReadsArcs (p .first) arcs A
   pub few : length (B .states) ≤ 1024
-  pub vertex-is : c .first ≡ placeNumber (b .0)
-  pub carries : (i : ℕ) (a : Arc ℕ) → getElem? (A .arcs) i ≡ some a → Carries A B b i 65535 (F (content a))
+  pub vertex-is : c .first .0 ≡ placeNumber (b .0)
+  pub carries : (i : ℕ) (a : Arc ℕ) → getElem? (A .arcs) i ≡ some a → Carries A B b i noArc (F (content a))
 
 -- the arc with number j of the second side was looked at
 pub record TriesSecond (p : Plan) (h : Head) (c : Vertex) (i to : ℕ) (arcs : List ℕ) (j : ℕ) (v : List ℕ) (r : Head) (w : List ℕ) : Type 0 where

@@ -16,18 +16,22 @@ use Rattle.search_chains.specs.Hash.{bucketOf}
 use Rattle.search_chains.specs.declared.Shape.{Shape}
 use Rattle.product_search.specs.declared.vertex.Vertex.{Vertex}
 
--- the number that stands for a place: 65535 where the path has ended
+-- what stands for a side's state where its path has ended
+abbrev pub ended : ℕ
+ended = 65535
+
+-- the number that stands for a place
 abbrev pub placeNumber : Option ℕ → ℕ
-placeNumber none = 65535
+placeNumber none = ended
 placeNumber (some q) = q
 
 -- a state of the product by value
 abbrev pub vertexOf : automata.Vertex → Vertex
-vertexOf c = record { first = placeNumber (c .0); second = placeNumber (c .1) }
+vertexOf c = record { first = record { 0 = placeNumber (c .0) }; second = record { 0 = placeNumber (c .1) } }
 
 -- the four bytes of a state by value
 unfoldable pub vertexBytes : Vertex → List ℕ
-vertexBytes v = toLe 2 (v .first) ++ toLe 2 (v .second)
+vertexBytes v = toLe 2 (v .first .0) ++ toLe 2 (v .second .0)
 
 -- the record of a state
 abbrev pub rowOf : automata.Vertex → List ℕ
@@ -68,4 +72,4 @@ VertexBelow n m c = PlaceBelow n (c .0) × PlaceBelow m (c .1)
 
 -- the state by value whose row stands at place at
 abbrev pub vertexAt : ℕ → List ℕ → Vertex
-vertexAt at w = record { first = le (part at 2 w); second = le (part (at + 2) 2 w) }
+vertexAt at w = record { first = record { 0 = le (part at 2 w) }; second = record { 0 = le (part (at + 2) 2 w) } }

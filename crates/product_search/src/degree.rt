@@ -8,15 +8,17 @@ use crate::head::may_end;
 use crate::plan::Plan;
 use crate::vertex::Vertex;
 use table::answer::Counts;
+use table::record::InputState;
 use table_adjacency::first_arc;
 
 // How many arcs stand in the chain of the place with number `x`.
-fn degree(counts: Counts, heads: &[u16], links: &[u16], x: u16) -> usize
+fn degree(counts: Counts, heads: &[u16], links: &[u16], x: InputState) -> usize
     requires { ⌜ Walkable counts (now heads) (now links) ⌝ }
-    ensures { λ r. ⌜ Leaves counts (now (heads .entry)) (now (links .entry)) x r ⌝ }
+    ensures { λ r. ⌜ Leaves counts (now (heads .entry)) (now (links .entry)) (x .0) r ⌝ }
 {
     let mut count: usize = 0;
-    let mut j = first_arc(counts, heads, x);
+    let place = x.0;
+    let mut j = first_arc(counts, heads, place);
     while j < counts.arcs {
         count += 1;
         j = links[j] as usize;

@@ -16,6 +16,7 @@ use search_chains::clear;
 use search_rows::Entered;
 use table::layout::STATE_SIZE;
 use table::layout::VERTEX_SIZE;
+use table::record::InputState;
 use table_adjacency::chain_arcs;
 use table_adjacency::distinct::link_distinct;
 
@@ -39,24 +40,24 @@ impl Head {
     }
 
     // The state with number `q` of the second side, with the state `x` of the first.
-    fn start_one(self, plan: Plan, x: u16, states: &[u8], q: usize, work: &mut [u8]) -> Head
+    fn start_one(self, plan: Plan, x: InputState, states: &[u8], q: usize, work: &mut [u8]) -> Head
         requires { ⌜ (Open plan self (length (now work))) × (self .full ≡ false) × (StatesLent (plan .second) (now states)) × (q < plan .second .states) ⌝ }
-        ensures { λ r. ⌜ StartsOne plan self x (now (states .entry)) q (now (work .entry)) r (now (work .exit)) ⌝ }
+        ensures { λ r. ⌜ StartsOne plan self (x .0) (now (states .entry)) q (now (work .entry)) r (now (work .exit)) ⌝ }
     {
         if states[STATE_SIZE * q] == 0 {
             return self;
         }
         let d = Vertex {
             first: x,
-            second: q as u16,
+            second: InputState(q as u16),
         };
         self.admit(plan, d, work)
     }
 
     // All states of the second side, with the state `x` of the first.
-    fn start_all(mut self, plan: Plan, x: u16, states: &[u8], work: &mut [u8]) -> Head
+    fn start_all(mut self, plan: Plan, x: InputState, states: &[u8], work: &mut [u8]) -> Head
         requires { ⌜ (Open plan self (length (now work))) × (self .full ≡ false) × (StatesLent (plan .second) (now states)) ⌝ }
-        ensures { λ r. ⌜ StartsAll plan self x (now (states .entry)) (now (work .entry)) r (now (work .exit)) ⌝ }
+        ensures { λ r. ⌜ StartsAll plan self (x .0) (now (states .entry)) (now (work .entry)) r (now (work .exit)) ⌝ }
     {
         let counts = plan.second;
         let mut q: usize = 0;
@@ -85,7 +86,7 @@ impl Head {
         if first_states[STATE_SIZE * q] == 0 {
             return self;
         }
-        self.start_all(plan, q as u16, second_states, work)
+        self.start_all(plan, InputState(q as u16), second_states, work)
     }
 }
 

@@ -11,7 +11,9 @@ ghost use Rattle.product_search.specs.Searching.{movedTo, Ready, Arrives
 ghost use Rattle.automata.specs.Layout.{stepSize, vertexSize};
 use crate::degree::moves_out;
 use crate::plan::Plan;
+use crate::vertex::ENDED;
 use crate::vertex::Move;
+use crate::vertex::NO_ARC;
 use crate::vertex::Vertex;
 use crate::vertex::enter_vertex;
 use crate::vertex::keep_move;
@@ -19,11 +21,13 @@ use crate::vertex::load_vertex;
 use search_rows::Entered;
 use search_rows::Reached;
 use table::answer::Counts;
-use table::bytes::get16;
+use table::arc::source_at;
+use table::arc::target_at;
 use table::layout::ARC_SIZE;
 use table::layout::FINAL_PLACE;
 use table::layout::STATE_SIZE;
 use table::layout::VERTEX_SIZE;
+use table::record::InputState;
 use table_adjacency::first_arc;
 
 // How many states were taken up and how many reached, how many arcs there are between them, and whether the search was
@@ -36,11 +40,11 @@ pub struct Head {
 }
 
 // Whether a path may end in the place with number `x`: it has ended there already, or the state has a final weight.
-pub fn may_end(counts: Counts, states: &[u8], x: u16) -> bool
+pub fn may_end(counts: Counts, states: &[u8], x: InputState) -> bool
     requires { ⌜ StatesLent counts (now states) ⌝ }
-    ensures { λ r. ⌜ TellsEnd counts (now (states .entry)) x r ⌝ }
+    ensures { λ r. ⌜ TellsEnd counts (now (states .entry)) (x .0) r ⌝ }
 {
-    let q = x as usize;
+    let q = x.0 as usize;
     if counts.states <= q {
         return true;
     }
@@ -106,19 +110,19 @@ impl Head {
         plan: Plan,
         c: Vertex,
         i: u16,
-        to: u16,
+        to: InputState,
         arcs: &[u8],
         j: usize,
         work: &mut [u8],
     ) -> Head
         requires { ⌜ (Ready plan self 1 (length (now work))) × (self .full ≡ false) × (ArcsLent (plan .second) (now arcs)) × (j < plan .second .arcs) ⌝ }
-        ensures { λ r. ⌜ TriesSecond plan self c i to (now (arcs .entry)) j (now (work .entry)) r (now (work .exit)) ⌝ }
+        ensures { λ r. ⌜ TriesSecond plan self c i (to .0) (now (arcs .entry)) j (now (work .entry)) r (now (work .exit)) ⌝ }
     {
         let at = ARC_SIZE * j;
-        if get16(arcs, at) != c.second {
+        if source_at(arcs, at).0 != c.second.0 {
             return self;
         }
-        let second = get16(arcs, at + 2);
+        let second = target_at(arcs, at);
         let next = Vertex { first: to, second };
         let reached = self.arrive(plan, next, i, j as u16, work);
         self.moved(plan, reached)
@@ -130,17 +134,17 @@ impl Head {
         plan: Plan,
         c: Vertex,
         i: u16,
-        to: u16,
+        to: InputState,
         arcs: &[u8],
         heads: &[u16],
         links: &[u16],
         work: &mut [u8],
     ) -> Head
         requires { ⌜ (Ready plan self 8192 (length (now work))) × (self .full ≡ false) × (ArcsLent (plan .second) (now arcs)) × (LinkedArcs (plan .second) (now arcs) (now heads) (now links)) ⌝ }
-        ensures { λ r. ⌜ PassesSecond plan self c i to (now (arcs .entry)) (now (links .entry)) (now (work .entry)) r (now (work .exit)) ⌝ }
+        ensures { λ r. ⌜ PassesSecond plan self c i (to .0) (now (arcs .entry)) (now (links .entry)) (now (work .entry)) r (now (work .exit)) ⌝ }
     {
         let counts = plan.second;
-        let mut j = first_arc(counts, heads, c.second);
+        let mut j = first_arc(counts, heads, c.second.0);
         while j < counts.arcs {
             self = self.try_second(plan, c, i, to, arcs, j, work);
             if self.full {
@@ -157,15 +161,15 @@ impl Head {
         ensures { λ r. ⌜ TriesFirst plan self c (now (arcs .entry)) i (now (work .entry)) r (now (work .exit)) ⌝ }
     {
         let at = ARC_SIZE * i;
-        if get16(arcs, at) != c.first {
+        if source_at(arcs, at).0 != c.first.0 {
             return self;
         }
-        let first = get16(arcs, at + 2);
+        let first = target_at(arcs, at);
         let next = Vertex {
             first,
-            second: 65535,
+            second: InputState(ENDED),
         };
-        let reached = self.arrive(plan, next, i as u16, 65535, work);
+        let reached = self.arrive(plan, next, i as u16, NO_ARC, work);
         self.moved(plan, reached)
     }
 
@@ -183,7 +187,7 @@ impl Head {
         ensures { λ r. ⌜ PassesFirst plan self c (now (arcs .entry)) (now (links .entry)) (now (work .entry)) r (now (work .exit)) ⌝ }
     {
         let counts = plan.first;
-        let mut i = first_arc(counts, heads, c.first);
+        let mut i = first_arc(counts, heads, c.first.0);
         while i < counts.arcs {
             self = self.try_first(plan, c, arcs, i, work);
             if self.full {
@@ -210,10 +214,10 @@ impl Head {
         ensures { λ r. ⌜ TriesBoth plan self c (now («first_arcs» .entry)) (now («second_arcs» .entry)) (now («second_links» .entry)) i (now (work .entry)) r (now (work .exit)) ⌝ }
     {
         let at = ARC_SIZE * i;
-        if get16(first_arcs, at) != c.first {
+        if source_at(first_arcs, at).0 != c.first.0 {
             return self;
         }
-        let to = get16(first_arcs, at + 2);
+        let to = target_at(first_arcs, at);
         self.pass_second(
             plan,
             c,
@@ -243,7 +247,7 @@ impl Head {
         ensures { λ r. ⌜ PassesBoth plan self c (now («first_arcs» .entry)) (now («first_links» .entry)) (now («second_arcs» .entry)) (now («second_links» .entry)) (now (work .entry)) r (now (work .exit)) ⌝ }
     {
         let counts = plan.first;
-        let mut i = first_arc(counts, first_heads, c.first);
+        let mut i = first_arc(counts, first_heads, c.first.0);
         while i < counts.arcs {
             self = self.try_both(
                 plan,
@@ -286,8 +290,8 @@ impl Head {
         self.pass_second(
             plan,
             c,
-            65535,
-            65535,
+            NO_ARC,
+            InputState(ENDED),
             second_arcs,
             second_heads,
             second_links,

@@ -10,6 +10,7 @@ use table::bytes::get32;
 use table::bytes::put16;
 use table::bytes::put32;
 use table::layout::VERTEX_SIZE;
+use table::record::InputState;
 ghost use mathlib.Core.Path.{_≡_};
 ghost use Prim.Native.Nat.{_+_, _*_, _≤_, _<_};
 ghost use lib.ListN.{length};
@@ -21,13 +22,19 @@ ghost use Rattle.product_search.specs.Vertices.{vertexBytes, vertexAt, F
 ghost use Rattle.product_search.specs.Moves.{moveBytes, moveAt};
 ghost use Rattle.automata.specs.Layout.{stepSize, vertexSize};
 
-// A state of the product: the number of an input state on each side, 65535 where that side's path has ended.
+// What stands for a side's state where its path has ended.
+pub const ENDED: u16 = 65535;
+
+// What stands for the number of a side's arc where its path has ended.
+pub const NO_ARC: u16 = 65535;
+
+// A state of the product: an input state on each side, `ENDED` where that side's path has ended.
 pub struct Vertex {
-    pub first: u16,
-    pub second: u16,
+    pub first: InputState,
+    pub second: InputState,
 }
 
-// A move between two of them: the number of the arc that each side follows, 65535 where that side's path has ended.
+// A move between two of them: the number of the arc that each side follows, `NO_ARC` where that side's path has ended.
 pub struct Move {
     pub from: Reached,
     pub first: u16,
@@ -40,8 +47,8 @@ pub fn load_vertex(work: &[u8], at: usize) -> Vertex
     requires { ⌜ at + 4 ≤ length (now work) ⌝ }
     ensures { λ r. ⌜ r ≡ vertexAt at (now (work .entry)) ⌝ }
 {
-    let first = get16(work, at);
-    let second = get16(work, at + 2);
+    let first = InputState(get16(work, at));
+    let second = InputState(get16(work, at + 2));
     Vertex { first, second }
 }
 
@@ -63,7 +70,7 @@ fn wide16(n: u16) -> u32
 fn key_of(v: Vertex) -> u32
     ensures { λ r. ⌜ toLe 4 r ≡ vertexBytes v ⌝ }
 {
-    wide16(v.first) + 65536 * wide16(v.second)
+    wide16(v.first.0) + 65536 * wide16(v.second.0)
 }
 
 // Which of the `count` states has these four bytes as a number, by the chain of its bucket.

@@ -12,6 +12,7 @@ use crate::bytes::copy_into;
 use crate::bytes::get16;
 use crate::bytes::get32;
 use crate::bytes::put16;
+use crate::bytes::put32;
 use crate::layout::CONTENT_PLACE;
 use crate::layout::CONTENT_SIZE;
 use crate::layout::LABEL_SIZE;
@@ -67,6 +68,14 @@ pub fn store_ends(out: &mut [u8], at: usize, source: ResultState, target: Result
 {
     put16(out, at, source.0);
     put16(out, at + TARGET_PLACE, target.0);
+}
+
+// The weight of an arc that is made, written at its place.
+pub fn store_arc_weight(out: &mut [u8], at: usize, weight: u32)
+    requires { ⌜ at + arcSize ≤ length (now out) ⌝ }
+    ensures { λ _. ⌜ now (out .exit) ≡ splice (at + contentPlace) (toLe 4 weight) (now (out .entry)) ⌝ }
+{
+    put32(out, at + CONTENT_PLACE, weight);
 }
 
 // The content of the arc at `from`, written as that of the arc at `to`.

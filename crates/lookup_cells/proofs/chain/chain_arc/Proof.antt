@@ -9,16 +9,13 @@ use Rattle.lookup_cells.proofs.chain.chain_arc.Statement.{statement}
 use Rattle.lookup_cells.proofs.chain.chain_arc.Tie as tie
 use Rattle.lookup_cells.proofs.chain.chain_arc.Reads as reads
 use Rattle.lookup_cells.proofs.chain.chain_arc.Lts as lts
-use Rattle.table.proofs.bytes.get16.Reads as get16-reads
+use Rattle.table.proofs.arc.target_at.Reads as target-at-reads
 
-mul-get16 : tie.Need-mul-get16
-mul-get16 c = search needs
+mul-target-at : tie.Need-mul-target-at
+mul-target-at c = search needs
 
-add-get16 : tie.Need-add-get16
-add-get16 c = search needs
-
-get16-requires : tie.Need-get16-requires
-get16-requires c κs = search needs
+target-at-requires : tie.Need-target-at-requires
+target-at-requires c κs = search needs
 
 cast-target : tie.Need-cast-target
 cast-target c = search needs
@@ -46,24 +43,23 @@ mul-index-3 c = search needs
 
 slice-write-index-2 : tie.Need-slice-write-index-2
 slice-write-index-2 c =
-    let s = c .before .before .before .before in simp length-set (omega (arith, s .pre .2, s .pre .3, c .before .get16 .ensures))
+    let s = c .before .before .before .before .before in simp length-set (omega (arith, s .pre .2, s .pre .3, c .before .before .target-at .ensures))
 
 same-length : tie.Need-same-length
 same-length c = search needs
 
 returns : tie.Need-returns
 returns c =
-    let s = c .before .before .before .before in
+    let s = c .before .before .before .before .before in
     let xs = now (s .args .index) in
-    ap (λ (k : ℕ). set (set xs (1024 + s .args .e) (getD xs k 0)) k (s .args .e)) (c .before .get16 .ensures)
+    ap (λ (k : ℕ). set (set xs (1024 + s .args .e) (getD xs k 0)) k (s .args .e)) (c .before .before .target-at .ensures)
 
 pub chain-arc-spec : {M : Type 1} → statement M
 chain-arc-spec =
     tie.close
     (tie.spec
-    mul-get16
-    add-get16
-    get16-requires
+    mul-target-at
+    target-at-requires
     cast-target
     mul-index
     slice-read-index

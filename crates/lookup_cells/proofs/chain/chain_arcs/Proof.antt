@@ -1,6 +1,6 @@
 -- `lookup_cells::chain::chain_arcs` meets its contract. Assumes nothing.
 use Rattle.lookup_cells.specs.Chains.{ChainedFrom}
-use Rattle.lookup_cells.specs.Pushes.{targetOf}
+use Rattle.table.specs.Arcs.{targetOf}
 use Rattle.lookup_cells.proofs.ChainFacts.{chain-start, chain-again, chain-end}
 use Prim.Native.Nat.{ℕ, _-_, _≤_}
 use mathlib.Core.Path.{sym, ap, _∙_}

@@ -5,38 +5,21 @@ use Rattle.product_records.proofs.record.store_front.Statement.{stateme
 use Rattle.product_records.proofs.record.store_front.Tie as tie
 use Rattle.product_records.proofs.record.store_front.Reads as reads
 use Rattle.product_records.proofs.record.store_front.Lts as lts
-use Rattle.table.proofs.bytes.put16.Reads as put16-reads
-use Rattle.table.proofs.bytes.put32.Reads as put32-reads
+use Rattle.table.proofs.arc.store_arc_weight.Reads as store-arc-weight-reads
+use Rattle.table.proofs.arc.store_ends.Reads as store-ends-reads
 
-put16-requires : tie.Need-put16-requires
-put16-requires c κs = search needs
+store-ends-requires : tie.Need-store-ends-requires
+store-ends-requires c κs = search needs
 
-add-put16 : tie.Need-add-put16
-add-put16 c = search needs
-
-put16-requires-2 : tie.Need-put16-requires-2
-put16-requires-2 c κs = search needs
-
-add-put32 : tie.Need-add-put32
-add-put32 c = search needs
-
-put32-requires : tie.Need-put32-requires
-put32-requires c κs = search needs
+store-arc-weight-requires : tie.Need-store-arc-weight-requires
+store-arc-weight-requires c κs = search needs
 
 same-length : tie.Need-same-length
 same-length c = search needs
 
 returns : tie.Need-returns
-returns c = front-stored _ _ _ _ _ _ _ (c .before .before .before .before .before .before .before .before .before .before .before .before .before .pre) (c .before .before .before .before .before .before .before .before .before .before .put16 .ensures) (c .before .before .before .before .before .before .put162 .ensures) (c .before .before .put32 .ensures)
+returns c = front-stored _ _ _ _ _ _ (c .before .before .before .before .before .before .before .before .before .pre) (c .before .before .before .before .before .before .store-ends .ensures) (c .before .before .store-arc-weight .ensures)
 
 pub store-front-spec : {M : Type 1} → statement M
 store-front-spec =
-    tie.close
-    (tie.spec
-    put16-requires
-    add-put16
-    put16-requires-2
-    add-put32
-    put32-requires
-    same-length
-    returns)
+    tie.close (tie.spec store-ends-requires store-arc-weight-requires same-length returns)

@@ -11,14 +11,18 @@ use Rattle.table.proofs.record.load_state.Reads as load-state-reads
 returns : tie.Need-returns
 returns c = place-ended _ _ (c .if1 .taken)
 
+cast-load-state : tie.Need-cast-load-state
+cast-load-state c = search needs
+
 mul-load-state : tie.Need-mul-load-state
 mul-load-state c = search needs
 
 load-state-requires : tie.Need-load-state-requires
-load-state-requires c κs = let k = c .before .before .pre (c .if1 .left) in omega (arith, k)
+load-state-requires c κs = let k = c .before .before .before .before .pre (c .before .if1 .left) in omega (arith, k)
 
 returns-2 : tie.Need-returns-2
-returns-2 c = place-loaded _ _ _ (c .before .if1 .left) (c .load-state .ensures)
+returns-2 c = place-loaded _ _ _ (c .before .before .if1 .left) (c .load-state .ensures)
 
 pub place-state-spec : {M : Type 1} → statement M
-place-state-spec = tie.close (tie.spec returns mul-load-state load-state-requires returns-2)
+place-state-spec =
+    tie.close (tie.spec returns cast-load-state mul-load-state load-state-requires returns-2)

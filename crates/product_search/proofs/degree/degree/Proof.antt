@@ -10,10 +10,10 @@ use Rattle.product_search.proofs.degree.degree.Lts as lts
 use Rattle.table_adjacency.proofs.first_arc.Reads as first-arc-reads
 
 abbrev Inv-loop : tie.InvT-loop
-Inv-loop counts heads links x count₀ j₀ count j = Counting counts heads links x count j
+Inv-loop counts heads links count₀ place j₀ count j = Counting counts heads links place count j
 
 abbrev μ-loop : tie.MeasureT-loop
-μ-loop counts heads links x count₀ j₀ count j = counts .arcs - j
+μ-loop counts heads links count₀ place j₀ count j = counts .arcs - j
 
 first-arc-requires : tie.Need-first-arc-requires Inv-loop μ-loop
 first-arc-requires c κs = let s = c .before .before in heads _ _ _ _ _ (s .pre .linked) (s .pre .few)

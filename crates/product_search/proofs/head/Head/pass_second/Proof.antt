@@ -12,7 +12,7 @@ use Rattle.table_adjacency.proofs.first_arc.Reads as first-arc-reads
 use Rattle.product_search.proofs.head.Head.try_second.Reads as try-second-reads
 
 abbrev Inv-loop : tie.InvT-loop
-Inv-loop self₀ plan c i to arcs heads links work₀ counts j₀ self work j = PassingSecond plan self₀ c i to arcs links work₀ self work j
+Inv-loop self₀ plan c i to arcs heads links work₀ counts j₀ self work j = PassingSecond plan self₀ c i (to .0) arcs links work₀ self work j
 
 abbrev μ-loop : tie.MeasureT-loop
 μ-loop self₀ plan c i to arcs heads links work₀ counts j₀ self work j = plan .second .arcs - j

@@ -9,7 +9,7 @@ use Rattle.product_search.proofs.head.Head.start_all.Lts as lts
 use Rattle.product_search.proofs.head.Head.start_one.Reads as start-one-reads
 
 abbrev Inv-loop : tie.InvT-loop
-Inv-loop self₀ plan x states work₀ counts q₀ self work q = StartingAll plan self₀ x states work₀ self work q
+Inv-loop self₀ plan x states work₀ counts q₀ self work q = StartingAll plan self₀ (x .0) states work₀ self work q
 
 abbrev μ-loop : tie.MeasureT-loop
 μ-loop self₀ plan x states work₀ counts q₀ self work q = plan .second .states - q

@@ -16,8 +16,8 @@ shared-slice-read-if1 c = search needs
 returns : tie.Need-returns
 returns c = let s = c .before .before .before .before .before in both-not _ _ _ _ _ _ (s .pre .0) (s .pre .3) (c .if1 .taken)
 
-cast-start-all : tie.Need-cast-start-all
-cast-start-all c = search needs
+cast-t11 : tie.Need-cast-t11
+cast-t11 c = search needs
 
 start-all-requires : tie.Need-start-all-requires
 start-all-requires c κs = search needs
@@ -35,7 +35,7 @@ start-both-spec =
     mul-if1
     shared-slice-read-if1
     returns
-    cast-start-all
+    cast-t11
     start-all-requires
     same-length
     returns-2)

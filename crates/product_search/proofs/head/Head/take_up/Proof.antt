@@ -32,7 +32,7 @@ returns : tie.Need-returns
 returns c = let s = c .before .before .before .before .before .before .before .before .before .before .before .before .before .before .before .before .before in take-over _ _ _ _ _ _ _ _ _ _ _ (s .pre .0) (s .pre .1) (s .pre .2) (s .pre .3) _ (c .before .before .before .before .before .load-vertex .ensures) _ (c .before .before .before .before .moves-out .ensures) (c .before .if1 .taken)
 
 lead-on-requires : tie.Need-lead-on-requires
-lead-on-requires c κs = search needs
+lead-on-requires c κs = let s = c .before .before .before .before .before .before .before .before .before .before .before .before .before .before .before .before .before in (s .pre .0, s .pre .1, s .pre .2, s .pre .3, c .before .before .before .before .before .load-vertex .ensures)
 
 same-length-2 : tie.Need-same-length-2
 same-length-2 c = search needs

@@ -8,22 +8,20 @@ use Rattle.product_search.proofs.head.Head.try_first.Reads as reads
 use Rattle.product_search.proofs.head.Head.try_first.Lts as lts
 use Rattle.product_search.proofs.head.Head.arrive.Reads as arrive-reads
 use Rattle.product_search.proofs.head.Head.moved.Reads as moved-reads
-use Rattle.table.proofs.bytes.get16.Reads as get16-reads
+use Rattle.table.proofs.arc.source_at.Reads as source-at-reads
+use Rattle.table.proofs.arc.target_at.Reads as target-at-reads
 
 mul-at : tie.Need-mul-at
 mul-at c = search needs
 
-get16-requires : tie.Need-get16-requires
-get16-requires c κs = search needs
+source-at-requires : tie.Need-source-at-requires
+source-at-requires c κs = search needs
 
 returns : tie.Need-returns
-returns c = let s = c .before .before .before .before .before in first-away _ _ _ _ _ _ (s .pre .0) (s .pre .3) _ (c .before .before .get16 .ensures) (c .if1 .taken)
+returns c = let s = c .before .before .before .before .before .before in first-away _ _ _ _ _ _ (s .pre .0) (s .pre .3) _ (c .before .before .before .source-at .ensures) (c .if1 .taken)
 
-add-get16 : tie.Need-add-get16
-add-get16 c = search needs
-
-get16-requires-2 : tie.Need-get16-requires-2
-get16-requires-2 c κs = search needs
+target-at-requires : tie.Need-target-at-requires
+target-at-requires c κs = search needs
 
 cast-arrive : tie.Need-cast-arrive
 cast-arrive c = search needs
@@ -38,17 +36,16 @@ same-length : tie.Need-same-length
 same-length c = search needs
 
 returns-2 : tie.Need-returns-2
-returns-2 c = let s = c .before .before .before .before .before .before .before .before .before .before .before in first-there _ _ _ _ _ _ (s .pre .0) (s .pre .3) _ (c .before .before .before .before .before .before .before .before .get16 .ensures) (c .before .before .before .before .before .before .if1 .left) _ (c .before .before .before .before .before .get162 .ensures) _ _ (arrives-moved _ _ _ _ _ _ _ _ _ (c .moved .ensures) (c .before .before .before .arrive .ensures))
+returns-2 c = let s = c .before .before .before .before .before .before .before .before .before .before .before .before in first-there _ _ _ _ _ _ (s .pre .0) (s .pre .3) _ (c .before .before .before .before .before .before .before .before .before .source-at .ensures) (c .before .before .before .before .before .before .if1 .left) _ (c .before .before .before .before .before .target-at .ensures) _ _ (arrives-moved _ _ _ _ _ _ _ _ _ (c .moved .ensures) (c .before .before .before .arrive .ensures))
 
 pub try-first-spec : {M : Type 1} → statement M
 try-first-spec =
     tie.close
     (tie.spec
     mul-at
-    get16-requires
+    source-at-requires
     returns
-    add-get16
-    get16-requires-2
+    target-at-requires
     cast-arrive
     arrive-requires
     moved-requires
