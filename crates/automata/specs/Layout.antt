@@ -24,10 +24,6 @@ contentPlace = 4
 abbrev pub labelsPlace : ℕ
 labelsPlace = 8
 
--- where the symbols of the first label stand
-abbrev pub symbolsPlace : ℕ
-symbolsPlace = 9
-
 -- a label: its length and eight symbols
 abbrev pub labelSize : ℕ
 labelSize = 9

@@ -9,18 +9,19 @@ use mathlib.Core.Option.{some}
 use lib.ListN.{getD, getElem?}
 use Rattle.table.specs.Region.{part, splice}
 use Rattle.table.specs.Endian.{le, toLe}
+use Rattle.table.specs.Arcs.{sourceAt, targetAt, labelPlace}
 use borrow.Author.Tests.{eq-eqb}
 use Rattle.automata.specs.Lists.{and}
 use Rattle.automata.proofs.TestFacts.{eqb-false}
 use Rattle.automata.specs.InPlace.{Becomes}
-use Rattle.automata.specs.Layout.{arcSize, delaysSize, stateSize, labelSize, labelsPlace}
+use Rattle.automata.specs.Layout.{arcSize, delaysSize, stateSize}
 use Rattle.delays_relaxation.specs.declared.Edge.{Edge}
 use Rattle.delays_relaxation.specs.Edges.{edgeAt, edges, Joined, throughEdge, improve, visited, swept, startOf, flagPlace, started}
 use Rattle.delays_relaxation.specs.Lowered.{next, Run}
 
 -- an edge, from its fields, read forwards and backwards
-module _ (reversed : Bool) (first second at : ℕ) (arcs : List ℕ) (s t u d : ℕ) (a : s ≡ le (part at 2 arcs)) (b : t ≡ le (part (at + 2) 2 arcs))
-    (c : u ≡ getD arcs (at + labelsPlace + labelSize * first) 0) (e : d ≡ getD arcs (at + labelsPlace + labelSize * second) 0) where
+module _ (reversed : Bool) (first second at : ℕ) (arcs : List ℕ) (s t u d : ℕ) (a : s ≡ sourceAt at arcs) (b : t ≡ targetAt at arcs)
+    (c : u ≡ getD arcs (labelPlace at first) 0) (e : d ≡ getD arcs (labelPlace at second) 0) where
   pub edge-forwards : reversed ≡ false → _≡_ {A = Edge} (record { source = s; target = t; up = u; down = d }) (edgeAt reversed first second at arcs)
   edge-forwards r = rw r (λ i. record { source = a i; target = b i; up = c i; down = e i })
 

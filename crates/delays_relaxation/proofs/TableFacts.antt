@@ -9,6 +9,7 @@ use lib.ListN.{length, length-map, getD, getElem?, take, drop}
 use lib.Seq.{ext-getD, getD-take, getD-drop}
 use Rattle.table.specs.Region.{part}
 use Rattle.table.specs.Endian.{le}
+use Rattle.table.specs.Arcs.{sourceAt, targetAt, labelPlace}
 use Rattle.automata.specs.Lists.{if, isSome}
 use Rattle.automata.specs.Rounds.{iterate, visit}
 use Rattle.automata.specs.InPlace.{sweepInPlace, roundInPlace}
@@ -29,7 +30,7 @@ use Rattle.automata.proofs.RelaxedDelays.{through-cases}
 use Rattle.automata.proofs.InPlaceDelays.{Held, start-held, arc-held, cycle-held, in-place-least}
 use Rattle.automata.proofs.ReversalFacts.{size-directed, directed-formed}
 use Rattle.automata.proofs.MemoryFacts.{arc-field, label-field, state-field}
-use Rattle.automata.specs.Layout.{arcSize, stateSize, finalPlace, labelSize, labelsPlace}
+use Rattle.automata.specs.Layout.{arcSize, targetPlace, stateSize, finalPlace, labelSize, labelsPlace}
 use Rattle.delays_relaxation.specs.declared.Edge.{Edge}
 use Rattle.delays_relaxation.specs.Edges.{edgeAt, edges, edgeGraph, Joined, throughEdge, improveEdge, roundOf, roundsOf, bothRounds, startOf, flagPlace, starts}
 use Rattle.delays_relaxation.specs.Lowered.{none, next, own, along, around, Run, Stands, Lowered, Least}
@@ -85,24 +86,24 @@ module _ (m : Memory) (t : Automaton ℕ) (w : WellFormed t) (h : Holds m t) whe
     arc-is : WellFormedArc (t .tapes) (length (t .states)) (getD (t .arcs) k noArc)
     arc-is = All-at (WellFormedArc (t .tapes) (length (t .states))) (t .arcs) noArc k (w .arcs) (rw (h .arcs) at l)
 
-    pub source-is : le (part (0 + arcSize * k) 2 (m .arcBytes)) ≡ getD (t .arcs) k noArc .source
+    pub source-is : sourceAt (0 + arcSize * k) (m .arcBytes) ≡ getD (t .arcs) k noArc .source
     unfolding part
     source-is =
         let e : 0 + arcSize * k ≡ k * arcSize + 0 = omega arith in
         ap (λ (p : ℕ). le (take 2 (drop p (m .arcBytes)))) e ∙ ap le (arc-field m t w h k noArc l 0 2 (omega arith))
         ∙ two-bytes (getD (t .arcs) k noArc .source) (omega (arith, arc-is .source, w .counts .statesFit))
 
-    pub target-is : le (part (0 + arcSize * k + 2) 2 (m .arcBytes)) ≡ getD (t .arcs) k noArc .target
+    pub target-is : targetAt (0 + arcSize * k) (m .arcBytes) ≡ getD (t .arcs) k noArc .target
     unfolding part
     target-is =
-        let e : 0 + arcSize * k + 2 ≡ k * arcSize + 2 = omega arith in
-        ap (λ (p : ℕ). le (take 2 (drop p (m .arcBytes)))) e ∙ ap le (arc-field m t w h k noArc l 2 2 (omega arith))
+        let e : 0 + arcSize * k + targetPlace ≡ k * arcSize + targetPlace = omega arith in
+        ap (λ (p : ℕ). le (take 2 (drop p (m .arcBytes)))) e ∙ ap le (arc-field m t w h k noArc l targetPlace 2 (omega arith))
         ∙ two-bytes (getD (t .arcs) k noArc .target) (omega (arith, arc-is .target, w .counts .statesFit))
 
-    pub label-is : (i : ℕ) → i < t .tapes → getD (m .arcBytes) (0 + arcSize * k + labelsPlace + labelSize * i) 0 ≡ length (labelOn i (getD (t .arcs) k noArc))
+    pub label-is : (i : ℕ) → i < t .tapes → getD (m .arcBytes) (labelPlace (0 + arcSize * k) i) 0 ≡ length (labelOn i (getD (t .arcs) k noArc))
     label-is i b =
         let p = k * arcSize + (labelsPlace + i * labelSize) in
-        let e : 0 + arcSize * k + labelsPlace + labelSize * i ≡ p + 0 = omega arith in
+        let e : labelPlace (0 + arcSize * k) i ≡ p + 0 = omega arith in
         ap (λ (q : ℕ). getD (m .arcBytes) q 0) e ∙ sym (getD-drop p (m .arcBytes) 0 0) ∙ sym (getD-take labelSize (drop p (m .arcBytes)) 0 0 (omega arith))
         ∙ ap (λ (x : List ℕ). getD x 0 0) (label-field m t w h k noArc l i b)
 

@@ -6,23 +6,24 @@ use lib.Dec.{eqb, ltb}
 use lib.ListN.{length, getD}
 use Rattle.table.specs.Region.{part, splice}
 use Rattle.table.specs.Endian.{le, toLe}
+use Rattle.table.specs.Arcs.{sourceAt, targetAt, labelPlace}
 use mathlib.Core.Path.{_≡_}
 use Rattle.automata.specs.Lists.{if}
 use Rattle.automata.specs.Graph.{Graph}
 use Rattle.automata.specs.Rounds.{iterate}
 use Rattle.automata.specs.InPlace.{roundInPlace}
 use Rattle.automata.specs.Closing.{origin, endless, missing}
-use Rattle.automata.specs.Layout.{arcSize, delaysSize, stateSize, finalPlace, labelSize, labelsPlace}
+use Rattle.automata.specs.Layout.{arcSize, delaysSize, stateSize, finalPlace}
 use Rattle.delays_relaxation.specs.declared.Edge.{Edge}
 use Rattle.delays_relaxation.specs.Column.{column, Frame}
 
 -- the arc record at place at, read on the tapes first and second, counted from 0, and backwards where reversed
 abbrev pub edgeAt : Bool → ℕ → ℕ → ℕ → List ℕ → Edge
 edgeAt reversed first second at arcs = record {
-  source = if reversed (le (part (at + 2) 2 arcs)) (le (part at 2 arcs));
-  target = if reversed (le (part at 2 arcs)) (le (part (at + 2) 2 arcs));
-  up = getD arcs (at + labelsPlace + labelSize * first) 0;
-  down = getD arcs (at + labelsPlace + labelSize * second) 0;
+  source = if reversed (targetAt at arcs) (sourceAt at arcs);
+  target = if reversed (sourceAt at arcs) (targetAt at arcs);
+  up = getD arcs (labelPlace at first) 0;
+  down = getD arcs (labelPlace at second) 0;
 }
 
 -- the n arc records from place at

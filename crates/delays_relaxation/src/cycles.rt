@@ -2,6 +2,8 @@
 use crate::edge_at;
 use crate::places::note;
 use crate::places::number_at;
+use table::arc::source_at;
+use table::arc::target_at;
 use table::bytes::get16;
 use table::bytes::put16;
 use table::layout::ARC_SIZE;
@@ -16,13 +18,13 @@ ghost use Rattle.delays_relaxation.specs.Lowered.{Lessens, Lowers};
 ghost use Rattle.automata.specs.Layout.{arcSize};
 
 // The target of the arc with number `k`, and its source where `reversed`.
-fn target_at(arcs: &[u8], k: usize, reversed: bool) -> u16
-    requires { ⌜ arcSize * k + 4 ≤ length (now arcs) ⌝ }
+fn end_of(arcs: &[u8], k: usize, reversed: bool) -> u16
+    requires { ⌜ arcSize * k + arcSize ≤ length (now arcs) ⌝ }
 {
     if reversed {
-        return get16(arcs, ARC_SIZE * k);
+        return source_at(arcs, ARC_SIZE * k).0;
     }
-    get16(arcs, ARC_SIZE * k + 2)
+    target_at(arcs, ARC_SIZE * k).0
 }
 
 // The state where the way from `q` along the noted arcs closes, and 65,535 where it ends or comes to a state seen
@@ -49,7 +51,7 @@ fn closes_at(
         if count <= k {
             return 65535;
         }
-        p = target_at(arcs, k, reversed);
+        p = end_of(arcs, k, reversed);
     }
     if number_at(seen, p as usize) == q {
         return p;

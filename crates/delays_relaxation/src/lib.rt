@@ -7,13 +7,14 @@ pub mod settle;
 
 use crate::places::note_arc;
 use crate::settle::settle;
+use table::arc::label_length_at;
+use table::arc::source_at;
+use table::arc::target_at;
 use table::bytes::get16;
 use table::bytes::put16;
 use table::layout::ARC_SIZE;
 use table::layout::DELAYS_SIZE;
 use table::layout::FINAL_PLACE;
-use table::layout::LABEL_SIZE;
-use table::layout::LABELS_PLACE;
 use table::layout::STATE_SIZE;
 ghost use mathlib.Core.Path.{_≡_};
 ghost use Prim.Native.Nat.{ℕ, _+_, _*_, _≤_, _<_};
@@ -38,10 +39,10 @@ pub fn edge_at(arcs: &[u8], at: usize, reversed: bool, first: usize, second: usi
     requires { ⌜ (at + arcSize ≤ length (now arcs)) × (first < 8) × (second < 8) ⌝ }
     ensures { λ r. ⌜ r ≡ edgeAt reversed first second at (now (arcs .entry)) ⌝ }
 {
-    let source = get16(arcs, at);
-    let target = get16(arcs, at + 2);
-    let up = arcs[at + LABELS_PLACE + LABEL_SIZE * first];
-    let down = arcs[at + LABELS_PLACE + LABEL_SIZE * second];
+    let source = source_at(arcs, at).0;
+    let target = target_at(arcs, at).0;
+    let up = label_length_at(arcs, at, first);
+    let down = label_length_at(arcs, at, second);
     if reversed {
         return Edge {
             source: target,

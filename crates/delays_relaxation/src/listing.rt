@@ -3,7 +3,8 @@
 // it takes until the delays stay.
 use crate::places::note;
 use crate::places::number_at;
-use table::bytes::get16;
+use table::arc::source_at;
+use table::arc::target_at;
 use table::layout::ARC_SIZE;
 use table::layout::FINAL_PLACE;
 use table::layout::STATE_SIZE;
@@ -21,7 +22,7 @@ pub struct Search {
 fn chain_target(arcs: &[u8], k: usize, heads: &mut [u16], next: &mut [u16])
     requires { ⌜ (arcSize * k + arcSize ≤ length (now arcs)) × (k < 8192) ⌝ }
 {
-    let target = get16(arcs, ARC_SIZE * k + 2) as usize;
+    let target = target_at(arcs, ARC_SIZE * k).0 as usize;
     let front = number_at(heads, target);
     note(next, k, front);
     note(heads, target, k as u16);
@@ -95,7 +96,7 @@ fn search_step(
     }
     let later = number_at(next, k as usize);
     note(cursors, top, later);
-    let source = get16(arcs, ARC_SIZE * k as usize);
+    let source = source_at(arcs, ARC_SIZE * k as usize).0;
     if number_at(seen, source as usize) == 0 {
         put_on(seen, stack, depth, source);
         return Search {

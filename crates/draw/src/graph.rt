@@ -3,7 +3,10 @@ use table::answer::Counts;
 use table::answer::Refusal;
 use table::answer::TableAnswer;
 use table::answer::refusal_number;
-use table::bytes::get16;
+use table::arc::arc_weight_at;
+use table::arc::label_place;
+use table::arc::source_at;
+use table::arc::target_at;
 use table::bytes::get32;
 use table::layout::ARC_SIZE;
 use table::layout::LABEL_SIZE;
@@ -107,13 +110,13 @@ fn put_arc(arcs: &[u8], at: usize, tapes: usize) {
         return;
     }
     put(b"  ");
-    put_number(get16(arcs, at) as u64);
+    put_number(source_at(arcs, at).0 as u64);
     put(b" -> ");
-    put_number(get16(arcs, at + 2) as u64);
+    put_number(target_at(arcs, at).0 as u64);
     put(b" [label=\"");
-    put_labels(arcs, at + 8, tapes);
+    put_labels(arcs, label_place(at, 0), tapes);
     put(b" / ");
-    put_number(get32(arcs, at + 4) as u64);
+    put_number(arc_weight_at(arcs, at) as u64);
     put(b"\"];\n");
 }
 

@@ -28,7 +28,8 @@ use Rattle.automata.proofs.WellFormedFacts.{well-formed}
 use Rattle.automata.proofs.SoundFacts.{sound-well-formed, sound-holds}
 use Rattle.automata.proofs.ForecastFacts.{told-capped}
 use Rattle.automata.proofs.ForecastRanges.{needed-small}
-use Rattle.automata.specs.Layout.{arcSize, delaysSize, labelSize, labelsPlace, symbolsPlace}
+use Rattle.automata.specs.Layout.{arcSize, delaysSize}
+use Rattle.table.specs.Arcs.{labelPlace}
 use Rattle.table.specs.Region.{part}
 use Rattle.table.specs.Endian.{le}
 use Rattle.table.specs.declared.pair.Pair.{Pair}
@@ -213,9 +214,8 @@ module _ (m : Memory) (s : Sound m) where
         let h : k < m .arcs = omega (arith, place-bound (A .arcs) k e, sound-holds m s .arcs) in
         let r = reads-arc m s k h a in
         let z : 0 + arcSize * k ≡ arcSize * k = omega arith in
-        let y : arcSize * k + symbolsPlace + labelSize * t ≡ arcSize * k + labelsPlace + labelSize * t + 1 = omega arith in
-        ap (λ (j : ℕ). labelAt t j (m .arcBytes)) z ∙ ap (map reading) (ap (λ (j : ℕ). part j (getD (m .arcBytes) (arcSize * k + labelsPlace + labelSize * t) 0) (m .arcBytes)) y
-        ∙ sym (take-take (getD (m .arcBytes) (arcSize * k + labelsPlace + labelSize * t) 0) 8 _ (r .label-fits t l)) ∙ sym (r .label t l) ∙ ap (labelOn t) (place-default (A .arcs) k a e))
+        ap (λ (j : ℕ). labelAt t j (m .arcBytes)) z
+        ∙ ap (map reading) (sym (take-take (getD (m .arcBytes) (labelPlace (arcSize * k) t) 0) 8 _ (r .label-fits t l)) ∙ sym (r .label t l) ∙ ap (labelOn t) (place-default (A .arcs) k a e))
 
     -- the symbols
     symbols-is : insertAll eqb [] (symbolsFrom (p .first - 1) (p .second - 1) 0 (m .arcs) (m .arcBytes)) ≡ symbolsOn A (onTapes p)

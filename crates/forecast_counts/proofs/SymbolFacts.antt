@@ -1,6 +1,6 @@
 -- The table of symbols seen: filled label by label, and as many places marked as there are different symbols.
 use Prim.Native.Nat.{ℕ, zero, suc, _+_, _-_, _*_, _<_, _≤_}
-use mathlib.Core.Path.{_≡_, refl, sym, ap, _∙_}
+use mathlib.Core.Path.{_≡_, refl, sym, ap, ap₂, _∙_}
 use mathlib.Core.Bool.{Bool, true, false}
 use mathlib.Core.List.{List, [], _∷_, _++_, map}
 use native.Mathlib.Omega.{arith}
@@ -20,7 +20,8 @@ use Rattle.automata.proofs.ListFacts.{numbers-decided}
 use Rattle.automata.proofs.AppendFacts.{any-snoc, or-none}
 use Rattle.automata.proofs.RecordFacts.{All-append}
 use Rattle.automata.proofs.ReadingFacts.{reading-le}
-use Rattle.automata.specs.Layout.{arcSize, labelSize, labelsPlace, symbolsPlace}
+use Rattle.automata.specs.Layout.{arcSize}
+use Rattle.table.specs.Arcs.{labelPlace}
 use Rattle.forecast_counts.specs.Symbols.{labelAt, symbolsFrom, ShortLabels, noted, marked}
 
 -- ---- the table
@@ -59,6 +60,11 @@ arcs-turn first second from left rest arcs seen a b l e f =
     let p : b ≡ noted seen (x ++ y) = f ∙ ap (λ (s : List ℕ). noted s y) e ∙ sym (noted-append seen x y) in
     rw (l, p) (sym (noted-append seen (x ++ y) z))
 
+-- the label on a tape, from its length and its place
+pub label-noted : (seen b arcs : List ℕ) (at tape n k : ℕ) → n ≡ getD arcs (labelPlace at tape) 0 → k ≡ labelPlace at tape
+    → b ≡ noted seen (map reading (part (k + 1) n arcs)) → b ≡ noted seen (labelAt tape at arcs)
+label-noted seen b arcs at tape n k e f g = g ∙ ap₂ (λ (i j : ℕ). noted seen (map reading (part (j + 1) i arcs))) e f
+
 -- no arc is left
 pub arcs-end : (first second from left : ℕ) (arcs seen : List ℕ) → left ≡ 0 → seen ≡ noted seen (symbolsFrom first second from left arcs)
 unfolding symbolsFrom noted
@@ -66,11 +72,11 @@ arcs-end first second from left arcs seen l = rw l
 
 module _ (arcs : List ℕ) (count first second : ℕ) (s : ShortLabels arcs count first second) (from left : ℕ) (h : 0 < left) (k : left ≤ count) (e : from + arcSize * left ≡ arcSize * count) where
   -- the label of an arc that is left, on the first tape, is short
-  pub short-first : getD arcs (from + labelsPlace + labelSize * first) 0 ≤ 8
+  pub short-first : getD arcs (labelPlace from first) 0 ≤ 8
   short-first = let p : arcSize * (count - left) ≡ from = omega arith in rw p at (s .first-short (count - left) (omega arith))
 
   -- and on the second
-  pub short-second : getD arcs (from + labelsPlace + labelSize * second) 0 ≤ 8
+  pub short-second : getD arcs (labelPlace from second) 0 ≤ 8
   short-second = let p : arcSize * (count - left) ≡ from = omega arith in rw p at (s .second-short (count - left) (omega arith))
 
 -- ---- the count
@@ -182,7 +188,7 @@ bytes-symbols first second at (suc n) arcs f =
     let x = labelAt first at arcs in
     let y = labelAt second at arcs in
     All-append (λ b. b < 256) (x ++ y) (symbolsFrom first second (at + arcSize) n arcs)
-    (All-append (λ b. b < 256) x y (bytes-part (at + symbolsPlace + labelSize * first) (getD arcs (at + labelsPlace + labelSize * first) 0) arcs f) (bytes-part (at + symbolsPlace + labelSize * second) (getD arcs (at + labelsPlace + labelSize * second) 0) arcs f))
+    (All-append (λ b. b < 256) x y (bytes-part (labelPlace at first + 1) (getD arcs (labelPlace at first) 0) arcs f) (bytes-part (labelPlace at second + 1) (getD arcs (labelPlace at second) 0) arcs f))
     (bytes-symbols first second (at + arcSize) n arcs f)
 
 -- the marks of the table are the different symbols, at most 256

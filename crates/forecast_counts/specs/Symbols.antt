@@ -4,15 +4,16 @@ use mathlib.Core.List.{List, [], _∷_, _++_, map}
 use lib.Dec.{eqb}
 use lib.ListN.{length, getD, set}
 use Rattle.table.specs.Region.{part}
+use Rattle.table.specs.Arcs.{labelPlace}
 use Rattle.automata.specs.Lists.{if}
 use Rattle.automata.specs.TapePair.{reading}
-use Rattle.automata.specs.Layout.{arcSize, labelSize, labelsPlace, symbolsPlace}
+use Rattle.automata.specs.Layout.{arcSize}
 
 -- ---- the labels
 
 -- the label of tape i, counted from 0, in the arc record at place at, as it is compared
 abbrev pub labelAt : ℕ → ℕ → List ℕ → List ℕ
-labelAt i at arcs = map reading (part (at + symbolsPlace + labelSize * i) (getD arcs (at + labelsPlace + labelSize * i) 0) arcs)
+labelAt i at arcs = map reading (part (labelPlace at i + 1) (getD arcs (labelPlace at i) 0) arcs)
 
 -- those of two tapes of n arcs from place at on, one after the other
 unfoldable pub symbolsFrom : ℕ → ℕ → ℕ → ℕ → List ℕ → List ℕ
@@ -25,8 +26,8 @@ pub record ShortLabels (arcs : List ℕ) (count first second : ℕ) : Type 0 whe
   pub lent : arcSize * count ≤ length arcs
   pub first-tape : first < 8
   pub second-tape : second < 8
-  pub first-short : (k : ℕ) → k < count → getD arcs (arcSize * k + labelsPlace + labelSize * first) 0 ≤ 8
-  pub second-short : (k : ℕ) → k < count → getD arcs (arcSize * k + labelsPlace + labelSize * second) 0 ≤ 8
+  pub first-short : (k : ℕ) → k < count → getD arcs (labelPlace (arcSize * k) first) 0 ≤ 8
+  pub second-short : (k : ℕ) → k < count → getD arcs (labelPlace (arcSize * k) second) 0 ≤ 8
 
 -- ---- the table of symbols seen
 

@@ -2,12 +2,11 @@
 
 use delays_relaxation::Edge;
 use delays_relaxation::edge_at;
+use table::arc::label_length_at;
+use table::arc::label_place;
 use table::bytes::get16;
 use table::layout::ARC_SIZE;
 use table::layout::DELAYS_SIZE;
-use table::layout::LABEL_SIZE;
-use table::layout::LABELS_PLACE;
-use table::layout::SYMBOLS_PLACE;
 use table::symbol::read_symbol;
 ghost use mathlib.Core.Path.{_≡_};
 ghost use mathlib.Core.Bool.{false};
@@ -20,9 +19,10 @@ ghost use Rattle.automata.specs.TapePair.{reading};
 ghost use Rattle.automata.specs.Explore.{insertAll};
 ghost use Rattle.automata.specs.Trim.{rank};
 ghost use Rattle.automata.specs.Forecast.{cappedSum};
-ghost use Rattle.automata.specs.Layout.{arcSize, delaysSize, labelSize, labelsPlace};
+ghost use Rattle.automata.specs.Layout.{arcSize, delaysSize};
 ghost use Rattle.delays_relaxation.specs.Edges.{edges, ReadableArcs};
 ghost use Rattle.table.specs.Region.{part};
+ghost use Rattle.table.specs.Arcs.{labelPlace};
 ghost use Rattle.forecast_counts.specs.Symbols.{labelAt, symbolsFrom, ShortLabels, noted, marked};
 ghost use Rattle.forecast_counts.specs.Counts.{onPathAt, marksFrom, endlessAt, bothAt, bothFrom, delaySize, arcOnPath, raised, greatestOf, cut};
 
@@ -193,11 +193,11 @@ fn note_bytes(seen: &mut [u8], bytes: &[u8], at: usize, count: usize)
 
 // The symbols of an arc's label on one tape are noted.
 fn note_label(seen: &mut [u8], arcs: &[u8], at: usize, tape: usize)
-    requires { ⌜ (length (now seen) ≡ 256) × (at + arcSize ≤ length (now arcs)) × (tape < 8) × (getD (now arcs) (at + labelsPlace + labelSize * tape) 0 ≤ 8) ⌝ }
+    requires { ⌜ (length (now seen) ≡ 256) × (at + arcSize ≤ length (now arcs)) × (tape < 8) × (getD (now arcs) (labelPlace at tape) 0 ≤ 8) ⌝ }
     ensures { λ _. ⌜ now (seen .exit) ≡ noted (now (seen .entry)) (labelAt tape at (now (arcs .entry))) ⌝ }
 {
-    let count = arcs[at + LABELS_PLACE + LABEL_SIZE * tape] as usize;
-    note_bytes(seen, arcs, at + SYMBOLS_PLACE + LABEL_SIZE * tape, count);
+    let count = label_length_at(arcs, at, tape) as usize;
+    note_bytes(seen, arcs, label_place(at, tape) + 1, count);
 }
 
 // Those of all labels on two tapes.

@@ -5,8 +5,9 @@ use mathlib.Core.Bool.{Bool, true, false, not}
 use mathlib.Core.List.{List, [], _∷_}
 use native.Mathlib.Omega.{arith}
 use lib.ListN.{length, getD}
-use Rattle.table.specs.Region.{part, splice}
-use Rattle.table.specs.Endian.{le, toLe}
+use Rattle.table.specs.Region.{splice}
+use Rattle.table.specs.Endian.{toLe}
+use Rattle.table.specs.Arcs.{targetAt}
 use Rattle.table.specs.Pairs.{noPair}
 use Rattle.table.specs.declared.record.InputState.{InputState}
 use Rattle.table.specs.declared.pair.PairList.{PairList}
@@ -25,7 +26,7 @@ pub record Filling (own arcs : List ℕ) (at : ℕ) (ps : PairList) (row : List 
 
 module _ (own arcs : List ℕ) (at : ℕ) (ps : PairList) (f : Followable (configAt 0 own) arcs at ps) (whole : length own ≡ rowSize) where
   -- the target is written, and no pair yet
-  pub filling-start : (row v : List ℕ) (q : ℕ) → q < 65536 → Row (ps .used) row → q ≡ le (part (at + 2) 2 arcs) → v ≡ splice 0 (toLe 2 q) row → Filling own arcs at ps v 0
+  pub filling-start : (row v : List ℕ) (q : ℕ) → q < 65536 → Row (ps .used) row → q ≡ targetAt at arcs → v ≡ splice 0 (toLe 2 q) row → Filling own arcs at ps v 0
   filling-start row v q h r e g =
       let w = state-written (ps .used) row v (record { 0 = q }) h r g in
       record {

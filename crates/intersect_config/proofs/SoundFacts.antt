@@ -15,15 +15,16 @@ use Rattle.automata.specs.Memory.{Memory, Sound, tableOf, zeros, labelRecord}
 use Rattle.automata.proofs.SoundFacts.{sound-well-formed, sound-holds}
 use Rattle.automata.proofs.RecordFacts.{All-at}
 use Rattle.automata.proofs.MemoryFacts.{arc-field, label-field, length-encodeArcs}
-use Rattle.automata.specs.Layout.{arcSize, labelSize, labelsPlace}
+use Rattle.automata.specs.Layout.{arcSize, targetPlace, labelSize, labelsPlace}
 use Rattle.automata.specs.Limits.{maxDelay}
 use Rattle.table.specs.Region.{part}
 use Rattle.table.specs.Endian.{le}
+use Rattle.table.specs.Arcs.{targetOf, labelPlace}
 use Rattle.table.specs.Pairs.{Named}
 use Rattle.table.specs.declared.pair.PairList.{PairList}
 use Rattle.intersect_config.specs.Leftovers.{outside}
 use Rattle.intersect_config.specs.Configs.{Config, GoodConfig}
-use Rattle.intersect_config.specs.Steps.{labelPlace, Reads, Followable}
+use Rattle.intersect_config.specs.Steps.{Reads, Followable}
 
 -- single places one after the other
 places-are : (xs : List ℕ) → writeAll (place .write) xs ≡ xs
@@ -60,13 +61,13 @@ module _ (m : Memory) (s : Sound m) (k : ℕ) (h : k < m .arcs) (d : Arc ℕ) wh
       let e : length (take (m .arcs * arcSize) (m .arcBytes)) ≡ length (tableOf m .arcs) * arcSize = ap length (t .arcBytes) ∙ length-encodeArcs (tableOf m) (sound-well-formed m s) in
       omega (arith, t .arcs, simp length-take at e)
 
-  arc-target : getD (tableOf m .arcs) k d .target ≡ le (part (arcSize * k + 2) 2 (m .arcBytes))
+  arc-target : getD (tableOf m .arcs) k d .target ≡ targetOf (m .arcBytes) k
   unfolding part
   arc-target =
       let a = getD (tableOf m .arcs) k d in
       let n : a .target < 65536 = omega (arith, arc-formed .target, sound-well-formed m s .counts .statesFit) in
-      let p : arcSize * k + 2 ≡ k * arcSize + 2 = omega arith in
-      let f : take 2 (drop (k * arcSize + 2) (m .arcBytes)) ≡ a .target % 256 ∷ a .target / 256 % 256 ∷ [] = arc-field m (tableOf m) (sound-well-formed m s) (sound-holds m s) k d h 2 2 (omega arith) in
+      let p : arcSize * k + targetPlace ≡ k * arcSize + targetPlace = omega arith in
+      let f : take 2 (drop (k * arcSize + targetPlace) (m .arcBytes)) ≡ a .target % 256 ∷ a .target / 256 % 256 ∷ [] = arc-field m (tableOf m) (sound-well-formed m s) (sound-holds m s) k d h targetPlace 2 (omega arith) in
       two-bytes (a .target) n ∙ ap le (sym f) ∙ ap (λ (j : ℕ). le (take 2 (drop j (m .arcBytes)))) (sym p)
 
   module _ (i : ℕ) (l : i < m .tapes) where

@@ -15,7 +15,7 @@ use Rattle.automata.specs.Leftover as automata
 use Rattle.automata.specs.Config.{advanceAll}
 use Rattle.automata.proofs.ListFacts.{map-append}
 use Rattle.table.specs.Region.{part}
-use Rattle.table.specs.Endian.{le}
+use Rattle.table.specs.Arcs.{targetAt, labelPlace}
 use Rattle.table.specs.Pairs.{pairAs, noPair, Within}
 use Rattle.table.proofs.PairFacts.{length-front, named-all}
 use Rattle.table.specs.declared.pair.Pair.{Pair}
@@ -25,14 +25,14 @@ use Rattle.intersect_config.specs.declared.leftover.Leftover.{Leftover}
 use Rattle.intersect_config.specs.declared.leftover.Advanced.{Advanced}
 use Rattle.intersect_config.specs.Leftovers.{leftoverAs, labelOf, blank, outside, Good, advancedAs, Advances}
 use Rattle.intersect_config.specs.Configs.{Config, GoodConfig, Starts}
-use Rattle.intersect_config.specs.Steps.{labelPlace, labelAt, readTo, readLabel, pairAfter, Reads, Followable, Follows}
+use Rattle.intersect_config.specs.Steps.{labelAt, readTo, readLabel, pairAfter, Reads, Followable, Follows}
 use Rattle.intersect_config.proofs.ListFacts.{drop-replicate, All-set}
 
 -- ---- the labels in a record
-pub label-loaded : (at tape : ℕ) (xs y : List ℕ) → y ≡ part (labelPlace at (tape - 1) + 1) 8 xs
-    → _≡_ {A = Label} (record { len = getD xs (labelPlace at (tape - 1)) 0; symbols = y }) (labelAt at tape xs)
+pub label-loaded : (at tape : ℕ) (xs y : List ℕ) (k n : ℕ) → k ≡ labelPlace at (tape - 1) → n ≡ getD xs (labelPlace at (tape - 1)) 0 → y ≡ part (k + 1) 8 xs
+    → _≡_ {A = Label} (record { len = n; symbols = y }) (labelAt at tape xs)
 unfolding labelAt
-label-loaded at tape xs y e = rw e
+label-loaded at tape xs y k n d f e = rw (f, e, d)
 
 pub label-length : (at tape : ℕ) (xs : List ℕ) (l : Label) → l ≡ labelAt at tape xs → getD xs (labelPlace at (tape - 1)) 0 ≤ 8 → l .len ≤ 8
 unfolding labelAt
@@ -147,7 +147,7 @@ still arcs at c ps i = allAfter at arcs (drop i (take (ps .used) (ps .pairs))) (
 pub record Progress (arcs : List ℕ) (at : ℕ) (c : Config) (ps : PairList) (next : Config) (i : ℕ) : Type 0 where
   pub within : i ≤ ps .used
   pub good : GoodConfig i next
-  pub target : next .state .0 ≡ le (part (at + 2) 2 arcs)
+  pub target : next .state .0 ≡ targetAt at arcs
   pub rest : before (map leftoverAs (take i (next .leftovers))) (still arcs at c ps i)
       ≡ allAfter at arcs (take (ps .used) (ps .pairs)) (take (ps .used) (c .leftovers))
 
@@ -165,7 +165,7 @@ good-next c i l h g k =
     }
 
 module _ (arcs : List ℕ) (at : ℕ) (c : Config) (ps : PairList) (f : Followable c arcs at ps) where
-  pub progress-start : (q : ℕ) (next : Config) → q ≡ le (part (at + 2) 2 arcs) → Starts q next → Progress arcs at c ps next 0
+  pub progress-start : (q : ℕ) (next : Config) → q ≡ targetAt at arcs → Starts q next → Progress arcs at c ps next 0
   progress-start q next e s = record { within = omega arith; good = s .good 0; target = ap (λ d. d .state) (s .meaning [] (omega arith)) ∙ e; rest = before-nil _ }
 
   module _ (next : Config) (i : ℕ) (r : Progress arcs at c ps next i) (h : i < ps .used) (b : Advanced)

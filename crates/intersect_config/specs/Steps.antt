@@ -10,10 +10,10 @@ use Rattle.automata.specs.Automaton.{Arc, labelOn}
 use Rattle.automata.specs.TapePair.{reading}
 use Rattle.automata.specs.Leftover as leftover
 use Rattle.automata.specs.Config as automata
-use Rattle.automata.specs.Layout.{arcSize, labelSize, labelsPlace}
+use Rattle.automata.specs.Layout.{arcSize}
 use Rattle.automata.specs.Limits.{maxDelay}
 use Rattle.table.specs.Region.{part, splice}
-use Rattle.table.specs.Endian.{le}
+use Rattle.table.specs.Arcs.{targetAt, labelPlace}
 use Rattle.table.specs.Pairs.{Named, Within, noPair, pairsAs}
 use Rattle.table.specs.declared.record.Label.{Label}
 use Rattle.table.specs.declared.pair.Pair.{Pair}
@@ -21,10 +21,6 @@ use Rattle.table.specs.declared.pair.PairList.{PairList}
 use Rattle.intersect_config.specs.declared.leftover.Leftover.{Leftover}
 use Rattle.intersect_config.specs.Leftovers.{outside, leftoverAs, labelOf, leftoverBytes, leftoverAt, Advances}
 use Rattle.intersect_config.specs.Configs.{Config, configAs, GoodConfig, configAt, configBytes, slot, rowSize}
-
--- where the label on a tape, counted from 0, stands in the record of an arc
-abbrev pub labelPlace : ℕ → ℕ → ℕ
-labelPlace at i = at + labelsPlace + labelSize * i
 
 -- the label on a tape, counted from 1, in the record of an arc
 unfoldable pub labelAt : ℕ → ℕ → List ℕ → Label
@@ -49,7 +45,7 @@ pairAfter at arcs p l =
 pub record Reads (arcs : List ℕ) (at tapes : ℕ) (a : Arc ℕ) : Type 0 where
   pub whole : at + arcSize ≤ length arcs
   pub tapes-fit : tapes ≤ 8
-  pub target : a .target ≡ le (part (at + 2) 2 arcs)
+  pub target : a .target ≡ targetAt at arcs
   pub label : (i : ℕ) → i < tapes → labelOn i a ≡ take (getD arcs (labelPlace at i) 0) (part (labelPlace at i + 1) 8 arcs)
   pub label-fits : (i : ℕ) → i < tapes → getD arcs (labelPlace at i) 0 ≤ 8
 

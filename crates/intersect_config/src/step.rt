@@ -2,10 +2,11 @@
 ghost use mathlib.Core.Path.{_≡_};
 ghost use Prim.Native.Nat.{_+_, _-_, _≤_};
 ghost use lib.ListN.{length, getD};
+ghost use Rattle.table.specs.Arcs.{labelPlace};
 ghost use Rattle.table.specs.Pairs.{Within};
 ghost use Rattle.intersect_config.specs.Leftovers.{Advances, leftoverAt};
 ghost use Rattle.intersect_config.specs.Configs.{configAt, slot, Row, rowSize};
-ghost use Rattle.intersect_config.specs.Steps.{labelPlace, labelAt, readLabel, pairAfter, Advanceable, AdvancesAt, Followable, FollowsIn};
+ghost use Rattle.intersect_config.specs.Steps.{labelAt, readLabel, pairAfter, Advanceable, AdvancesAt, Followable, FollowsIn};
 ghost use Rattle.automata.specs.Layout.{arcSize};
 ghost use Rattle.automata.specs.Limits.{maxDelay};
 use crate::leftover::Advanced;
@@ -14,11 +15,11 @@ use crate::leftover::Leftover;
 use crate::leftover::advance;
 use crate::leftover::load_leftover;
 use crate::leftover::store_leftover;
+use table::arc::label_length_at;
+use table::arc::label_place;
+use table::arc::target_at;
 use table::bytes::copy_into;
-use table::bytes::get16;
 use table::bytes::put16;
-use table::layout::LABEL_SIZE;
-use table::layout::LABELS_PLACE;
 use table::pair::Pair;
 use table::pair::PairList;
 use table::record::Label;
@@ -29,12 +30,12 @@ pub fn label_at(arcs: &[u8], at: usize, tape: u8) -> Label
     requires { ⌜ (at + arcSize ≤ length (now arcs)) × ((1 ≤ tape) × (tape ≤ 8)) ⌝ }
     ensures { λ r. ⌜ r ≡ labelAt at tape (now (arcs .entry)) ⌝ }
 {
-    let place = at + LABELS_PLACE + LABEL_SIZE * (tape as usize - 1);
-    let from = place + 1;
+    let index = tape as usize - 1;
+    let from = label_place(at, index) + 1;
     let mut symbols = [0u8; 8];
     copy_into(&mut symbols, 0, &arcs[from..from + 8]);
     Label {
-        len: arcs[place],
+        len: label_length_at(arcs, at, index),
         symbols,
     }
 }
@@ -94,7 +95,7 @@ pub fn follow(own: &[u8], arcs: &[u8], at: usize, pairs: PairList, row: &mut [u8
     requires { ⌜ Followable (configAt 0 (now own)) (now arcs) at pairs × (length (now own) ≡ rowSize) × Row (pairs .used) (now row) ⌝ }
     ensures { λ r. ⌜ FollowsIn (now (own .entry)) (now (arcs .entry)) at pairs r (now (row .exit)) ⌝ }
 {
-    let target = get16(arcs, at + 2);
+    let target = target_at(arcs, at).0;
     put16(row, 0, target);
     let mut i = 0;
     while i < pairs.used {

@@ -28,7 +28,8 @@ use Rattle.table.specs.Answers.{lent}
 use Rattle.search_chains.proofs.Meaning.{code-at}
 use Rattle.search_rows.proofs.SearchFacts.{noted-longer}
 use Rattle.table.proofs.RegionFacts.{length-part}
-use Rattle.table_adjacency.specs.Chains.{sourceIn, Chained}
+use Rattle.table.specs.Arcs.{sourceOf}
+use Rattle.table_adjacency.specs.Chains.{Chained}
 use Rattle.table_adjacency.proofs.ChainFacts.{First, first-arc, next-arc}
 use Rattle.intersect_config.specs.Leftovers.{outside}
 use Rattle.intersect_config.specs.Configs.{Config, configAs, GoodConfig, configBytes, configAt, rowSize}
@@ -104,7 +105,7 @@ pub record Turning (p : Plan) (h : Head) (arcs : List ℕ) (v : List ℕ) (g : H
 -- the first j arcs were looked at for the configuration d, and the next one, where there is one, leaves its state
 pub record Chaining (p : Plan) (h : Head) (arcs : List ℕ) (v : List ℕ) (d : Config) (g : Head) (w : List ℕ) (j : ℕ) : Type 0 where
   pub turning : Turning p h arcs v g w j
-  pub leaves : j < p .counts .arcs → sourceIn arcs j ≡ d .state .0
+  pub leaves : j < p .counts .arcs → sourceOf arcs j ≡ d .state .0
 
 module _ (p : Plan) (h : Head) (arcs : List ℕ) (v : List ℕ) (q : Takable p h arcs v) where
   -- the configuration that is taken up
@@ -221,11 +222,11 @@ module _ (p : Plan) (h : Head) (arcs : List ℕ) (v : List ℕ) (q : Takable p h
         }
 
       -- an arc that leaves another state is passed over
-      turn-skip : j < p .counts .arcs → (sourceIn arcs j ≡ d .state .0 → ⊥) → Turning p h arcs v g w (j + 1)
+      turn-skip : j < p .counts .arcs → (sourceOf arcs j ≡ d .state .0 → ⊥) → Turning p h arcs v g w (j + 1)
       turn-skip b n =
           let y = turn-requires b in
           let m : Offerable p d arcs j w = record { states = y .states; explorable = y .explorable; good = y .good; short = y .short; arc-fits = b } in
-          turn-next b g w (visits-nothing p g d arcs j w y _ (offers-away p d arcs j w m (sourceIn arcs j) d (y .good) refl n) refl) (y .holds .not-full)
+          turn-next b g w (visits-nothing p g d arcs j w y _ (offers-away p d arcs j w m (sourceOf arcs j) d (y .good) refl n) refl) (y .holds .not-full)
 
       -- all arcs were looked at
       pub turn-end : p .counts .arcs ≤ j → TakesUp p h arcs v (record { taken = g .taken + 1; reached = g .reached; arcs = g .arcs; late = g .late; full = g .full }) w
@@ -272,7 +273,7 @@ module _ (p : Plan) (h : Head) (arcs : List ℕ) (v : List ℕ) (q : Takable p h
         subst (λ (z : Config). z .state .0 < p .counts .states) (sym f) (m .state-fits)
 
     -- arcs that leave other states are passed over
-    turn-pass : (g : Head) (w : List ℕ) (n j k : ℕ) → j + n ≡ k → k ≤ p .counts .arcs → ((i : ℕ) → j ≤ i → i < k → sourceIn arcs i ≡ d .state .0 → ⊥)
+    turn-pass : (g : Head) (w : List ℕ) (n j k : ℕ) → j + n ≡ k → k ≤ p .counts .arcs → ((i : ℕ) → j ≤ i → i < k → sourceOf arcs i ≡ d .state .0 → ⊥)
         → Turning p h arcs v g w j → Turning p h arcs v g w k
     turn-pass g w zero j k e b f t = let z : j ≡ k = omega arith in subst (Turning p h arcs v g w) z t
     turn-pass g w (suc n) j k e b f t =
@@ -294,7 +295,7 @@ module _ (p : Plan) (h : Head) (arcs : List ℕ) (v : List ℕ) (q : Takable p h
       chain-begin k e = rw e chain-start
 
       -- the next arc stands behind
-      pub chain-goes : (j : ℕ) → j < p .counts .arcs → sourceIn arcs j ≡ d .state .0 → j < getD next j 0
+      pub chain-goes : (j : ℕ) → j < p .counts .arcs → sourceOf arcs j ≡ d .state .0 → j < getD next j 0
       chain-goes j b e = let f = next-arc (p .counts .states) (p .counts .arcs) arcs first next x (d .state .0) j b e .behind in omega (arith, f)
 
       -- and, after a visit, the next

@@ -22,6 +22,7 @@ use Rattle.automata.proofs.SoundFacts.{sound-well-formed, sound-holds}
 use Rattle.automata.specs.Layout.{arcSize, delaysSize}
 use Rattle.table.specs.Region.{part}
 use Rattle.table.specs.Endian.{le}
+use Rattle.table.specs.Arcs.{sourceAt, sourceOf}
 use Rattle.table.specs.Answers.{lent}
 use Rattle.table.specs.Pairs.{pairAs, pairsAs}
 use Rattle.delays_relaxation.proofs.TableFacts.{source-is}
@@ -77,9 +78,9 @@ module _ (p : Plan) (states arcs : List ℕ) (size : ℕ) (x : Explorable p stat
     pub arc-reads : Reads arcs (arcSize * j) (p .counts .tapes) a
     arc-reads = subst (Reads arcs (arcSize * j) (p .counts .tapes)) arc-there (reads-arc m (x .sound) j arc-within (record { source = 0; target = 0; weight = 0; labels = [] }))
 
-    pub arc-source : a .source ≡ le (part (arcSize * j) 2 arcs)
+    pub arc-source : a .source ≡ sourceOf arcs j
     arc-source = ap (λ (b : Arc ℕ). b .source) (sym arc-there) ∙ sym (source-is m (tableOf m) (sound-well-formed m (x .sound)) (sound-holds m (x .sound)) j arc-within)
-        ∙ ap (λ (k : ℕ). le (part k 2 arcs)) (omega arith)
+        ∙ ap (λ (k : ℕ). sourceAt k arcs) (omega arith)
 
     arc-well-formed : WellFormedArc (tableOf m .tapes) (length (tableOf m .states)) a
     arc-well-formed = subst (WellFormedArc (tableOf m .tapes) (length (tableOf m .states))) arc-there
@@ -123,7 +124,7 @@ module _ (p : Plan) (c : Config) (arcs : List ℕ) (j : ℕ) (w : List ℕ) (o :
       (λ h l. let s = o .short h l in omega (arith, s))
 
   -- the definition, where the arc leaves another state
-  pub offers-away : (x : ℕ) (d : Config) → GoodConfig used d → x ≡ le (part (arcSize * j) 2 arcs) → (x ≡ c .state .0 → ⊥) → Offers p c arcs j w (record { kind = Nothing; config = d })
+  pub offers-away : (x : ℕ) (d : Config) → GoodConfig used d → x ≡ sourceOf arcs j → (x ≡ c .state .0 → ⊥) → Offers p c arcs j w (record { kind = Nothing; config = d })
   unfolding offer
   offers-away x d q e n = record {
     good = q;
@@ -134,7 +135,7 @@ module _ (p : Plan) (c : Config) (arcs : List ℕ) (j : ℕ) (w : List ℕ) (o :
         sym (ap (λ (b : Bool). if b (offerTo (pairsIn p) (viableIn p states arcs) (automata.follow (pairsIn p) (configAs used c) a)) nothing) f);
   }
 
-  module _ (x : ℕ) (e : x ≡ le (part (arcSize * j) 2 arcs)) (n : x ≡ c .state .0) (r : Followed) (f : Follows c arcs (arcSize * j) (p .pairs) r) where
+  module _ (x : ℕ) (e : x ≡ sourceOf arcs j) (n : x ≡ c .state .0) (r : Followed) (f : Follows c arcs (arcSize * j) (p .pairs) r) where
     -- the definition, by the configuration after the arc
     offer-to : (states : List ℕ) (a : Arc ℕ) → Explorable p states arcs (length w) → getElem? (tableIn p states arcs .arcs) j ≡ some a
         → offerTo (pairsIn p) (viableIn p states arcs) (followedAs used r) ≡ offer (pairsIn p) (viableIn p states arcs) (configAs used c) a

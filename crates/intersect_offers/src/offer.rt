@@ -11,6 +11,7 @@ use intersect_config::config::first_lengths;
 use intersect_config::config::second_lengths;
 use intersect_config::config::too_long;
 use intersect_config::step::follow;
+use table::arc::source_at;
 use table::bytes::get16;
 use table::layout::ARC_SIZE;
 use table::record::InputState;
@@ -42,7 +43,7 @@ pub fn offer(plan: Plan, own: &[u8], arcs: &[u8], j: usize, work: &[u8], row: &m
     ensures { λ r. ⌜ OffersIn plan (now (own .entry)) (now (arcs .entry)) j (now (work .entry)) r (now (row .exit)) ⌝ }
 {
     let at = ARC_SIZE * j;
-    if get16(arcs, at) != get16(own, 0) {
+    if source_at(arcs, at).0 != get16(own, 0) {
         return Kind::Nothing;
     }
     let pairs = plan.pairs;

@@ -106,9 +106,9 @@ module _ (m : Memory) (s : Sound m) where
     behind-model : part (arcSize * j + contentPlace) contentSize (m .arcBytes) ≡ behind (A .tapes) a
     unfolding part
     behind-model =
-        let z : arcSize * j + 4 ≡ j * arcSize + 4 = omega arith in
+        let z : arcSize * j + contentPlace ≡ j * arcSize + contentPlace = omega arith in
         let d : getD (A .arcs) j a ≡ a = ListFacts.place-default (A .arcs) j a stands in
-        ap (λ (k : ℕ). take contentSize (drop k (m .arcBytes))) z ∙ arc-field m A t h j a (omega (arith, h .arcs, l)) 4 contentSize (omega arith)
+        ap (λ (k : ℕ). take contentSize (drop k (m .arcBytes))) z ∙ arc-field m A t h j a (omega (arith, h .arcs, l)) contentPlace contentSize (omega arith)
         ∙ ap (λ (x : Arc ℕ). take contentSize (behind (A .tapes) x)) d ∙ take-all contentSize (behind (A .tapes) a) (omega (arith, length-behind))
 
   -- the records of the edges' arcs stand in the bytes

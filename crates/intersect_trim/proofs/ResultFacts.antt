@@ -103,19 +103,17 @@ pub length-arc : (ranks inputs : List ℕ) (e : EdgeRecord) → arcSize * e .arc
 unfolding arcBytes
 length-arc ranks inputs e h = let l = length-part (arcSize * e .arc + contentPlace) contentSize inputs (omega arith) in omega arith
 
--- a record written number by number
-pub arc-stored : (ranks inputs : List ℕ) (e : EdgeRecord) (to place : ℕ) (out out1 out2 out3 : List ℕ) → arcSize * e .arc + arcSize ≤ length inputs → to + arcSize ≤ length out
-    → out1 ≡ splice to (toLe 2 (getD ranks (e .from .0) 0)) out → out2 ≡ splice (to + 2) (toLe 2 (getD ranks (e .to .0) 0)) out1 → place ≡ arcSize * e .arc + 4
-    → out3 ≡ splice (to + 4) (take (place + contentSize - place) (drop place inputs)) out2 → out3 ≡ splice to (arcBytes ranks inputs e) out
-unfolding arcBytes part
-arc-stored ranks inputs e to place out out1 out2 out3 h k a b p c =
+-- a record written in two parts
+pub arc-stored : (ranks inputs : List ℕ) (e : EdgeRecord) (to : ℕ) (out out1 out2 : List ℕ) → arcSize * e .arc + arcSize ≤ length inputs → to + arcSize ≤ length out
+    → out1 ≡ splice to (toLe 2 (getD ranks (e .from .0) 0) ++ toLe 2 (getD ranks (e .to .0) 0)) out
+    → out2 ≡ splice (to + contentPlace) (part (arcSize * e .arc + contentPlace) contentSize inputs) out1 → out2 ≡ splice to (arcBytes ranks inputs e) out
+unfolding arcBytes
+arc-stored ranks inputs e to out out1 out2 h k a b =
     let x = toLe 2 (getD ranks (e .from .0) 0) in
     let y = toLe 2 (getD ranks (e .to .0) 0) in
     let z = part (arcSize * e .arc + contentPlace) contentSize inputs in
     let l : length z ≡ contentSize = length-part (arcSize * e .arc + contentPlace) contentSize inputs (omega arith) in
-    let n : place + contentSize - place ≡ contentSize = omega arith in
-    let d : out3 ≡ splice (to + 4) z out2 = c ∙ ap₂ (λ (i j : ℕ). splice (to + 4) (take i (drop j inputs)) out2) n p in
-    splice-behind to (to + 4) (x ++ y) z out out2 out3 (splice-behind to (to + 2) x y out out1 out2 a b (omega arith) (omega arith)) d (omega arith) (omega arith)
+    splice-behind to (to + contentPlace) (x ++ y) z out out1 out2 a b (omega arith) (omega arith)
 
 module _ (marks ranks inputs : List ℕ) (e : EdgeRecord) (to : ℕ) (out : List ℕ) where
   -- an edge from a configuration that is not marked, to one that is not, and one between marked ones

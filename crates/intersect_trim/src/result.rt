@@ -3,13 +3,14 @@ use crate::final_marks::record_place;
 use crate::final_marks::row_plain;
 use intersect_edges::edge::EdgeRecord;
 use intersect_edges::edge::load_edge;
+use table::arc::copy_content;
+use table::arc::store_ends;
 use table::bytes::copy_into;
-use table::bytes::put16;
 use table::layout::ARC_SIZE;
 use table::layout::CONFIG_SIZE;
-use table::layout::CONTENT_SIZE;
 use table::layout::STATE_SIZE;
 use table::layout::STEP_SIZE;
+use table::record::ResultState;
 ghost use mathlib.Core.Path.{_≡_};
 ghost use Prim.Native.Nat.{_+_, _*_, _≤_, _<_};
 ghost use lib.ListN.{length, take};
@@ -69,10 +70,10 @@ fn store_arc(e: EdgeRecord, ranks: &[u16], inputs: &[u8], out: &mut [u8], to: us
     requires { ⌜ (e .from .0 < length (now ranks)) × (e .to .0 < length (now ranks)) × (arcSize * e .arc + arcSize ≤ length (now inputs)) × (to + arcSize ≤ length (now out)) ⌝ }
     ensures { λ _. ⌜ now (out .exit) ≡ splice to (arcBytes (now (ranks .entry)) (now (inputs .entry)) e) (now (out .entry)) ⌝ }
 {
-    put16(out, to, ranks[e.from.0 as usize]);
-    put16(out, to + 2, ranks[e.to.0 as usize]);
-    let place = ARC_SIZE * e.arc as usize + 4;
-    copy_into(out, to + 4, &inputs[place..place + CONTENT_SIZE]);
+    let source = ResultState(ranks[e.from.0 as usize]);
+    let target = ResultState(ranks[e.to.0 as usize]);
+    store_ends(out, to, source, target);
+    copy_content(inputs, ARC_SIZE * e.arc as usize, out, to);
 }
 
 // The record of an arc if both its ends are marked. Answers how many were written.

@@ -19,7 +19,8 @@ use Rattle.product_search.specs.declared.plan.Plan.{Plan}
 use Rattle.product_search.specs.declared.head.Head.{Head}
 use Rattle.product_search.specs.Vertices.{ended, placeNumber, vertexOf}
 use Rattle.product_search.specs.Moves.{by-both}
-use Rattle.table_adjacency.specs.Chains.{sourceIn, inChain, FirstIn, firstFor}
+use Rattle.table.specs.Arcs.{sourceOf}
+use Rattle.table_adjacency.specs.Chains.{inChain, FirstIn, firstFor}
 use Rattle.table_adjacency.proofs.ChainFacts.{first-for, next-for}
 use Rattle.product_search.specs.Reading.{ArcsLent, ReadsArcs, LinkedArcs, chainedArcs, chainedOnly}
 use Rattle.product_search.specs.Searching.{Step, Notes, Ready, Grows, outBy, onSecond, PassesSecond, Indexed, TriesBoth, PassesBoth}
@@ -102,7 +103,7 @@ module _ (p : Plan) (h : Head) (c : Vertex) (a1 n1 a2 n2 : List ℕ) (v : List �
   -- and the next one, where there is one, is in the chain of the first side's place
   pub record PassingBoth (g : Head) (w : List ℕ) (i : ℕ) : Type 0 where
     pub turned : TurnedBoth g w i
-    pub leaves : i < p .first .arcs → (inChain n1 i ≡ true) × (sourceIn a1 i ≡ c .first .0)
+    pub leaves : i < p .first .arcs → (inChain n1 i ≡ true) × (sourceOf a1 i ≡ c .first .0)
 
 module _ (p : Plan) (h : Head) (c : Vertex) (a1 f1 n1 a2 f2 n2 : List ℕ) (v : List ℕ) (q : Ready p h 67108864 (length v)) (lent-first : ArcsLent (p .first) a1) (lent-second : ArcsLent (p .second) a2)
     (indexed : Indexed p a1 f1 n1 a2 f2 n2) where

@@ -16,7 +16,8 @@ use Rattle.automata.specs.Product.{both, afterFirst, afterSecond, allBoth, allA
 use Rattle.automata.specs.Layout.{arcSize}
 use Rattle.table.specs.declared.answer.Counts.{Counts}
 use Rattle.table.specs.Records.{arcAs, arcAt}
-use Rattle.table_adjacency.specs.Chains.{sourceIn, inChain, FirstIn, firstFor}
+use Rattle.table.specs.Arcs.{sourceOf}
+use Rattle.table_adjacency.specs.Chains.{inChain, FirstIn, firstFor}
 use Rattle.table_adjacency.proofs.ChainFacts.{first-for, next-for}
 use Rattle.product_search.specs.declared.vertex.Vertex.{Vertex}
 use Rattle.product_search.specs.declared.plan.Plan.{Plan}
@@ -37,7 +38,7 @@ module _ (counts : Counts) (first next : List ℕ) (x : ℕ) where
   pub record Counting (d j : ℕ) : Type 0 where
     pub within : j ≤ counts .arcs
     pub few : d ≤ j
-    pub leaves : (arcs : List ℕ) → LinkedArcs counts arcs first next → j < counts .arcs → (inChain next j ≡ true) × (sourceIn arcs j ≡ x)
+    pub leaves : (arcs : List ℕ) → LinkedArcs counts arcs first next → j < counts .arcs → (inChain next j ≡ true) × (sourceOf arcs j ≡ x)
     pub meaning : StepsTo d j
 
 module _ (counts : Counts) (first next : List ℕ) (x : ℕ) (w : Walkable counts first next) where

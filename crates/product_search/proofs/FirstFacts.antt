@@ -17,7 +17,8 @@ use Rattle.product_search.specs.declared.plan.Plan.{Plan}
 use Rattle.product_search.specs.declared.head.Head.{Head}
 use Rattle.product_search.specs.Vertices.{ended, placeNumber}
 use Rattle.product_search.specs.Moves.{noArc}
-use Rattle.table_adjacency.specs.Chains.{sourceIn, inChain, FirstIn, firstFor}
+use Rattle.table.specs.Arcs.{sourceOf}
+use Rattle.table_adjacency.specs.Chains.{inChain, FirstIn, firstFor}
 use Rattle.table_adjacency.proofs.ChainFacts.{first-for, next-for}
 use Rattle.product_search.specs.Reading.{ArcsLent, LinkedArcs, chainedArcs, chainedOnly}
 use Rattle.product_search.specs.Searching.{Notes, Ready, Grows, Arrives, outBy, onFirst, ByFirst, TriesFirst, PassesFirst}
@@ -81,7 +82,7 @@ module _ (p : Plan) (h : Head) (c : Vertex) (arcs next : List ℕ) (v : List ℕ
   -- and the next one, where there is one, is in the chain of the first side's place
   pub record PassingFirst (g : Head) (w : List ℕ) (i : ℕ) : Type 0 where
     pub turned : TurnedFirst g w i
-    pub leaves : i < p .first .arcs → (inChain next i ≡ true) × (sourceIn arcs i ≡ c .first .0)
+    pub leaves : i < p .first .arcs → (inChain next i ≡ true) × (sourceOf arcs i ≡ c .first .0)
 
 module _ (p : Plan) (h : Head) (c : Vertex) (arcs first next : List ℕ) (v : List ℕ) (q : Ready p h 8192 (length v)) (lent : ArcsLent (p .first) arcs)
     (linked : LinkedArcs (p .first) arcs first next) where

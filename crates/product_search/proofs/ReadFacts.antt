@@ -26,8 +26,8 @@ use Rattle.table.proofs.RecordFacts.{weight-absent, weight-present}
 use Rattle.product_search.specs.declared.plan.Plan.{Plan}
 use Rattle.product_search.specs.declared.head.Head.{Head}
 use Rattle.product_search.specs.Vertices.{placeNumber}
-use Rattle.table_adjacency.specs.Chains.{sourceIn, inChain}
-use Rattle.table_adjacency.specs.Distinct.{targetIn}
+use Rattle.table.specs.Arcs.{sourceOf, targetOf}
+use Rattle.table_adjacency.specs.Chains.{inChain}
 use Rattle.product_search.specs.Reading.{ReadsArcs, chainedArcs, chainedOnly}
 use Rattle.product_search.specs.Searching.{Step, Notes, outBy}
 use Rattle.product_search.proofs.NoteFacts.{notes-none, notes-then, notes-full, notes-same}
@@ -64,7 +64,7 @@ target-at at bytes = refl
 
 -- the source of an arc that was read is that in its record
 pub at-source : (counts : Counts) (bytes : List ℕ) (A : Automaton ℕ) → ReadsArcs counts bytes A → (i : ℕ) (a : Arc ℕ) → i < counts .arcs → getElem? (A .arcs) i ≡ some a
-    → sourceIn bytes i ≡ a .source
+    → sourceOf bytes i ≡ a .source
 at-source counts bytes A k i a b e =
     let z : some (arcAs (counts .tapes) (arcAt (arcSize * i) bytes)) ≡ some a = sym (k .loaded i b) ∙ e in
     let x : arcAs (counts .tapes) (arcAt (arcSize * i) bytes) ≡ a = cc in
@@ -72,7 +72,7 @@ at-source counts bytes A k i a b e =
 
 -- and so is its target
 pub at-target : (counts : Counts) (bytes : List ℕ) (A : Automaton ℕ) → ReadsArcs counts bytes A → (i : ℕ) (a : Arc ℕ) → i < counts .arcs → getElem? (A .arcs) i ≡ some a
-    → targetIn bytes i ≡ a .target
+    → targetOf bytes i ≡ a .target
 at-target counts bytes A k i a b e =
     let z : some (arcAs (counts .tapes) (arcAt (arcSize * i) bytes)) ≡ some a = sym (k .loaded i b) ∙ e in
     let x : arcAs (counts .tapes) (arcAt (arcSize * i) bytes) ≡ a = cc in

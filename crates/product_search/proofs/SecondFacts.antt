@@ -16,7 +16,8 @@ use Rattle.product_search.specs.declared.vertex.Vertex.{Vertex}
 use Rattle.product_search.specs.declared.plan.Plan.{Plan}
 use Rattle.product_search.specs.declared.head.Head.{Head}
 use Rattle.product_search.specs.Vertices.{ended, placeNumber}
-use Rattle.table_adjacency.specs.Chains.{sourceIn, inChain, FirstIn, firstFor}
+use Rattle.table.specs.Arcs.{sourceOf}
+use Rattle.table_adjacency.specs.Chains.{inChain, FirstIn, firstFor}
 use Rattle.table_adjacency.proofs.ChainFacts.{first-for, next-for}
 use Rattle.product_search.specs.Reading.{ArcsLent, LinkedArcs, chainedArcs, chainedOnly}
 use Rattle.product_search.specs.Searching.{Notes, Ready, Grows, Arrives, outBy, onSecond, BySecond, TriesSecond, PassesSecond}
@@ -80,7 +81,7 @@ module _ (p : Plan) (h : Head) (c : Vertex) (i to : ℕ) (arcs next : List ℕ) 
   -- and the next one, where there is one, is in the chain of the second side's place
   pub record PassingSecond (g : Head) (w : List ℕ) (j : ℕ) : Type 0 where
     pub turned : TurnedSecond g w j
-    pub leaves : j < p .second .arcs → (inChain next j ≡ true) × (sourceIn arcs j ≡ c .second .0)
+    pub leaves : j < p .second .arcs → (inChain next j ≡ true) × (sourceOf arcs j ≡ c .second .0)
 
 module _ (p : Plan) (h : Head) (c : Vertex) (i to : ℕ) (arcs first next : List ℕ) (v : List ℕ) (q : Ready p h 8192 (length v)) (lent : ArcsLent (p .second) arcs)
     (linked : LinkedArcs (p .second) arcs first next) where

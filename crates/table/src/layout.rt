@@ -15,9 +15,6 @@ pub const CONTENT_PLACE: usize = 4;
 
 pub const LABELS_PLACE: usize = 8;
 
-// Where the symbols of the first label stand.
-pub const SYMBOLS_PLACE: usize = 9;
-
 // A label: its length and eight symbols.
 pub const LABEL_SIZE: usize = 9;
 

@@ -10,19 +10,20 @@ use lib.ListN.{length, getD, set, replicate, length-set, length-replicate, getD-
 use lib.Seq.{getD-set-same, getD-set-other}
 use borrow.Author.Tests.{eq-eqb, ne-eqb, eqb-true, eqb-false, lt-ltb, le-ltb, ltb-true, ltb-false}
 use Rattle.automata.specs.Lists.{if}
-use Rattle.table_adjacency.specs.Chains.{sourceIn, chain, firstOr, ChainedFrom, Chained, Chainable, inChain, FirstIn, Linked, Heads, firstFor}
+use Rattle.table.specs.Arcs.{sourceOf}
+use Rattle.table_adjacency.specs.Chains.{chain, firstOr, ChainedFrom, Chained, Chainable, inChain, FirstIn, Linked, Heads, firstFor}
 
 -- ---- a chain with one arc more
 
 -- an arc that leaves the state
-chain-here : (arcs : List ℕ) (q k n : ℕ) → sourceIn arcs k ≡ q → chain arcs q k (suc n) ≡ k ∷ chain arcs q (k + 1) n
+chain-here : (arcs : List ℕ) (q k n : ℕ) → sourceOf arcs k ≡ q → chain arcs q k (suc n) ≡ k ∷ chain arcs q (k + 1) n
 unfolding chain
-chain-here arcs q k n e = ap (λ (b : Bool). if b (k ∷ chain arcs q (k + 1) n) (chain arcs q (k + 1) n)) (eq-eqb (sourceIn arcs k) q e)
+chain-here arcs q k n e = ap (λ (b : Bool). if b (k ∷ chain arcs q (k + 1) n) (chain arcs q (k + 1) n)) (eq-eqb (sourceOf arcs k) q e)
 
 -- an arc that leaves another
-chain-away : (arcs : List ℕ) (q k n : ℕ) → (sourceIn arcs k ≡ q → ⊥) → chain arcs q k (suc n) ≡ chain arcs q (k + 1) n
+chain-away : (arcs : List ℕ) (q k n : ℕ) → (sourceOf arcs k ≡ q → ⊥) → chain arcs q k (suc n) ≡ chain arcs q (k + 1) n
 unfolding chain
-chain-away arcs q k n e = ap (λ (b : Bool). if b (k ∷ chain arcs q (k + 1) n) (chain arcs q (k + 1) n)) (ne-eqb (sourceIn arcs k) q e)
+chain-away arcs q k n e = ap (λ (b : Bool). if b (k ∷ chain arcs q (k + 1) n) (chain arcs q (k + 1) n)) (ne-eqb (sourceOf arcs k) q e)
 
 -- no arc
 chain-none : (arcs : List ℕ) (q k n : ℕ) → n ≡ 0 → chain arcs q k n ≡ []
@@ -48,7 +49,7 @@ module _ (m n : ℕ) (arcs : List ℕ) (forStates forArcs : ℕ) (c : Chainable 
   }
 
   -- the source of an arc has its place
-  pub source-fits : (j x : ℕ) → j < n → x ≡ sourceIn arcs j → x < length filled
+  pub source-fits : (j x : ℕ) → j < n → x ≡ sourceOf arcs j → x < length filled
   source-fits j x h f = let s = c .sources j h in omega (arith, s, f, filled-long, c .states-fit)
 
   -- all arcs, of the states alone
@@ -65,7 +66,7 @@ module _ (m n : ℕ) (arcs : List ℕ) (forStates forArcs : ℕ) (c : Chainable 
       }
 
 -- with the arc before them
-chained-more : (k m n : ℕ) (arcs first next : List ℕ) → k < n → ChainedFrom (k + 1) m n arcs first next → (q : ℕ) → q ≡ sourceIn arcs k → q < m
+chained-more : (k m n : ℕ) (arcs first next : List ℕ) → k < n → ChainedFrom (k + 1) m n arcs first next → (q : ℕ) → q ≡ sourceOf arcs k → q < m
     → ChainedFrom k m n arcs (set first q k) (set next k (getD first q 0))
 chained-more k m n arcs first next b c q e h =
     let s : n - k ≡ suc (n - (k + 1)) = omega arith in
@@ -84,7 +85,7 @@ chained-more k m n arcs first next b c q e h =
         | yes p ↦
             ap (getD' (set next k (getD first q 0))) p ∙ getD-set-same next k (getD first q 0) 0 (omega (arith, c .arcs-fit)) ∙ c .firsts q h
             ∙ ap (λ (z : ℕ). firstOr n (chain arcs z (k + 1) (n - (k + 1)))) e
-            ∙ ap (λ (i : ℕ). firstOr n (chain arcs (sourceIn arcs i) (i + 1) (n - (i + 1)))) (sym p)
+            ∙ ap (λ (i : ℕ). firstOr n (chain arcs (sourceOf arcs i) (i + 1) (n - (i + 1)))) (sym p)
         | no p ↦ getD-set-other next k j (getD first q 0) 0 p ∙ c .nexts j (omega arith) g
       ];
     }
@@ -93,7 +94,7 @@ chained-more k m n arcs first next b c q e h =
     getD' xs i = getD xs i 0
 
 -- the same, counted down
-pub chained-back : (i m n : ℕ) (arcs first next : List ℕ) → 0 < i → i ≤ n → ChainedFrom i m n arcs first next → (q : ℕ) → q ≡ sourceIn arcs (i - 1) → q < m
+pub chained-back : (i m n : ℕ) (arcs first next : List ℕ) → 0 < i → i ≤ n → ChainedFrom i m n arcs first next → (q : ℕ) → q ≡ sourceOf arcs (i - 1) → q < m
     → ChainedFrom (i - 1) m n arcs (set first q (i - 1)) (set next (i - 1) (getD first q 0))
 chained-back i m n arcs first next h b c q e l =
     let s : i ≡ i - 1 + 1 = omega arith in
@@ -105,23 +106,23 @@ chained-back i m n arcs first next h b c q e l =
 pub record First (arcs : List ℕ) (q n k j : ℕ) : Type 0 where
   pub behind : k ≤ j
   pub within : j ≤ n
-  pub between : (i : ℕ) → k ≤ i → i < j → sourceIn arcs i ≡ q → ⊥
-  pub leaves : j < n → sourceIn arcs j ≡ q
+  pub between : (i : ℕ) → k ≤ i → i < j → sourceOf arcs i ≡ q → ⊥
+  pub leaves : j < n → sourceOf arcs j ≡ q
 
 -- the first of a chain
 chain-first : (arcs : List ℕ) (q n k i : ℕ) → k + i ≡ n → First arcs q n k (firstOr n (chain arcs q k i))
 unfolding chain
 chain-first arcs q n k zero e = record { behind = omega arith; within = omega arith; between = λ x l h z. absurd (omega arith); leaves = λ h. absurd (omega arith) }
-chain-first arcs q n k (suc i) e = go (eqb (sourceIn arcs k) q) refl (chain-first arcs q n (k + 1) i (omega arith))
+chain-first arcs q n k (suc i) e = go (eqb (sourceOf arcs k) q) refl (chain-first arcs q n (k + 1) i (omega arith))
   where
-    go : (b : Bool) → eqb (sourceIn arcs k) q ≡ b → First arcs q n (k + 1) (firstOr n (chain arcs q (k + 1) i))
+    go : (b : Bool) → eqb (sourceOf arcs k) q ≡ b → First arcs q n (k + 1) (firstOr n (chain arcs q (k + 1) i))
         → First arcs q n k (firstOr n (if b (k ∷ chain arcs q (k + 1) i) (chain arcs q (k + 1) i)))
-    go true t f = record { behind = omega arith; within = omega arith; between = λ x l h z. absurd (omega arith); leaves = λ h. eqb-true (sourceIn arcs k) q t }
+    go true t f = record { behind = omega arith; within = omega arith; between = λ x l h z. absurd (omega arith); leaves = λ h. eqb-true (sourceOf arcs k) q t }
     go false t f = record {
       behind = let b = f .behind in omega (arith, b);
       within = f .within;
       between = λ x l h z. elim (ℕ-discrete x k) [
-        | yes p ↦ eqb-false (sourceIn arcs k) q t (ap (sourceIn arcs) (sym p) ∙ z)
+        | yes p ↦ eqb-false (sourceOf arcs k) q t (ap (sourceOf arcs) (sym p) ∙ z)
         | no p ↦ f .between x (omega arith) h z
       ];
       leaves = f .leaves;
@@ -133,23 +134,23 @@ module _ (m n : ℕ) (arcs first next : List ℕ) (c : Chained m n arcs first ne
   first-arc q h = subst (First arcs q n 0) (sym (c .firsts q h)) (chain-first arcs q n 0 (n - 0) (omega arith))
 
   -- the next arc of the same state
-  pub next-arc : (q j : ℕ) → j < n → sourceIn arcs j ≡ q → First arcs q n (j + 1) (getD next j 0)
+  pub next-arc : (q j : ℕ) → j < n → sourceOf arcs j ≡ q → First arcs q n (j + 1) (getD next j 0)
   next-arc q j h e =
       subst (λ (z : ℕ). First arcs z n (j + 1) (getD next j 0)) e
-      (subst (First arcs (sourceIn arcs j) n (j + 1)) (sym (c .nexts j (omega arith) h)) (chain-first arcs (sourceIn arcs j) n (j + 1) (n - (j + 1)) (omega arith)))
+      (subst (First arcs (sourceOf arcs j) n (j + 1)) (sym (c .nexts j (omega arith) h)) (chain-first arcs (sourceOf arcs j) n (j + 1) (n - (j + 1)) (omega arith)))
 
   -- every arc stands in a chain
   pub all-in : (j : ℕ) → j < n → inChain next j ≡ true
-  all-in j h = let f = next-arc (sourceIn arcs j) j h refl .behind in lt-ltb 0 (getD next j 0) (omega (arith, f))
+  all-in j h = let f = next-arc (sourceOf arcs j) j h refl .behind in lt-ltb 0 (getD next j 0) (omega (arith, f))
 
   -- and the chains are linked
-  pub linked-all : ((j : ℕ) → j < n → sourceIn arcs j < m) → Linked m n arcs first next
+  pub linked-all : ((j : ℕ) → j < n → sourceOf arcs j < m) → Linked m n arcs first next
   linked-all s = record {
     states-fit = c .states-fit;
     arcs-fit = c .arcs-fit;
     sources = s;
     firsts = λ q h. first-in q 0 (getD first q 0) (first-arc q h);
-    nexts = λ j h e. first-in (sourceIn arcs j) (j + 1) (getD next j 0) (next-arc (sourceIn arcs j) j h refl);
+    nexts = λ j h e. first-in (sourceOf arcs j) (j + 1) (getD next j 0) (next-arc (sourceOf arcs j) j h refl);
   }
     where
       first-in : (q k j : ℕ) → First arcs q n k j → FirstIn arcs next q n k j
@@ -186,5 +187,5 @@ module _ (m n : ℕ) (arcs first next : List ℕ) (c : Linked m n arcs first nex
       }
 
   -- the next arc of the same place
-  pub next-for : (x j : ℕ) → j < n → (inChain next j ≡ true) × (sourceIn arcs j ≡ x) → FirstIn arcs next x n (j + 1) (getD next j 0)
+  pub next-for : (x j : ℕ) → j < n → (inChain next j ≡ true) × (sourceOf arcs j ≡ x) → FirstIn arcs next x n (j + 1) (getD next j 0)
   next-for x j h e = subst (λ (z : ℕ). FirstIn arcs next z n (j + 1) (getD next j 0)) (e .1) (c .nexts j h (e .0))

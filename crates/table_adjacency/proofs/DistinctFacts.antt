@@ -9,8 +9,9 @@ use lib.Dec.{ltb}
 use lib.ListN.{length, getD, set, replicate, length-set, length-replicate, getD-replicate}
 use lib.Seq.{getD-set-same, getD-set-other}
 use borrow.Author.Tests.{lt-ltb, le-ltb}
-use Rattle.table_adjacency.specs.Chains.{sourceIn, inChain, FirstIn, Linked, Chained, Chainable}
-use Rattle.table_adjacency.specs.Distinct.{targetIn, Between, Grown, Marked, MarksArc, Markable, MarksState, Covers, MarksAll, LinkedFrom, SameMarks, LinksArc, LinksAll, LinksDistinct}
+use Rattle.table.specs.Arcs.{sourceOf, targetOf}
+use Rattle.table_adjacency.specs.Chains.{inChain, FirstIn, Linked, Chained, Chainable}
+use Rattle.table_adjacency.specs.Distinct.{Between, Grown, Marked, MarksArc, Markable, MarksState, Covers, MarksAll, LinkedFrom, SameMarks, LinksArc, LinksAll, LinksDistinct}
 use Rattle.table_adjacency.proofs.ChainFacts.{First, first-arc, next-arc}
 use Rattle.automata.specs.Layout.{arcSize}
 
@@ -66,12 +67,12 @@ module _ (q t j : ℕ) (seen marks : List ℕ) where
 -- those before number j were looked at, and j, where there is one, leaves the state
 pub record Marking (m n : ℕ) (arcs : List ℕ) (q : ℕ) (seen₀ marks₀ seen marks : List ℕ) (j : ℕ) : Type 0 where
   pub within : j ≤ n
-  pub leaves : j < n → sourceIn arcs j ≡ q
+  pub leaves : j < n → sourceOf arcs j ≡ q
   pub same-seen : length seen ≡ length seen₀
   pub same-marks : length marks ≡ length marks₀
   pub grown : Grown marks₀ marks
   pub marked : Marked m n arcs seen marks
-  pub covered : (i : ℕ) → i < n → i < j → sourceIn arcs i ≡ q → Between arcs marks n q (targetIn arcs i)
+  pub covered : (i : ℕ) → i < n → i < j → sourceOf arcs i ≡ q → Between arcs marks n q (targetOf arcs i)
 
 module _ (m n : ℕ) (arcs first next : List ℕ) (q : ℕ) (seen₀ marks₀ : List ℕ) (k : Markable m n arcs first next) (b : q < m) where
   pub state-start : Marked m n arcs seen₀ marks₀ → Marking m n arcs q seen₀ marks₀ seen₀ marks₀ (getD first q 0)
@@ -99,13 +100,13 @@ module _ (m n : ℕ) (arcs first next : List ℕ) (q : ℕ) (seen₀ marks₀ : 
     state-bound = let f = following .within in omega (arith, f, k .few)
 
     -- the target has its place
-    pub target-fits : (x : ℕ) → x ≡ targetIn arcs j → x < length seen
+    pub target-fits : (x : ℕ) → x ≡ targetOf arcs j → x < length seen
     target-fits x e = let f = k .targets j h in omega (arith, f, e, t .marked .seen-fits)
 
-    pub mark-requires : (x : ℕ) → x ≡ targetIn arcs j → (q < 1024) × (x < length seen) × (j < length marks)
+    pub mark-requires : (x : ℕ) → x ≡ targetOf arcs j → (q < 1024) × (x < length seen) × (j < length marks)
     mark-requires x e = (omega (arith, b, k .few-states), target-fits x e, omega (arith, h, t .marked .marks-fit))
 
-    pub state-next : (x : ℕ) → x ≡ targetIn arcs j → (seen₁ marks₁ : List ℕ) → MarksArc q x j seen marks seen₁ marks₁ → Marking m n arcs q seen₀ marks₀ seen₁ marks₁ (getD next j 0)
+    pub state-next : (x : ℕ) → x ≡ targetOf arcs j → (seen₁ marks₁ : List ℕ) → MarksArc q x j seen marks seen₁ marks₁ → Marking m n arcs q seen₀ marks₀ seen₁ marks₁ (getD next j 0)
     state-next x e seen₁ marks₁ z =
         let y = z .meaning m n arcs (t .marked) h (t .leaves h) (sym e) in
         record {
@@ -116,14 +117,14 @@ module _ (m n : ℕ) (arcs first next : List ℕ) (q : ℕ) (seen₀ marks₀ : 
           grown = λ i o. z .grown i (t .grown i o);
           marked = y .0;
           covered = λ i l g s. elim (ℕ-discrete i j) [
-            | yes p ↦ subst (λ (o : ℕ). Between arcs marks₁ n q o) (e ∙ ap (targetIn arcs) (sym p)) (y .1)
+            | yes p ↦ subst (λ (o : ℕ). Between arcs marks₁ n q o) (e ∙ ap (targetOf arcs) (sym p)) (y .1)
             | no p ↦ before i l g s p (ℕ-discrete (j - i) 0)
           ];
         }
       where
-        before : (i : ℕ) → i < n → i < getD next j 0 → sourceIn arcs i ≡ q → (i ≡ j → ⊥) → Dec (j - i ≡ 0) → Between arcs marks₁ n q (targetIn arcs i)
+        before : (i : ℕ) → i < n → i < getD next j 0 → sourceOf arcs i ≡ q → (i ≡ j → ⊥) → Dec (j - i ≡ 0) → Between arcs marks₁ n q (targetOf arcs i)
         before i l g s p (yes o) = absurd (following .between i (omega (arith, o, p)) g s)
-        before i l g s p (no o) = between-on arcs marks marks₁ n q (targetIn arcs i) (z .grown) (t .covered i l (omega (arith, o)) s)
+        before i l g s p (no o) = between-on arcs marks marks₁ n q (targetOf arcs i) (z .grown) (t .covered i l (omega (arith, o)) s)
 
   pub state-end : (seen marks : List ℕ) (j : ℕ) → Marking m n arcs q seen₀ marks₀ seen marks j → n ≤ j → MarksState m n arcs q seen₀ marks₀ seen marks
   state-end seen marks j t h = record {
@@ -142,7 +143,7 @@ pub record MarkingAll (m n : ℕ) (arcs : List ℕ) (seen₀ marks₀ seen marks
   pub same-seen : length seen ≡ length seen₀
   pub same-marks : length marks ≡ length marks₀
   pub marked : Marked m n arcs seen marks
-  pub covered : (j : ℕ) → j < n → sourceIn arcs j < q → Between arcs marks n (sourceIn arcs j) (targetIn arcs j)
+  pub covered : (j : ℕ) → j < n → sourceOf arcs j < q → Between arcs marks n (sourceOf arcs j) (targetOf arcs j)
 
 module _ (m n : ℕ) (arcs : List ℕ) (seen₀ marks₀ : List ℕ) where
   pub all-start : Marked m n arcs seen₀ marks₀ → MarkingAll m n arcs seen₀ marks₀ seen₀ marks₀ 0
@@ -155,9 +156,9 @@ module _ (m n : ℕ) (arcs : List ℕ) (seen₀ marks₀ : List ℕ) where
     same-seen = z .same-seen ∙ t .same-seen;
     same-marks = z .same-marks ∙ t .same-marks;
     marked = z .marked;
-    covered = λ j b l. elim (ℕ-discrete (sourceIn arcs j) q) [
-      | yes p ↦ subst (λ (x : ℕ). Between arcs marks₁ n x (targetIn arcs j)) (sym p) (z .covered j b p)
-      | no p ↦ between-on arcs marks marks₁ n (sourceIn arcs j) (targetIn arcs j) (z .grown) (t .covered j b (omega (arith, p, l)))
+    covered = λ j b l. elim (ℕ-discrete (sourceOf arcs j) q) [
+      | yes p ↦ subst (λ (x : ℕ). Between arcs marks₁ n x (targetOf arcs j)) (sym p) (z .covered j b p)
+      | no p ↦ between-on arcs marks marks₁ n (sourceOf arcs j) (targetOf arcs j) (z .grown) (t .covered j b (omega (arith, p, l)))
     ];
   }
 
@@ -178,12 +179,12 @@ first-on arcs next after s q n k j f = record {
 }
 
 -- an arc that does not stand in a chain, or leaves another state, is passed over
-first-past : (arcs next : List ℕ) (q n k j : ℕ) → (inChain next k ≡ true → sourceIn arcs k ≡ q → ⊥) → FirstIn arcs next q n (k + 1) j → FirstIn arcs next q n k j
+first-past : (arcs next : List ℕ) (q n k j : ℕ) → (inChain next k ≡ true → sourceOf arcs k ≡ q → ⊥) → FirstIn arcs next q n (k + 1) j → FirstIn arcs next q n k j
 first-past arcs next q n k j x f = record {
   behind = let b = f .behind in omega (arith, b);
   within = f .within;
   between = λ i l h e z. elim (ℕ-discrete i k) [
-    | yes p ↦ x (ap (inChain next) (sym p) ∙ e) (ap (sourceIn arcs) (sym p) ∙ z)
+    | yes p ↦ x (ap (inChain next) (sym p) ∙ e) (ap (sourceOf arcs) (sym p) ∙ z)
     | no p ↦ f .between i (omega (arith, p, l)) h e z
   ];
   leaves = f .leaves;
@@ -210,7 +211,7 @@ module _ (arcs : List ℕ) (j : ℕ) (first next : List ℕ) where
       not-in x = let z : true ≡ false = sym x ∙ ap (ltb 0) e in let y : _≡_ {A = ℕ} 0 1 = cc in omega arith
 
   -- one that is
-  pub link-one : (getD next j 0 ≡ 0 → ⊥) → (q : ℕ) → q ≡ sourceIn arcs j → j < length next → LinksArc arcs j first next (set first q j) (set next j (getD first q 0))
+  pub link-one : (getD next j 0 ≡ 0 → ⊥) → (q : ℕ) → q ≡ sourceOf arcs j → j < length next → LinksArc arcs j first next (set first q j) (set next j (getD first q 0))
   link-one e q qs bj = record {
     same-first = length-set first q j;
     same-next = length-set next j (getD first q 0);
@@ -220,7 +221,7 @@ module _ (arcs : List ℕ) (j : ℕ) (first next : List ℕ) where
       was-in : inChain next j ≡ true
       was-in = lt-ltb 0 (getD next j 0) (omega (arith, e))
 
-      meant : (m n : ℕ) → j < n → sourceIn arcs j < m → LinkedFrom (j + 1) m n arcs first next
+      meant : (m n : ℕ) → j < n → sourceOf arcs j < m → LinkedFrom (j + 1) m n arcs first next
           → LinkedFrom j m n arcs (set first q j) (set next j (getD first q 0)) × SameMarks next (set next j (getD first q 0))
       meant m n b s t =
           let at = t .firsts q (omega (arith, qs, s)) in
@@ -242,11 +243,11 @@ module _ (arcs : List ℕ) (j : ℕ) (first next : List ℕ) where
                     (first-past arcs after x n j (getD first x 0) (λ c z. p (sym z ∙ sym qs)) (first-on arcs next after same x n (j + 1) (getD first x 0) (t .firsts x h)))
               ];
               nexts = λ i c h x. elim (ℕ-discrete i j) [
-                | yes p ↦ subst (FirstIn arcs after (sourceIn arcs i) n (i + 1)) (sym (ap (λ (z : ℕ). getD after z 0) p ∙ getD-set-same next j (getD first q 0) 0 bj))
-                    (subst (λ (z : ℕ). FirstIn arcs after (sourceIn arcs z) n (z + 1) (getD first q 0)) (sym p)
+                | yes p ↦ subst (FirstIn arcs after (sourceOf arcs i) n (i + 1)) (sym (ap (λ (z : ℕ). getD after z 0) p ∙ getD-set-same next j (getD first q 0) 0 bj))
+                    (subst (λ (z : ℕ). FirstIn arcs after (sourceOf arcs z) n (z + 1) (getD first q 0)) (sym p)
                     (subst (λ (z : ℕ). FirstIn arcs after z n (j + 1) (getD first q 0)) qs (first-on arcs next after same q n (j + 1) (getD first q 0) at)))
-                | no p ↦ subst (FirstIn arcs after (sourceIn arcs i) n (i + 1)) (sym (getD-set-other next j i (getD first q 0) 0 p))
-                    (first-on arcs next after same (sourceIn arcs i) n (i + 1) (getD next i 0) (t .nexts i (omega (arith, p, c)) h (sym (same i) ∙ x)))
+                | no p ↦ subst (FirstIn arcs after (sourceOf arcs i) n (i + 1)) (sym (getD-set-other next j i (getD first q 0) 0 p))
+                    (first-on arcs next after same (sourceOf arcs i) n (i + 1) (getD next i 0) (t .nexts i (omega (arith, p, c)) h (sym (same i) ∙ x)))
               ];
             },
             same,
@@ -282,10 +283,10 @@ module _ (m n : ℕ) (arcs : List ℕ) (size : ℕ) (next₀ : List ℕ) (k : Ch
   }
 
   module _ (first next : List ℕ) (j : ℕ) (t : Linking n arcs next₀ filled first next j) where
-    source-fits : 0 < j → sourceIn arcs (j - 1) < length filled
+    source-fits : 0 < j → sourceOf arcs (j - 1) < length filled
     source-fits b = let s = k .sources (j - 1) (omega (arith, b, t .within)) in omega (arith, s, filled-long, k .states-fit)
 
-    pub link-requires : 0 < j → (j - 1 < 8192) × (arcSize * (j - 1) + 2 ≤ length arcs) × (sourceIn arcs (j - 1) < length first) × (j - 1 < length next)
+    pub link-requires : 0 < j → (j - 1 < 8192) × (arcSize * (j - 1) + arcSize ≤ length arcs) × (sourceOf arcs (j - 1) < length first) × (j - 1 < length next)
     link-requires b =
         let s = source-fits b in
         (omega (arith, b, t .within, k .few), omega (arith, b, t .within, k .whole), omega (arith, s, t .same-first), omega (arith, b, t .within, t .linked .arcs-fit))

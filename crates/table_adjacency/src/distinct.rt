@@ -1,11 +1,13 @@
 // Chains of arcs by their sources in which a state has no two arcs to the same target.
 use crate::fill;
 use table::answer::Counts;
-use table::bytes::get16;
+use table::arc::source_at;
+use table::arc::target_at;
 use table::layout::ARC_SIZE;
 ghost use Prim.Native.Nat.{_+_, _*_, _≤_, _<_};
 ghost use lib.ListN.{length};
-ghost use Rattle.table_adjacency.specs.Chains.{sourceIn, Chainable};
+ghost use Rattle.table.specs.Arcs.{sourceOf};
+ghost use Rattle.table_adjacency.specs.Chains.{Chainable};
 ghost use Rattle.table_adjacency.specs.Distinct.{Marked, MarksArc, Markable, MarksState, MarksAll, LinksArc, LinksAll, LinksDistinct};
 ghost use Rattle.automata.specs.Layout.{arcSize};
 
@@ -37,7 +39,7 @@ fn mark_state(
     let state = q as usize;
     let mut j = first[state] as usize;
     while j < counts.arcs {
-        let t = get16(arcs, ARC_SIZE * j + 2) as usize;
+        let t = target_at(arcs, ARC_SIZE * j).0 as usize;
         mark_arc(q, t, j, seen, marks);
         j = next[j] as usize;
     }
@@ -64,13 +66,13 @@ fn mark_states(
 
 // The arc with number `j`, where it is marked, in front of the chain of its source.
 fn link_arc(arcs: &[u8], j: usize, first: &mut [u16], next: &mut [u16])
-    requires { ⌜ (j < 8192) × (arcSize * j + 2 ≤ length (now arcs)) × (sourceIn (now arcs) j < length (now first)) × (j < length (now next)) ⌝ }
+    requires { ⌜ (j < 8192) × (arcSize * j + arcSize ≤ length (now arcs)) × (sourceOf (now arcs) j < length (now first)) × (j < length (now next)) ⌝ }
     ensures { λ _. ⌜ LinksArc (now (arcs .entry)) j (now (first .entry)) (now (next .entry)) (now (first .exit)) (now (next .exit)) ⌝ }
 {
     if next[j] == 0 {
         return;
     }
-    let q = get16(arcs, ARC_SIZE * j) as usize;
+    let q = source_at(arcs, ARC_SIZE * j).0 as usize;
     next[j] = first[q];
     first[q] = j as u16;
 }

@@ -3,7 +3,7 @@
 pub mod distinct;
 
 use table::answer::Counts;
-use table::bytes::get16;
+use table::arc::source_at;
 use table::layout::ARC_SIZE;
 ghost use mathlib.Core.Path.{_≡_};
 ghost use lib.ListN.{length, replicate};
@@ -27,7 +27,7 @@ pub fn chain_arcs(counts: Counts, arcs: &[u8], first: &mut [u16], next: &mut [u1
     let mut j = counts.arcs;
     while 0 < j {
         j -= 1;
-        let q = get16(arcs, ARC_SIZE * j) as usize;
+        let q = source_at(arcs, ARC_SIZE * j).0 as usize;
         next[j] = first[q];
         first[q] = j as u16;
     }

@@ -91,12 +91,12 @@ unfolding chosenLabels part
 labels-end x js k left used to out old e f = sym (splice-none to out) ∙ rw e at f
 
 -- the labels of a record that stands in a list
-pub labels-found : (js arcs r : List ℕ) (at : ℕ) → r ≡ splice 0 (chosenLabels js (take (at + labelsPlace + labelsSize - (at + labelsPlace)) (drop (at + 8) arcs))) (zeros labelsSize)
+pub labels-found : (js arcs r : List ℕ) (at : ℕ) → r ≡ splice 0 (chosenLabels js (take (at + labelsPlace + labelsSize - (at + labelsPlace)) (drop (at + labelsPlace) arcs))) (zeros labelsSize)
     → r ≡ splice 0 (chosenLabels js (part (at + labelsPlace) labelsSize arcs)) (zeros labelsSize)
 unfolding part
 labels-found js arcs r at e =
     let g : at + labelsPlace + labelsSize - (at + labelsPlace) ≡ labelsSize = omega arith in
-    e ∙ ap (λ (n : ℕ). splice 0 (chosenLabels js (take n (drop (at + 8) arcs))) (zeros labelsSize)) g
+    e ∙ ap (λ (n : ℕ). splice 0 (chosenLabels js (take n (drop (at + labelsPlace) arcs))) (zeros labelsSize)) g
 
 -- a record whose labels were written over
 pub arc-chosen : (js arcs labels arcs2 : List ℕ) (at : ℕ) → at + arcSize ≤ length arcs → length js ≤ 8
@@ -106,11 +106,11 @@ unfolding chosenArc
 arc-chosen js arcs labels arcs2 at h few e f =
     let b = length-labels js (part (at + labelsPlace) labelsSize arcs) in
     let n : length labels ≡ labelsSize = ap length e ∙ length-splice 0 (chosenLabels js (part (at + labelsPlace) labelsSize arcs)) (zeros labelsSize) (omega arith) in
-    let head = part at 8 arcs in
-    let l : length head ≡ 8 = length-part at 8 arcs (omega arith) in
-    let p : part 0 8 (part at arcSize arcs) ≡ head = part-part 0 8 at arcSize arcs (omega arith) ∙ ap (λ (k : ℕ). part k 8 arcs) (add-zero at) in
+    let head = part at labelsPlace arcs in
+    let l : length head ≡ labelsPlace = length-part at labelsPlace arcs (omega arith) in
+    let p : part 0 labelsPlace (part at arcSize arcs) ≡ head = part-part 0 labelsPlace at arcSize arcs (omega arith) ∙ ap (λ (k : ℕ). part k labelsPlace arcs) (add-zero at) in
     let q : part labelsPlace labelsSize (part at arcSize arcs) ≡ part (at + labelsPlace) labelsSize arcs = part-part labelsPlace labelsSize at arcSize arcs (omega arith) in
-    f ∙ ap₂ (λ (k : ℕ) (x : List ℕ). splice (at + k) labels x) (sym l) (sym (splice-self at 8 arcs (omega arith)))
+    f ∙ ap₂ (λ (k : ℕ) (x : List ℕ). splice (at + k) labels x) (sym l) (sym (splice-self at labelsPlace arcs (omega arith)))
     ∙ splice-append at head labels arcs (omega arith)
     ∙ ap₂ (λ (x y : List ℕ). splice at (x ++ y) arcs) (sym p) (e ∙ ap (λ (x : List ℕ). splice 0 (chosenLabels js x) (zeros labelsSize)) (sym q))
 
@@ -119,9 +119,9 @@ pub length-chosenArc : (js arc : List ℕ) → length js ≤ 8 → length arc �
 unfolding chosenArc
 length-chosenArc js arc few h =
     let b = length-labels js (part labelsPlace labelsSize arc) in
-    let l : length (part 0 8 arc) ≡ 8 = length-part 0 8 arc (omega arith) in
+    let l : length (part 0 labelsPlace arc) ≡ labelsPlace = length-part 0 labelsPlace arc (omega arith) in
     let s : length (splice 0 (chosenLabels js (part labelsPlace labelsSize arc)) (zeros labelsSize)) ≡ labelsSize = length-splice 0 (chosenLabels js (part labelsPlace labelsSize arc)) (zeros labelsSize) (omega arith) in
-    length-append (part 0 8 arc) (splice 0 (chosenLabels js (part labelsPlace labelsSize arc)) (zeros labelsSize)) ∙ omega (arith, l, s)
+    length-append (part 0 labelsPlace arc) (splice 0 (chosenLabels js (part labelsPlace labelsSize arc)) (zeros labelsSize)) ∙ omega (arith, l, s)
 
 -- the first tapes of a list are as few as they are
 pub chosen-few : (tapes : List ℕ) (used : ℕ) → used ≤ 8 → length (take used tapes) ≤ 8

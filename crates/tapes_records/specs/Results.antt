@@ -13,8 +13,8 @@ use Rattle.automata.specs.Records.{chunks}
 use Rattle.automata.specs.Memory.{Memory, Sound}
 use Rattle.automata.specs.Projection.{choosable}
 use Rattle.automata.specs.Layout.{arcSize, stateSize}
-use Rattle.table.specs.Region.{part, splice}
-use Rattle.table.specs.Endian.{le}
+use Rattle.table.specs.Arcs.{sourceAt, targetAt}
+use Rattle.table.specs.Region.{splice}
 
 -- so many states and arcs must fit the space lent (8, 9)
 unfoldable pub fitting : ℕ → ℕ → Space → Answer (Unit {0})
@@ -40,7 +40,7 @@ pub record Choosable (m : Memory) (tapes : List ℕ) : Type 0 where
 
 -- both states of an arc have numbers that stay below 65,536 when they are raised
 abbrev pub Raisable : ℕ → List ℕ → Type 0
-Raisable k arc = (k + le (part 0 2 arc) < 65536) × (k + le (part 2 2 arc) < 65536)
+Raisable k arc = (k + sourceAt 0 arc < 65536) × (k + targetAt 0 arc < 65536)
 
 -- and so for the first n records
 unfoldable pub AllRaisable : ℕ → ℕ → List ℕ → Type 0

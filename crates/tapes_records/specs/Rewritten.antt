@@ -4,8 +4,9 @@ use mathlib.Core.List.{List, _++_}
 use Rattle.automata.specs.Records.{chunks, writeAll}
 use Rattle.automata.specs.Memory.{zeros}
 use Rattle.automata.specs.Layout.{arcSize, contentPlace, contentSize, labelSize, labelsPlace, labelsSize}
+use Rattle.table.specs.Arcs.{sourceAt, targetAt}
 use Rattle.table.specs.Region.{part, splice}
-use Rattle.table.specs.Endian.{le, toLe}
+use Rattle.table.specs.Endian.{toLe}
 
 -- the first n records of 80 bytes, each rewritten
 unfoldable pub rewritten : (List ℕ → List ℕ) → ℕ → List ℕ → List ℕ
@@ -17,8 +18,8 @@ chosenLabels js labels = writeAll (λ j. part (labelSize * (j - 1)) labelSize la
 
 -- an arc's record with these labels, and zeros behind them
 unfoldable pub chosenArc : List ℕ → List ℕ → List ℕ
-chosenArc js arc = part 0 8 arc ++ splice 0 (chosenLabels js (part labelsPlace labelsSize arc)) (zeros labelsSize)
+chosenArc js arc = part 0 labelsPlace arc ++ splice 0 (chosenLabels js (part labelsPlace labelsSize arc)) (zeros labelsSize)
 
 -- an arc's record whose states have numbers higher by k
 unfoldable pub raisedArc : ℕ → List ℕ → List ℕ
-raisedArc k arc = toLe 2 (k + le (part 0 2 arc)) ++ (toLe 2 (k + le (part 2 2 arc)) ++ part contentPlace contentSize arc)
+raisedArc k arc = toLe 2 (k + sourceAt 0 arc) ++ (toLe 2 (k + targetAt 0 arc) ++ part contentPlace contentSize arc)

@@ -1,32 +1,25 @@
 // Arcs whose states have higher numbers, as those of a table behind another.
-use table::bytes::get16;
-use table::bytes::put16;
+use table::arc::source_at;
+use table::arc::store_ends;
+use table::arc::target_at;
 use table::layout::ARC_SIZE;
+use table::record::ResultState;
 ghost use mathlib.Core.Path.{_≡_};
 ghost use Prim.Native.Nat.{_+_, _*_, _≤_, _<_};
 ghost use lib.ListN.{length, drop};
 ghost use Rattle.table.specs.Region.{part, splice};
-ghost use Rattle.table.specs.Endian.{le, toLe};
 ghost use Rattle.tapes_records.specs.Rewritten.{rewritten, raisedArc};
 ghost use Rattle.tapes_records.specs.Results.{Raisable, AllRaisable};
 ghost use Rattle.automata.specs.Layout.{arcSize};
-
-// The number of a state in the two bytes at `at`, higher by `by`.
-fn raise_state(arcs: &mut [u8], at: usize, by: u16)
-    requires { ⌜ (at + 2 ≤ length (now arcs)) × (by + le (part at 2 (now arcs)) < 65536) ⌝ }
-    ensures { λ _. ⌜ now (arcs .exit) ≡ splice at (toLe 2 (by + le (part at 2 (now (arcs .entry))))) (now (arcs .entry)) ⌝ }
-{
-    let number = get16(arcs, at);
-    put16(arcs, at, by + number);
-}
 
 // Both states of the arc at `at`.
 fn raise_arc(arcs: &mut [u8], at: usize, by: u16)
     requires { ⌜ (at + arcSize ≤ length (now arcs)) × Raisable by (part at arcSize (now arcs)) ⌝ }
     ensures { λ _. ⌜ now (arcs .exit) ≡ splice at (raisedArc by (part at arcSize (now (arcs .entry)))) (now (arcs .entry)) ⌝ }
 {
-    raise_state(arcs, at, by);
-    raise_state(arcs, at + 2, by);
+    let source = ResultState(by + source_at(arcs, at).0);
+    let target = ResultState(by + target_at(arcs, at).0);
+    store_ends(arcs, at, source, target);
 }
 
 // The states of `count` arcs from a place on.

@@ -12,7 +12,8 @@ use lib.Seq.{take-all, take-take, length-take-le}
 use borrow.Author.Tests.{eq-eqb, ne-eqb}
 use Rattle.automata.specs.Lists.{if}
 use Rattle.automata.specs.TableText.{absent, blanks, labelColumns, weightColumns, headerLine}
-use Rattle.automata.specs.Layout.{arcSize, stateSize, amountWidth, arcWidth, headerEnd, headerWidth, labelSize, labelWidth, labelsColumn, labelsSize, newline, numberWidth, stateEnd, stateWidth, tapesWidth, weightColumn, weightSize}
+use Rattle.automata.specs.Layout.{arcSize, stateSize, amountWidth, arcWidth, headerEnd, headerWidth, labelSize, labelsPlace, labelWidth, labelsColumn, labelsSize, newline, numberWidth, stateEnd, stateWidth, tapesWidth, weightColumn, weightSize}
+use Rattle.table.specs.Arcs.{sourceAt, targetAt, arcWeightAt}
 use Rattle.table.specs.Region.{part, splice}
 use Rattle.table.specs.Endian.{le}
 use Rattle.table.specs.declared.answer.Counts.{Counts}
@@ -125,12 +126,12 @@ module _ (x : List ℕ) (h : length x ≡ labelWidth) where
 numbers-length : (x : List ℕ) → length (numbersOfRecord x) ≡ labelsColumn
 unfolding numbersOfRecord
 numbers-length x =
-    let a = decimalText numberWidth (le (part 0 2 x)) in
-    let b = decimalText numberWidth (le (part 2 2 x)) in
-    let d = decimalText amountWidth (le (part 4 4 x)) in
-    length-append a (b ++ d) ∙ rw (length-append b d, length-decimal numberWidth (le (part 0 2 x)), length-decimal numberWidth (le (part 2 2 x)), length-decimal amountWidth (le (part 4 4 x)))
+    let a = decimalText numberWidth (sourceAt 0 x) in
+    let b = decimalText numberWidth (targetAt 0 x) in
+    let d = decimalText amountWidth (arcWeightAt 0 x) in
+    length-append a (b ++ d) ∙ rw (length-append b d, length-decimal numberWidth (sourceAt 0 x), length-decimal numberWidth (targetAt 0 x), length-decimal amountWidth (arcWeightAt 0 x))
 
-pub numbers-printed : (at s t w : ℕ) (x xs us vs ws : List ℕ) → at + labelsColumn ≤ length xs → s ≡ le (part 0 2 x) → t ≡ le (part 2 2 x) → w ≡ le (part 4 4 x)
+pub numbers-printed : (at s t w : ℕ) (x xs us vs ws : List ℕ) → at + labelsColumn ≤ length xs → s ≡ sourceAt 0 x → t ≡ targetAt 0 x → w ≡ arcWeightAt 0 x
     → us ≡ splice at (decimalText numberWidth s) xs → vs ≡ splice (at + numberWidth) (decimalText numberWidth t) us → ws ≡ splice (at + weightColumn) (decimalText amountWidth w) vs → ws ≡ splice at (numbersOfRecord x) xs
 unfolding numbersOfRecord
 numbers-printed at s t w x xs us vs ws h es et ew e f g =
@@ -143,24 +144,24 @@ numbers-printed at s t w x xs us vs ws h es et ew e f g =
     ∙ ap (λ (z : List ℕ). splice at z xs) (append-assoc (decimalText numberWidth s) (decimalText numberWidth t) (decimalText amountWidth w) ∙ rw (es, et, ew))
 
 module _ (tapes : ℕ) (x : List ℕ) (h : length x ≡ arcSize) (k : tapes ≤ 8) where
-  labels-length : length (recoded columnsOfLabel labelSize tapes (drop 8 x)) ≡ tapes * labelWidth
-  labels-length = length-recoded columnsOfLabel labelSize labelWidth label-sized tapes (drop 8 x) (rw (length-drop 8 x) (omega arith))
+  labels-length : length (recoded columnsOfLabel labelSize tapes (drop labelsPlace x)) ≡ tapes * labelWidth
+  labels-length = length-recoded columnsOfLabel labelSize labelWidth label-sized tapes (drop labelsPlace x) (rw (length-drop labelsPlace x) (omega arith))
 
-  before-end : length (numbersOfRecord x ++ recoded columnsOfLabel labelSize tapes (drop 8 x)) ≡ labelsColumn + tapes * labelWidth
-  before-end = length-append (numbersOfRecord x) (recoded columnsOfLabel labelSize tapes (drop 8 x)) ∙ rw (numbers-length x, labels-length)
+  before-end : length (numbersOfRecord x ++ recoded columnsOfLabel labelSize tapes (drop labelsPlace x)) ≡ labelsColumn + tapes * labelWidth
+  before-end = length-append (numbersOfRecord x) (recoded columnsOfLabel labelSize tapes (drop labelsPlace x)) ∙ rw (numbers-length x, labels-length)
 
   pub arc-sized : length (lineOfArc tapes x) ≡ arcWidth + tapes * labelWidth
   unfolding lineOfArc
-  arc-sized = length-append (numbersOfRecord x ++ recoded columnsOfLabel labelSize tapes (drop 8 x)) (newline ∷ []) ∙ omega (arith, before-end)
+  arc-sized = length-append (numbersOfRecord x ++ recoded columnsOfLabel labelSize tapes (drop labelsPlace x)) (newline ∷ []) ∙ omega (arith, before-end)
 
   pub arc-printed : (at : ℕ) (xs us vs : List ℕ) → at + (arcWidth + tapes * labelWidth) ≤ length xs → us ≡ splice at (numbersOfRecord x) xs
-      → vs ≡ splice (at + labelsColumn) (recoded columnsOfLabel labelSize tapes (take labelsSize (drop 8 x))) us → set vs (at + (labelsColumn + tapes * labelWidth)) newline ≡ splice at (lineOfArc tapes x) xs
+      → vs ≡ splice (at + labelsColumn) (recoded columnsOfLabel labelSize tapes (take labelsSize (drop labelsPlace x))) us → set vs (at + (labelsColumn + tapes * labelWidth)) newline ≡ splice at (lineOfArc tapes x) xs
   unfolding lineOfArc
   arc-printed at xs us vs l e f =
-      let r = recoded columnsOfLabel labelSize tapes (drop 8 x) in
+      let r = recoded columnsOfLabel labelSize tapes (drop labelsPlace x) in
       let n = numbers-length x in
       let m = labels-length in
-      let d : take labelsSize (drop 8 x) ≡ drop 8 x = take-all labelsSize (drop 8 x) (rw (length-drop 8 x) (omega arith)) in
+      let d : take labelsSize (drop labelsPlace x) ≡ drop labelsPlace x = take-all labelsSize (drop labelsPlace x) (rw (length-drop labelsPlace x) (omega arith)) in
       let g : vs ≡ splice (at + labelsColumn) r us = f ∙ ap (λ (z : List ℕ). splice (at + labelsColumn) (recoded columnsOfLabel labelSize tapes z) us) d in
       let w = splice-behind at (at + labelsColumn) (numbersOfRecord x) r xs us vs e g (omega arith) (omega arith) in
       snoc-behind at (at + (labelsColumn + tapes * labelWidth)) (numbersOfRecord x ++ r) xs vs newline w (omega (arith, before-end)) (omega (arith, before-end))

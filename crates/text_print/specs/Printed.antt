@@ -6,7 +6,8 @@ use lib.Dec.{eqb}
 use lib.ListN.{take, drop, getD}
 use Rattle.automata.specs.Lists.{if}
 use Rattle.automata.specs.TableText.{labelColumns, weightColumns, headerLine}
-use Rattle.automata.specs.Layout.{amountWidth, labelSize, newline, numberWidth, weightSize}
+use Rattle.automata.specs.Layout.{amountWidth, labelSize, labelsPlace, newline, numberWidth, weightSize}
+use Rattle.table.specs.Arcs.{sourceAt, targetAt, arcWeightAt}
 use Rattle.table.specs.Region.{part}
 use Rattle.table.specs.Endian.{le}
 use Rattle.table.specs.declared.answer.Counts.{Counts}
@@ -27,11 +28,11 @@ columnsOfLabel x = labelColumns .write (take (getD x 0 0) (drop 1 x))
 
 -- source, target and weight in a record of an arc
 unfoldable pub numbersOfRecord : List ℕ → List ℕ
-numbersOfRecord x = decimalText numberWidth (le (part 0 2 x)) ++ (decimalText numberWidth (le (part 2 2 x)) ++ decimalText amountWidth (le (part 4 4 x)))
+numbersOfRecord x = decimalText numberWidth (sourceAt 0 x) ++ (decimalText numberWidth (targetAt 0 x) ++ decimalText amountWidth (arcWeightAt 0 x))
 
 -- the line of the arc in a record of 80 bytes, of a table with so many tapes
 unfoldable pub lineOfArc : ℕ → List ℕ → List ℕ
-lineOfArc tapes x = (numbersOfRecord x ++ recoded columnsOfLabel labelSize tapes (drop 8 x)) ++ (newline ∷ [])
+lineOfArc tapes x = (numbersOfRecord x ++ recoded columnsOfLabel labelSize tapes (drop labelsPlace x)) ++ (newline ∷ [])
 
 -- the header of a table
 unfoldable pub headerOf : Counts → List ℕ

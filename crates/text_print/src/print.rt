@@ -1,7 +1,9 @@
 // The records of a table, written as the lines of its text.
 use table::answer::Counts;
+use table::arc::arc_weight_at;
+use table::arc::source_at;
+use table::arc::target_at;
 use table::bytes::copy_into;
-use table::bytes::get16;
 use table::bytes::get32;
 use table::layout::AMOUNT_WIDTH;
 use table::layout::ARC_SIZE;
@@ -116,18 +118,18 @@ fn print_numbers(bytes: &[u8], out: &mut [u8], at: usize)
     requires { ⌜ (length (now bytes) ≡ arcSize) × (at + labelsColumn ≤ length (now out)) ⌝ }
     ensures { λ _. ⌜ now (out .exit) ≡ splice at (numbersOfRecord (now (bytes .entry))) (now (out .entry)) ⌝ }
 {
-    write_decimal(out, at, NUMBER_WIDTH, get16(bytes, 0) as usize);
+    write_decimal(out, at, NUMBER_WIDTH, source_at(bytes, 0).0 as usize);
     write_decimal(
         out,
         at + NUMBER_WIDTH,
         NUMBER_WIDTH,
-        get16(bytes, 2) as usize,
+        target_at(bytes, 0).0 as usize,
     );
     write_decimal(
         out,
         at + WEIGHT_COLUMN,
         AMOUNT_WIDTH,
-        get32(bytes, 4) as usize,
+        arc_weight_at(bytes, 0) as usize,
     );
 }
 

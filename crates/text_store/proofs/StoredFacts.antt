@@ -8,7 +8,7 @@ use lib.ListN.{length, take, drop, set, replicate, length-append, length-drop, l
 use lib.Seq.{drop-drop, drop-append-le, take-append-add, take-all, length-take-le}
 use Rattle.automata.specs.Memory.{weightRecord, stateRecord, labelRecord, zeros}
 use Rattle.automata.specs.TableText.{afterBlanks}
-use Rattle.automata.specs.Layout.{arcSize, stateSize, amountWidth, arcWidth, labelWidth, labelsColumn, labelsSize, numberWidth, stateEnd, stateWidth, weightColumn}
+use Rattle.automata.specs.Layout.{arcSize, stateSize, amountWidth, arcWidth, labelWidth, contentPlace, labelsColumn, labelsPlace, labelsSize, numberWidth, stateEnd, stateWidth, weightColumn}
 use Rattle.table.specs.Region.{splice}
 use Rattle.table.specs.Endian.{toLe}
 use Rattle.table.specs.Records.{optionOf, stateBytes}
@@ -98,14 +98,13 @@ module _ (x : List ℕ) (h : length x ≡ labelWidth) (b : ℕ) (e : b ≡ blank
 
 -- ---- an arc
 
-pub numbers-stored : (at s t w : ℕ) (x xs us vs ws : List ℕ) → at + 8 ≤ length xs
-    → s ≡ columnsValue 0 (take (numberWidth - 0) (drop 0 x)) → t ≡ columnsValue 0 (take (12 - numberWidth) (drop numberWidth x)) → w ≡ columnsValue 0 (take (labelsColumn - weightColumn) (drop weightColumn x))
-    → us ≡ splice at (toLe 2 (s % 65536)) xs → vs ≡ splice (at + 2) (toLe 2 (t % 65536)) us → ws ≡ splice (at + 4) (toLe 4 (w % 4294967296)) vs
+pub numbers-stored : (at s t w : ℕ) (x xs us ws : List ℕ) → at + arcSize ≤ length xs
+    → s ≡ columnsValue 0 (take (numberWidth - 0) (drop 0 x)) → t ≡ columnsValue 0 (take (weightColumn - numberWidth) (drop numberWidth x)) → w ≡ columnsValue 0 (take (labelsColumn - weightColumn) (drop weightColumn x))
+    → us ≡ splice at (toLe 2 (s % 65536) ++ toLe 2 (t % 65536)) xs → ws ≡ splice (at + contentPlace) (toLe 4 (w % 4294967296)) us
     → ws ≡ splice at (numberBytes x) xs
 unfolding numberBytes
-numbers-stored at s t w x xs us vs ws h i j k e f g =
-    let p = splice-behind at (at + 2) (toLe 2 (s % 65536)) (toLe 2 (t % 65536)) xs us vs e f refl (omega arith) in
-    splice-behind at (at + 4) (toLe 2 (s % 65536) ++ toLe 2 (t % 65536)) (toLe 4 (w % 4294967296)) xs vs ws p g refl (omega arith) ∙ rw (i, j, k)
+numbers-stored at s t w x xs us ws h i j k e g =
+    splice-behind at (at + contentPlace) (toLe 2 (s % 65536) ++ toLe 2 (t % 65536)) (toLe 4 (w % 4294967296)) xs us ws e g refl (omega arith) ∙ rw (i, j, k)
 
 -- a region written over the front of another
 splice-over : (a : ℕ) (ys zs xs : List ℕ) → length ys ≤ length zs → a + length zs ≤ length xs → splice a ys (splice a zs xs) ≡ splice a (ys ++ drop (length ys) zs) xs
@@ -144,16 +143,16 @@ module _ (tapes : ℕ) (x : List ℕ) (h : length x ≡ arcWidth + tapes * label
   labels-length = length-recoded labelOfColumns labelWidth labelWidth label-sized tapes (drop labelsColumn x) (rw (length-drop labelsColumn x) (omega arith))
 
   pub arc-stored : (at : ℕ) (xs us vs ws : List ℕ) → tapes ≤ 8 → at + arcSize ≤ length xs → us ≡ splice at (numberBytes x) xs
-      → vs ≡ splice (at + 8) noLabels us → ws ≡ splice (at + 8) (recoded labelOfColumns labelWidth tapes (take (length x - labelsColumn) (drop labelsColumn x))) vs
+      → vs ≡ splice (at + labelsPlace) noLabels us → ws ≡ splice (at + labelsPlace) (recoded labelOfColumns labelWidth tapes (take (length x - labelsColumn) (drop labelsColumn x))) vs
       → ws ≡ splice at (arcOfLine tapes x) xs
   unfolding arcOfLine numberBytes
   arc-stored at xs us vs ws t k e p q =
       let r = recoded labelOfColumns labelWidth tapes (drop labelsColumn x) in
       let u : length us ≡ length xs = ap length e ∙ length-splice at (numberBytes x) xs (omega arith) in
       let d : take (length x - labelsColumn) (drop labelsColumn x) ≡ drop labelsColumn x = take-all (length x - labelsColumn) (drop labelsColumn x) (rw (length-drop labelsColumn x) (omega arith)) in
-      let w : ws ≡ splice (at + 8) (r ++ zeros ((8 - tapes) * labelWidth)) us = labels-over (at + 8) tapes r us vs ws labels-length t (omega arith) p (q ∙ ap (λ (z : List ℕ). splice (at + 8) (recoded labelOfColumns labelWidth tapes z) vs) d) in
+      let w : ws ≡ splice (at + labelsPlace) (r ++ zeros ((8 - tapes) * labelWidth)) us = labels-over (at + labelsPlace) tapes r us vs ws labels-length t (omega arith) p (q ∙ ap (λ (z : List ℕ). splice (at + labelsPlace) (recoded labelOfColumns labelWidth tapes z) vs) d) in
       let m : length (r ++ zeros ((8 - tapes) * labelWidth)) ≡ labelsSize = length-append r (zeros ((8 - tapes) * labelWidth)) ∙ rw (labels-length, length-replicate) (omega arith) in
-      splice-behind at (at + 8) (numberBytes x) (r ++ zeros ((8 - tapes) * labelWidth)) xs us ws e w refl (omega arith)
+      splice-behind at (at + labelsPlace) (numberBytes x) (r ++ zeros ((8 - tapes) * labelWidth)) xs us ws e w refl (omega arith)
 
   -- an arc's record is 80 bytes
   pub arc-sized : tapes ≤ 8 → length (arcOfLine tapes x) ≡ arcSize

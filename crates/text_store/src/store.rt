@@ -1,19 +1,21 @@
 // The lines of a text that was judged, stored as the records of a table. Nothing of them is judged again.
+use table::arc::store_arc_weight;
+use table::arc::store_ends;
 use table::bytes::copy_into;
-use table::bytes::put16;
-use table::bytes::put32;
 use table::layout::AMOUNT_WIDTH;
 use table::layout::ARC_SIZE;
 use table::layout::ARC_WIDTH;
 use table::layout::LABEL_SIZE;
 use table::layout::LABEL_WIDTH;
 use table::layout::LABELS_COLUMN;
+use table::layout::LABELS_PLACE;
 use table::layout::LABELS_SIZE;
 use table::layout::NUMBER_WIDTH;
 use table::layout::STATE_END;
 use table::layout::STATE_SIZE;
 use table::layout::STATE_WIDTH;
 use table::layout::WEIGHT_COLUMN;
+use table::record::ResultState;
 use table::record::State;
 use table::record::store_state;
 use text_columns::decimal::columns_value;
@@ -83,15 +85,16 @@ fn store_labels(labels: &[u8], tapes: usize, arcs: &mut [u8], start: usize)
 
 // Source, target and weight of the arc in a line that was judged.
 fn store_numbers(line: &[u8], arcs: &mut [u8], at: usize)
-    requires { ⌜ (labelsColumn ≤ length (now line)) × (at + 8 ≤ length (now arcs)) ⌝ }
+    requires { ⌜ (labelsColumn ≤ length (now line)) × (at + arcSize ≤ length (now arcs)) ⌝ }
     ensures { λ _. ⌜ now (arcs .exit) ≡ splice at (numberBytes (now (line .entry))) (now (arcs .entry)) ⌝ }
 {
     let source = columns_value(&line[0..NUMBER_WIDTH]);
-    let target = columns_value(&line[NUMBER_WIDTH..12]);
+    let target = columns_value(&line[NUMBER_WIDTH..WEIGHT_COLUMN]);
     let weight = columns_value(&line[WEIGHT_COLUMN..LABELS_COLUMN]);
-    put16(arcs, at, (source % 65536) as u16);
-    put16(arcs, at + 2, (target % 65536) as u16);
-    put32(arcs, at + 4, (weight % 4294967296) as u32);
+    let from = ResultState((source % 65536) as u16);
+    let to = ResultState((target % 65536) as u16);
+    store_ends(arcs, at, from, to);
+    store_arc_weight(arcs, at, (weight % 4294967296) as u32);
 }
 
 // No label on any tape.
@@ -109,8 +112,8 @@ fn store_arc_line(line: &[u8], tapes: usize, arcs: &mut [u8], at: usize)
     ensures { λ _. ⌜ now (arcs .exit) ≡ splice at (arcOfLine tapes (now (line .entry))) (now (arcs .entry)) ⌝ }
 {
     store_numbers(line, arcs, at);
-    store_no_labels(arcs, at + 8);
-    store_labels(&line[LABELS_COLUMN..], tapes, arcs, at + 8);
+    store_no_labels(arcs, at + LABELS_PLACE);
+    store_labels(&line[LABELS_COLUMN..], tapes, arcs, at + LABELS_PLACE);
 }
 
 // The records of so many arc lines from a place of a text.

@@ -9,7 +9,7 @@ use Rattle.delays_relaxation.proofs.cycles.closes_at.Reads as reads
 use Rattle.delays_relaxation.proofs.cycles.closes_at.Lts as lts
 use Rattle.delays_relaxation.proofs.places.note.Reads as note-reads
 use Rattle.delays_relaxation.proofs.places.number_at.Reads as number-at-reads
-use Rattle.delays_relaxation.proofs.cycles.target_at.Reads as target-at-reads
+use Rattle.delays_relaxation.proofs.cycles.end_of.Reads as end-of-reads
 
 abbrev Inv-loop : tie.InvT-loop
 Inv-loop arcs count reversed through seen₀ q p₀ left₀ seen p left = (p < 65536) × (length seen ≡ length seen₀)
@@ -53,8 +53,8 @@ same-length-2 c = search needs
 returns-2 : tie.Need-returns-2 Inv-loop μ-loop
 returns-2 c = search needs
 
-target-at-requires : tie.Need-target-at-requires Inv-loop μ-loop
-target-at-requires c κs = search needs
+end-of-requires : tie.Need-end-of-requires Inv-loop μ-loop
+end-of-requires c κs = search needs
 
 loop-less : tie.Need-loop-less Inv-loop μ-loop
 loop-less c = search needs
@@ -98,7 +98,7 @@ closes-at-spec =
     cast-k
     same-length-2
     returns-2
-    target-at-requires
+    end-of-requires
     loop-less
     loop-again
     cast-number-at-3

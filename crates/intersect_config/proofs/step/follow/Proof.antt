@@ -11,7 +11,7 @@ use Rattle.intersect_config.proofs.step.follow.Tie as tie
 use Rattle.intersect_config.proofs.step.follow.Reads as reads
 use Rattle.intersect_config.proofs.step.follow.Lts as lts
 use Rattle.intersect_config.proofs.step.advance_slot.Reads as advance-slot-reads
-use Rattle.table.proofs.bytes.get16.Reads as get16-reads
+use Rattle.table.proofs.arc.target_at.Reads as target-at-reads
 use Rattle.table.proofs.bytes.put16.Reads as put16-reads
 
 abbrev Inv-loop : tie.InvT-loop
@@ -20,17 +20,14 @@ Inv-loop own arcs at row₀ pairs target i₀ row i = Filling own arcs at pairs 
 abbrev μ-loop : tie.MeasureT-loop
 μ-loop own arcs at row₀ pairs target i₀ row i = pairs .used - i
 
-add-get16 : tie.Need-add-get16 Inv-loop μ-loop
-add-get16 c = search needs
-
-get16-requires : tie.Need-get16-requires Inv-loop μ-loop
-get16-requires c κs = let s = c .before .before .before in omega (arith, s .pre .0 .whole)
+target-at-requires : tie.Need-target-at-requires Inv-loop μ-loop
+target-at-requires c κs = let s = c .before .before .before in omega (arith, s .pre .0 .whole)
 
 put16-requires : tie.Need-put16-requires Inv-loop μ-loop
 put16-requires c κs = let s = c .before .before .before .before .before in omega (arith, length-row _ _ (s .pre .2))
 
 loop-holds : tie.Need-loop-holds Inv-loop μ-loop
-loop-holds c = let s = c .before .before .before .before .before .before .before .before in (filling-start _ _ _ _ (s .pre .0) (s .pre .1) _ _ _ (search needs) (s .pre .2) (c .before .before .before .before .get16 .ensures) (c .before .before .put16 .ensures), search needs)
+loop-holds c = let s = c .before .before .before .before .before .before .before .before in (filling-start _ _ _ _ (s .pre .0) (s .pre .1) _ _ _ (search needs) (s .pre .2) (c .before .before .before .before .target-at .ensures) (c .before .before .put16 .ensures), search needs)
 
 mul-p : tie.Need-mul-p Inv-loop μ-loop
 mul-p c = search needs
@@ -68,8 +65,7 @@ follow-spec =
     (tie.spec
     Inv-loop
     μ-loop
-    add-get16
-    get16-requires
+    target-at-requires
     put16-requires
     loop-holds
     mul-p

@@ -8,19 +8,15 @@ use Rattle.intersect_config.proofs.step.label_at.Statement.{statement}
 use Rattle.intersect_config.proofs.step.label_at.Tie as tie
 use Rattle.intersect_config.proofs.step.label_at.Reads as reads
 use Rattle.intersect_config.proofs.step.label_at.Lts as lts
+use Rattle.table.proofs.arc.label_length_at.Reads as label-length-at-reads
+use Rattle.table.proofs.arc.label_place.Reads as label-place-reads
 use Rattle.table.proofs.bytes.copy_into.Reads as copy-into-reads
 
-add-place : tie.Need-add-place
-add-place c = search needs
+sub-index : tie.Need-sub-index
+sub-index c = search needs
 
-sub-place : tie.Need-sub-place
-sub-place c = search needs
-
-mul-place : tie.Need-mul-place
-mul-place c = search needs
-
-add-place-2 : tie.Need-add-place-2
-add-place-2 c = search needs
+label-place-requires : tie.Need-label-place-requires
+label-place-requires c κs = search needs
 
 add-from : tie.Need-add-from
 add-from c = search needs
@@ -43,21 +39,20 @@ part-copy-into-end c = search needs
 copy-into-requires : tie.Need-copy-into-requires
 copy-into-requires c κs = search needs
 
-shared-slice-read-t18 : tie.Need-shared-slice-read-t18
-shared-slice-read-t18 c = search needs
+label-length-at-requires : tie.Need-label-length-at-requires
+label-length-at-requires c κs = search needs
 
 returns : tie.Need-returns
-returns c = let s = c .before .before .before .before .before .before in
-    label-loaded (s .args .at) (s .args .tape) (now (s .args .arcs)) _ (array-of _ 8 (now (s .args .arcs)) _ (omega (arith, s .pre)) (c .before .before .copy-into .ensures))
+returns c = let s = c .before .before .before .before .before .before .before in let d = c .before .before .before .before .before .label-place .ensures in
+    label-loaded (s .args .at) (s .args .tape) (now (s .args .arcs)) _ _ _ d (c .label-length-at .ensures)
+    (array-of _ 8 (now (s .args .arcs)) _ (omega (arith, s .pre, d)) (c .before .before .copy-into .ensures))
 
 pub label-at-spec : {M : Type 1} → statement M
 label-at-spec =
     tie.close
     (tie.spec
-    add-place
-    sub-place
-    mul-place
-    add-place-2
+    sub-index
+    label-place-requires
     add-from
     slice-aggregate-copy-into
     add-copy-into
@@ -65,5 +60,5 @@ label-at-spec =
     part-copy-into-start
     part-copy-into-end
     copy-into-requires
-    shared-slice-read-t18
+    label-length-at-requires
     returns)

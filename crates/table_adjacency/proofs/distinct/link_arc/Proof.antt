@@ -5,7 +5,7 @@ use Rattle.table_adjacency.proofs.distinct.link_arc.Statement.{statemen
 use Rattle.table_adjacency.proofs.distinct.link_arc.Tie as tie
 use Rattle.table_adjacency.proofs.distinct.link_arc.Reads as reads
 use Rattle.table_adjacency.proofs.distinct.link_arc.Lts as lts
-use Rattle.table.proofs.bytes.get16.Reads as get16-reads
+use Rattle.table.proofs.arc.source_at.Reads as source-at-reads
 
 mul-if1 : tie.Need-mul-if1
 mul-if1 c = search needs
@@ -16,11 +16,11 @@ slice-read-if1 c = search needs
 returns : tie.Need-returns
 returns c = link-none _ _ _ _ (c .if1 .taken)
 
-mul-get16 : tie.Need-mul-get16
-mul-get16 c = search needs
+mul-source-at : tie.Need-mul-source-at
+mul-source-at c = search needs
 
-get16-requires : tie.Need-get16-requires
-get16-requires c κs = search needs
+source-at-requires : tie.Need-source-at-requires
+source-at-requires c κs = search needs
 
 cast-q : tie.Need-cast-q
 cast-q c = search needs
@@ -53,7 +53,7 @@ same-length-2 : tie.Need-same-length-2
 same-length-2 c = search needs
 
 returns-2 : tie.Need-returns-2
-returns-2 c = let s = c .before .before .before .before .before .before .before in link-one _ _ _ _ (c .before .before .if1 .left) _ (c .before .get16 .ensures) (s .pre .3)
+returns-2 c = let s = c .before .before .before .before .before .before .before .before in link-one _ _ _ _ (c .before .before .before .if1 .left) _ (c .before .before .source-at .ensures) (s .pre .3)
 
 pub link-arc-spec : {M : Type 1} → statement M
 link-arc-spec =
@@ -62,8 +62,8 @@ link-arc-spec =
     mul-if1
     slice-read-if1
     returns
-    mul-get16
-    get16-requires
+    mul-source-at
+    source-at-requires
     cast-q
     mul-next
     slice-read-next

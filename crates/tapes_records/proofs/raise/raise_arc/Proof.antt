@@ -1,30 +1,45 @@
 -- `tapes_records::raise::raise_arc` meets its contract. Assumes nothing.
 use denote.Ref.{now}
 use native.Mathlib.Omega.{arith}
-use Rattle.tapes_records.proofs.RaiseFacts.{first-raisable, second-raisable, arc-raised}
+use Rattle.tapes_records.proofs.RaiseFacts.{source-raisable, target-raisable, arc-raised}
 use borrow.Author.Needs.{needs}
 use Rattle.tapes_records.proofs.raise.raise_arc.Statement.{statement}
 use Rattle.tapes_records.proofs.raise.raise_arc.Tie as tie
 use Rattle.tapes_records.proofs.raise.raise_arc.Reads as reads
 use Rattle.tapes_records.proofs.raise.raise_arc.Lts as lts
-use Rattle.tapes_records.proofs.raise.raise_state.Reads as raise-state-reads
+use Rattle.table.proofs.arc.source_at.Reads as source-at-reads
+use Rattle.table.proofs.arc.store_ends.Reads as store-ends-reads
+use Rattle.table.proofs.arc.target_at.Reads as target-at-reads
 
-raise-state-requires : tie.Need-raise-state-requires
-raise-state-requires c κs = let s = c .before .before in (omega (arith, s .pre .0), first-raisable _ (s .args .at) (now (s .args .arcs)) (s .pre .0) (s .pre .1 .0))
+source-at-requires : tie.Need-source-at-requires
+source-at-requires c κs = search needs
 
-add-raise-state : tie.Need-add-raise-state
-add-raise-state c = search needs
+add-t9 : tie.Need-add-t9
+add-t9 c = let s = c .before .before .before .before in omega (arith, source-raisable (s .args .by) (s .args .at) (now (s .args .arcs)) _ (c .before .source-at .ensures) (s .pre .1 .0))
 
-raise-state-requires-2 : tie.Need-raise-state-requires-2
-raise-state-requires-2 c κs = let s = c .before .before .before .before .before .before in let r = c .before .before .before .raise-state in (omega (arith, s .pre .0, r .kept .0), second-raisable _ (s .args .at) (now (s .args .arcs)) _ (s .pre .0) (r .ensures) (s .pre .1 .1))
+target-at-requires : tie.Need-target-at-requires
+target-at-requires c κs = search needs
+
+add-t9-2 : tie.Need-add-t9-2
+add-t9-2 c = let s = c .before .before .before .before .before .before .before in omega (arith, target-raisable (s .args .by) (s .args .at) (now (s .args .arcs)) _ (c .before .target-at .ensures) (s .pre .1 .1))
+
+store-ends-requires : tie.Need-store-ends-requires
+store-ends-requires c κs = search needs
 
 same-length : tie.Need-same-length
 same-length c = search needs
 
 returns : tie.Need-returns
-returns c = let s = c .before .before .before .before .before .before .before .before .before in arc-raised _ (s .args .at) (now (s .args .arcs)) _ _ (s .pre .0) (c .before .before .before .before .before .before .raise-state .ensures) (c .before .before .raise-state2 .ensures)
+returns c = let s = c .before .before .before .before .before .before .before .before .before .before .before in arc-raised (s .args .by) (s .args .at) (now (s .args .arcs)) _ _ _ (s .pre .0) (c .before .before .before .before .before .before .before .before .source-at .ensures) (c .before .before .before .before .before .target-at .ensures) (c .before .before .store-ends .ensures)
 
 pub raise-arc-spec : {M : Type 1} → statement M
 raise-arc-spec =
     tie.close
-    (tie.spec raise-state-requires add-raise-state raise-state-requires-2 same-length returns)
+    (tie.spec
+    source-at-requires
+    add-t9
+    target-at-requires
+    add-t9-2
+    store-ends-requires
+    same-length
+    returns)

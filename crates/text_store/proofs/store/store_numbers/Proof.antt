@@ -5,8 +5,8 @@ use Rattle.text_store.proofs.store.store_numbers.Statement.{statement}
 use Rattle.text_store.proofs.store.store_numbers.Tie as tie
 use Rattle.text_store.proofs.store.store_numbers.Reads as reads
 use Rattle.text_store.proofs.store.store_numbers.Lts as lts
-use Rattle.table.proofs.bytes.put16.Reads as put16-reads
-use Rattle.table.proofs.bytes.put32.Reads as put32-reads
+use Rattle.table.proofs.arc.store_arc_weight.Reads as store-arc-weight-reads
+use Rattle.table.proofs.arc.store_ends.Reads as store-ends-reads
 use Rattle.text_columns.proofs.decimal.columns_value.Reads as columns-value-reads
 
 sub-columns-value : tie.Need-sub-columns-value
@@ -45,36 +45,27 @@ part-columns-value-end-3 c = search needs
 columns-value-requires-3 : tie.Need-columns-value-requires-3
 columns-value-requires-3 c κs = search needs
 
-cast-put16 : tie.Need-cast-put16
-cast-put16 c = search needs
+cast-t19 : tie.Need-cast-t19
+cast-t19 c = search needs
 
-put16-requires : tie.Need-put16-requires
-put16-requires c κs = search needs
+cast-t19-2 : tie.Need-cast-t19-2
+cast-t19-2 c = search needs
 
-add-put16 : tie.Need-add-put16
-add-put16 c = search needs
+store-ends-requires : tie.Need-store-ends-requires
+store-ends-requires c κs = search needs
 
-cast-put16-2 : tie.Need-cast-put16-2
-cast-put16-2 c = search needs
+cast-store-arc-weight : tie.Need-cast-store-arc-weight
+cast-store-arc-weight c = search needs
 
-put16-requires-2 : tie.Need-put16-requires-2
-put16-requires-2 c κs = search needs
-
-add-put32 : tie.Need-add-put32
-add-put32 c = search needs
-
-cast-put32 : tie.Need-cast-put32
-cast-put32 c = search needs
-
-put32-requires : tie.Need-put32-requires
-put32-requires c κs = search needs
+store-arc-weight-requires : tie.Need-store-arc-weight-requires
+store-arc-weight-requires c κs = search needs
 
 same-length : tie.Need-same-length
 same-length c = search needs
 
 returns : tie.Need-returns
-returns c = let s = c .before .before .before .before .before .before .before .before .before .before .before .before .before .before .before .before .before .before .before .before in
-    numbers-stored (s .args .at) _ _ _ _ _ _ _ _ (s .pre .1) (c .before .before .before .before .before .before .before .before .before .before .before .before .before .before .before .before .columns-value .ensures) (c .before .before .before .before .before .before .before .before .before .before .before .before .before .before .columns-value2 .ensures) (c .before .before .before .before .before .before .before .before .before .before .before .before .columns-value3 .ensures) (c .before .before .before .before .before .before .before .before .before .before .put16 .ensures) (c .before .before .before .before .before .before .put162 .ensures) (c .before .before .put32 .ensures)
+returns c = let s = c .before .before .before .before .before .before .before .before .before .before .before .before .before .before .before .before in
+    numbers-stored (s .args .at) _ _ _ _ _ _ _ (s .pre .1) (c .before .before .before .before .before .before .before .before .before .before .before .before .columns-value .ensures) (c .before .before .before .before .before .before .before .before .before .before .columns-value2 .ensures) (c .before .before .before .before .before .before .before .before .columns-value3 .ensures) (c .before .before .before .before .before .before .store-ends .ensures) (c .before .before .store-arc-weight .ensures)
 
 pub store-numbers-spec : {M : Type 1} → statement M
 store-numbers-spec =
@@ -92,13 +83,10 @@ store-numbers-spec =
     part-columns-value-start-3
     part-columns-value-end-3
     columns-value-requires-3
-    cast-put16
-    put16-requires
-    add-put16
-    cast-put16-2
-    put16-requires-2
-    add-put32
-    cast-put32
-    put32-requires
+    cast-t19
+    cast-t19-2
+    store-ends-requires
+    cast-store-arc-weight
+    store-arc-weight-requires
     same-length
     returns)
