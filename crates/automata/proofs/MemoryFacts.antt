@@ -94,7 +94,7 @@ labelRecord-lawful = convert-lawful (pair-lawful place-lawful (copies-lawful pla
   only = λ p l v r. toLabel-only p l (v .1 .0) r;
 })
 
--- ---- a state takes up 10 bytes, an arc 80: source and target 2 each, its weight 4, 9 for each of 8 tapes
+-- ---- states and arcs: their records have the sizes that the layout says
 
 pub stateRecord-lawful : Lawful stateRecord WellFormedState
 stateRecord-lawful = stateFormat-lawful weightRecord-lawful

@@ -1,5 +1,4 @@
 -- Numbers in a fixed number of bytes, the lowest byte first.
-use mathlib.Core.List.{List, [], _∷_}
 use Prim.Native.Nat.{ℕ, zero, suc, _+_, _*_, _/_, _%_}
 use lib.Dec.{ltb}
 use Rattle.automata.specs.Answer.{ok}

@@ -179,7 +179,8 @@ pub fn least(a: usize, b: usize) -> usize
     if a < b { a } else { b }
 }
 
-// How many bytes so many records take, of 10 or of 80 bytes each; where `size` is neither, the number itself. A million and more stay as they are.
+// How many bytes so many records of states or of arcs take, by their size; where `size` is neither, the number itself. A
+// million and more stay as they are.
 pub fn bytes_of(n: usize, size: usize) -> usize {
     if 1000000 <= n {
         return n;

@@ -12,21 +12,21 @@ use Rattle.table.specs.declared.pair.PairList.{PairList}
 abbrev pub symbols : ℕ → ℕ
 symbols s = if (eqb s 0) 0 1
 
--- the 9 bytes of such a label
+-- the bytes of such a label
 abbrev pub labelBytes : ℕ → List ℕ
 labelBytes s = symbols s ∷ s ∷ replicate 7 0
 
--- the 80 bytes of an arc, by its source, target and three symbols
+-- the bytes of an arc, by its source, target and three symbols
 abbrev pub arcBytes : List ℕ → List ℕ
 arcBytes a =
     getD a 0 0 ∷ 0 ∷ getD a 1 0 ∷ 0 ∷ 0 ∷ 0 ∷ 0 ∷ 0
     ∷ (labelBytes (getD a 2 0) ++ (labelBytes (getD a 3 0) ++ (labelBytes (getD a 4 0) ++ replicate 45 0)))
 
--- the 320 bytes of four arcs
+-- the bytes of four arcs
 abbrev pub arcsBytes : List ℕ → List ℕ → List ℕ → List ℕ → List ℕ
 arcsBytes a b c d = arcBytes a ++ (arcBytes b ++ (arcBytes c ++ arcBytes d))
 
--- the 10 bytes of a state that is final or not
+-- the bytes of a state that is final or not
 abbrev pub finalBytes : ℕ → List ℕ
 finalBytes f = replicate 5 0 ++ (f ∷ replicate 4 0)
 

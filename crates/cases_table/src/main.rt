@@ -8,6 +8,7 @@ use table::answer::Counts;
 use table::answer::Judged;
 use table::answer::refusal_number;
 use table::judge::judge;
+use table::layout::ARC_SIZE;
 
 // The number of a judgement: 0 where there is no refusal.
 fn number_of(judged: Judged) -> u8 {
@@ -198,7 +199,7 @@ fn arc_cases() {
     // 4: target 65,281
     arc_case(51, 3, 255, 3, 255);
     // 0: source 0 of the second arc
-    arc_case(52, 80, 0, 80, 0);
+    arc_case(52, ARC_SIZE, 0, ARC_SIZE, 0);
     // 3: weight 1,006,632,967
     arc_case(53, 7, 60, 7, 60);
     // 0: weight 989,855,751
@@ -262,7 +263,7 @@ fn order_cases() {
     // 2: 4 (target) and 2 (symbol)
     arc_case(79, 2, 2, 9, 97);
     // 3: 4 (source) and 3 (label length) in the second arc
-    arc_case(80, 80, 2, 88, 9);
+    arc_case(80, ARC_SIZE, 2, 88, 9);
     // 2: 3 (length) and 2 (symbol) in one label
     arc_case(81, 88, 9, 89, 97);
     // 4: 4 (source) and 4 (target)
@@ -270,11 +271,11 @@ fn order_cases() {
     // 4: 4 in the first arc, 2 in the second: in record order
     arc_case(83, 0, 2, 89, 97);
     // 3: 3 in the first arc, 4 in the second
-    arc_case(84, 7, 60, 80, 9);
+    arc_case(84, 7, 60, ARC_SIZE, 9);
     // 3: 3 in the first arc, 2 in the second
     arc_case(85, 7, 60, 89, 97);
     // 2: 2 in the first arc, 4 in the second
-    arc_case(86, 9, 97, 80, 9);
+    arc_case(86, 9, 97, ARC_SIZE, 9);
     // 3: 3 in the second state, 2 in the first arc: states first
     mixed_case(87, 20, 160, 19, 255, 9, 97);
     // 2: 2 in the second state, 4 in the first arc

@@ -3,14 +3,14 @@ use Prim.Native.Nat.{ℕ, zero, suc, _+_, _-_, _*_, _<_, _≤_}
 use mathlib.Core.Path.{_≡_, refl, sym, _∙_}
 use mathlib.Core.Logic.{_≢_, inr}
 use mathlib.Core.Bool.{Bool, true, false, not}
-use mathlib.Core.List.{List, [], _∷_}
+use mathlib.Core.List.{List}
 use native.Mathlib.Omega.{arith}
 use native.Mathlib.Decide.{ℕ-discrete}
 use lib.Dec.{eqb, leb}
 use lib.ListN.{length, getD}
 use Rattle.table.specs.Region.{part}
 use Rattle.table.specs.Endian.{le}
-use Rattle.automata.specs.Lists.{and, or}
+use Rattle.automata.specs.Lists.{or}
 use Rattle.automata.specs.Closing.{withDelay≤}
 use Rattle.automata.proofs.TestFacts.{eqb-false}
 use Rattle.table.specs.declared.pair.Pair.{Pair}

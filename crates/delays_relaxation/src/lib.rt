@@ -17,7 +17,7 @@ use table::layout::DELAYS_SIZE;
 use table::layout::FINAL_PLACE;
 use table::layout::STATE_SIZE;
 ghost use mathlib.Core.Path.{_≡_};
-ghost use Prim.Native.Nat.{ℕ, _+_, _*_, _≤_, _<_};
+ghost use Prim.Native.Nat.{_+_, _*_, _≤_, _<_};
 ghost use lib.ListN.{length};
 ghost use Rattle.automata.specs.Lists.{and};
 ghost use Rattle.automata.specs.InPlace.{Becomes};

@@ -15,7 +15,7 @@ use Rattle.table.proofs.RegionFacts.{part-part, getD-part, part-front, part-mid
 use Rattle.table.proofs.EndianFacts.{le-toLe}
 use Rattle.intersect_config.specs.declared.leftover.Leftover.{Leftover}
 use Rattle.intersect_config.specs.Leftovers.{flag, sided, leftoverAs, blank, outside, Good, leftoverBytes, leftoverAt, packed, leftoverOf, leftoverRoom, leftoverSize}
-use Rattle.intersect_config.specs.Configs.{Config, configAs, GoodConfig, configBytes, configAt, rowSize}
+use Rattle.intersect_config.specs.Configs.{Config, configAs, GoodConfig, configBytes, configAt, rowSize, slot}
 use Rattle.intersect_config.proofs.ListFacts.{four-elements, All-take}
 use Rattle.intersect_config.proofs.TestFacts.{good-at, kept-length}
 
@@ -69,9 +69,9 @@ module _ (used : ℕ) (c : Config) (g : GoodConfig used c) where
       let m1 : length z1 ≡ leftoverSize = leftover-length l1 g1 in
       let m2 : length z2 ≡ leftoverSize = leftover-length l2 g2 in
       let m3 : length z3 ≡ leftoverSize = leftover-length l3 g3 in
-      let n1 : length (z0 ++ z1) ≡ 76 = simp length-append (omega (arith, m1)) in
-      let n2 : length ((z0 ++ z1) ++ z2) ≡ 150 = simp length-append (omega (arith, m1, m2)) in
-      let n3 : length (((z0 ++ z1) ++ z2) ++ z3) ≡ 224 = simp length-append (omega (arith, m1, m2, m3)) in
+      let n1 : length (z0 ++ z1) ≡ slot 1 = simp length-append (omega (arith, m1)) in
+      let n2 : length ((z0 ++ z1) ++ z2) ≡ slot 2 = simp length-append (omega (arith, m1, m2)) in
+      let n3 : length (((z0 ++ z1) ++ z2) ++ z3) ≡ slot 3 = simp length-append (omega (arith, m1, m2, m3)) in
       let whole : List ℕ = z0 ++ (z1 ++ (z2 ++ (z3 ++ z4))) in
       let s : le (part 0 2 whole) ≡ c .state .0 = ap le (part-front 2 z0 (z1 ++ (z2 ++ (z3 ++ z4))) refl) ∙ le-toLe 2 (c .state .0) (g .state-fits) in
       let a1 : leftoverAt 2 whole ≡ l1 = leftover-back 2 z0 (z2 ++ (z3 ++ z4)) l1 refl g1 in
@@ -79,10 +79,10 @@ module _ (used : ℕ) (c : Config) (g : GoodConfig used c) where
       let e3 : whole ≡ ((z0 ++ z1) ++ z2) ++ (z3 ++ z4) = e2 ∙ sym (append-assoc (z0 ++ z1) z2 (z3 ++ z4)) in
       let e4 : whole ≡ (((z0 ++ z1) ++ z2) ++ z3) ++ (z4 ++ []) =
       e3 ∙ sym (append-assoc ((z0 ++ z1) ++ z2) z3 z4) ∙ ap (λ (x : List ℕ). (((z0 ++ z1) ++ z2) ++ z3) ++ x) (sym (append-nil z4)) in
-      let a2 : leftoverAt 76 whole ≡ l2 = ap (leftoverAt 76) e2 ∙ leftover-back 76 (z0 ++ z1) (z3 ++ z4) l2 n1 g2 in
-      let a3 : leftoverAt 150 whole ≡ l3 = ap (leftoverAt 150) e3 ∙ leftover-back 150 ((z0 ++ z1) ++ z2) z4 l3 n2 g3 in
-      let a4 : leftoverAt 224 whole ≡ l4 = ap (leftoverAt 224) e4 ∙ leftover-back 224 (((z0 ++ z1) ++ z2) ++ z3) [] l4 n3 g4 in
-      let ls : leftoverAt 2 whole ∷ leftoverAt 76 whole ∷ leftoverAt 150 whole ∷ leftoverAt 224 whole ∷ [] ≡ c .leftovers =
+      let a2 : leftoverAt (slot 1) whole ≡ l2 = ap (leftoverAt (slot 1)) e2 ∙ leftover-back (slot 1) (z0 ++ z1) (z3 ++ z4) l2 n1 g2 in
+      let a3 : leftoverAt (slot 2) whole ≡ l3 = ap (leftoverAt (slot 2)) e3 ∙ leftover-back (slot 2) ((z0 ++ z1) ++ z2) z4 l3 n2 g3 in
+      let a4 : leftoverAt (slot 3) whole ≡ l4 = ap (leftoverAt (slot 3)) e4 ∙ leftover-back (slot 3) (((z0 ++ z1) ++ z2) ++ z3) [] l4 n3 g4 in
+      let ls : leftoverAt 2 whole ∷ leftoverAt (slot 1) whole ∷ leftoverAt (slot 2) whole ∷ leftoverAt (slot 3) whole ∷ [] ≡ c .leftovers =
       (λ i. a1 i ∷ a2 i ∷ a3 i ∷ a4 i ∷ []) ∙ sym (four-elements outside (c .leftovers) (g .four)) in
       λ i. record { state = record { 0 = s i }; leftovers = ls i }
 
@@ -100,9 +100,9 @@ unfolding configAt
 config-row at xs =
     let s : le (part at 2 xs) ≡ le (part 0 2 (part at rowSize xs)) = ap le (sym (part-part 0 2 at rowSize xs (omega arith) ∙ ap (λ (n : ℕ). part n 2 xs) (add-zero at))) in
     let a = leftover-in at 2 xs (omega arith) in
-    let b = leftover-in at 76 xs (omega arith) in
-    let c = leftover-in at 150 xs (omega arith) in
-    let d = leftover-in at 224 xs (omega arith) in
+    let b = leftover-in at (slot 1) xs (omega arith) in
+    let c = leftover-in at (slot 2) xs (omega arith) in
+    let d = leftover-in at (slot 3) xs (omega arith) in
     λ i. record { state = record { 0 = s i }; leftovers = a i ∷ b i ∷ c i ∷ d i ∷ [] }
 
 -- a configuration is loaded from where its bytes stand

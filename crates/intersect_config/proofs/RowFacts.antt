@@ -9,7 +9,7 @@ use lib.Seq.{take-at, drop-at, drop-drop, drop-set-lt, getD-set-same, getD-set-o
 use Rattle.automata.specs.Lists.{All}
 use Rattle.automata.specs.Leftover as automata
 use mathlib.Core.Option.{Option}
-use Rattle.table.specs.Region.{part, splice}
+use Rattle.table.specs.Region.{splice}
 use Rattle.table.specs.Endian.{toLe}
 use Rattle.table.proofs.EndianFacts.{length-toLe}
 use Rattle.table.specs.declared.record.InputState.{InputState}
@@ -103,24 +103,24 @@ module _ (used : ℕ) (c : Config) (g : GoodConfig used c) where
         ∙ ap₂ (λ (a r : List ℕ). s ++ (a ++ r)) (sym (same 0 (omega arith)))
         (ap₂ (λ (b r : List ℕ). b ++ r) (sym (other 0 1 (λ e. absurd (omega arith)))) (ap₂ (λ (b r : List ℕ). b ++ r) (sym (other 0 2 (λ e. absurd (omega arith)))) (sym (other 0 3 (λ e. absurd (omega arith))))))
     slot-bytes (suc zero) h =
-        let n : length (s ++ z 0) ≡ 76 = simp length-append (omega (arith, long 0 (omega arith), length-toLe 2 (c .state .0))) in
-        ap (splice 76 x) (sym (append-assoc s (z 0) (z 1 ++ (z 2 ++ z 3))))
-        ∙ over-middle 76 (s ++ z 0) (z 1) (z 2 ++ z 3) x n (even 1 (omega arith)) ∙ append-assoc s (z 0) (x ++ (z 2 ++ z 3))
+        let n : length (s ++ z 0) ≡ slot 1 = simp length-append (omega (arith, long 0 (omega arith), length-toLe 2 (c .state .0))) in
+        ap (splice (slot 1) x) (sym (append-assoc s (z 0) (z 1 ++ (z 2 ++ z 3))))
+        ∙ over-middle (slot 1) (s ++ z 0) (z 1) (z 2 ++ z 3) x n (even 1 (omega arith)) ∙ append-assoc s (z 0) (x ++ (z 2 ++ z 3))
         ∙ ap₂ (λ (a r : List ℕ). s ++ (a ++ r)) (sym (other 1 0 (λ e. absurd (omega arith))))
         (ap₂ (λ (b r : List ℕ). b ++ r) (sym (same 1 (omega arith))) (ap₂ (λ (b r : List ℕ). b ++ r) (sym (other 1 2 (λ e. absurd (omega arith)))) (sym (other 1 3 (λ e. absurd (omega arith))))))
     slot-bytes (suc (suc zero)) h =
-        let n : length ((s ++ z 0) ++ z 1) ≡ 150 = simp length-append (omega (arith, long 0 (omega arith), long 1 (omega arith), length-toLe 2 (c .state .0))) in
-        ap (splice 150 x) (sym (append-assoc s (z 0) (z 1 ++ (z 2 ++ z 3))) ∙ sym (append-assoc (s ++ z 0) (z 1) (z 2 ++ z 3)))
-        ∙ over-middle 150 ((s ++ z 0) ++ z 1) (z 2) (z 3) x n (even 2 (omega arith)) ∙ append-assoc (s ++ z 0) (z 1) (x ++ z 3) ∙ append-assoc s (z 0) (z 1 ++ (x ++ z 3))
+        let n : length ((s ++ z 0) ++ z 1) ≡ slot 2 = simp length-append (omega (arith, long 0 (omega arith), long 1 (omega arith), length-toLe 2 (c .state .0))) in
+        ap (splice (slot 2) x) (sym (append-assoc s (z 0) (z 1 ++ (z 2 ++ z 3))) ∙ sym (append-assoc (s ++ z 0) (z 1) (z 2 ++ z 3)))
+        ∙ over-middle (slot 2) ((s ++ z 0) ++ z 1) (z 2) (z 3) x n (even 2 (omega arith)) ∙ append-assoc (s ++ z 0) (z 1) (x ++ z 3) ∙ append-assoc s (z 0) (z 1 ++ (x ++ z 3))
         ∙ ap₂ (λ (a r : List ℕ). s ++ (a ++ r)) (sym (other 2 0 (λ e. absurd (omega arith))))
         (ap₂ (λ (b r : List ℕ). b ++ r) (sym (other 2 1 (λ e. absurd (omega arith)))) (ap₂ (λ (b r : List ℕ). b ++ r) (sym (same 2 (omega arith))) (sym (other 2 3 (λ e. absurd (omega arith))))))
     slot-bytes (suc (suc (suc zero))) h =
-        let n : length (((s ++ z 0) ++ z 1) ++ z 2) ≡ 224 =
+        let n : length (((s ++ z 0) ++ z 1) ++ z 2) ≡ slot 3 =
         simp length-append (omega (arith, long 0 (omega arith), long 1 (omega arith), long 2 (omega arith), length-toLe 2 (c .state .0))) in
-        ap (splice 224 x)
+        ap (splice (slot 3) x)
         (sym (append-assoc s (z 0) (z 1 ++ (z 2 ++ z 3))) ∙ sym (append-assoc (s ++ z 0) (z 1) (z 2 ++ z 3)) ∙ sym (append-assoc ((s ++ z 0) ++ z 1) (z 2) (z 3))
         ∙ ap (λ (r : List ℕ). (((s ++ z 0) ++ z 1) ++ z 2) ++ r) (sym (append-nil (z 3))))
-        ∙ over-middle 224 (((s ++ z 0) ++ z 1) ++ z 2) (z 3) [] x n (even 3 (omega arith)) ∙ ap (λ (r : List ℕ). (((s ++ z 0) ++ z 1) ++ z 2) ++ r) (append-nil x)
+        ∙ over-middle (slot 3) (((s ++ z 0) ++ z 1) ++ z 2) (z 3) [] x n (even 3 (omega arith)) ∙ ap (λ (r : List ℕ). (((s ++ z 0) ++ z 1) ++ z 2) ++ r) (append-nil x)
         ∙ append-assoc ((s ++ z 0) ++ z 1) (z 2) x ∙ append-assoc (s ++ z 0) (z 1) (z 2 ++ x) ∙ append-assoc s (z 0) (z 1 ++ (z 2 ++ x))
         ∙ ap₂ (λ (a r : List ℕ). s ++ (a ++ r)) (sym (other 3 0 (λ e. absurd (omega arith))))
         (ap₂ (λ (b r : List ℕ). b ++ r) (sym (other 3 1 (λ e. absurd (omega arith)))) (ap₂ (λ (b r : List ℕ). b ++ r) (sym (other 3 2 (λ e. absurd (omega arith)))) (sym (same 3 (omega arith)))))

@@ -31,7 +31,7 @@ places-are : (xs : List ℕ) → writeAll (place .write) xs ≡ xs
 places-are [] = refl
 places-are (x ∷ xs) = ap (λ (y : List ℕ). x ∷ y) (places-are xs)
 
--- a label from the 9 bytes of its record
+-- a label from the bytes of its record
 module _ (l : List ℕ) (p : ℕ) (xs : List ℕ) (h : length l ≤ 8) (e : part p labelSize xs ≡ labelRecord .write l) where
   nine : part p labelSize xs ≡ length l ∷ (l ++ zeros (8 - length l))
   nine = e ∙ ap (λ (y : List ℕ). length l ∷ y) (places-are (l ++ zeros (8 - length l)))
@@ -80,7 +80,7 @@ module _ (m : Memory) (s : Sound m) (k : ℕ) (h : k < m .arcs) (d : Arc ℕ) wh
         let p : labelPlace (arcSize * k) i ≡ k * arcSize + (labelsPlace + i * labelSize) = omega arith in
         ap (λ (j : ℕ). take labelSize (drop j (m .arcBytes))) p ∙ label-field m (tableOf m) (sound-well-formed m s) (sound-holds m s) k d h i (omega (arith, sound-holds m s .tapes))
 
-  -- the bytes of a judged table read as its k-th arc, 80 bytes from each to the next
+  -- the bytes of a judged table read as its k-th arc, one record behind the other
   pub reads-arc : Reads (m .arcBytes) (arcSize * k) (m .tapes) (getD (tableOf m .arcs) k d)
   reads-arc = record {
     whole = arc-whole;

@@ -19,7 +19,7 @@ use Rattle.table.proofs.RegionFacts.{take-splice-in}
 use Rattle.table.specs.declared.record.Label.{Label}
 use Rattle.intersect_config.specs.declared.leftover.Leftover.{Leftover}
 use Rattle.intersect_config.specs.declared.leftover.Advanced.{Advanced}
-use Rattle.intersect_config.specs.Leftovers.{sided, leftoverAs, labelOf, blank, Good, packed, packedTwo, leftoverOf, advancedOf, exchanged, turned, agrees, Advances, leftoverRoom}
+use Rattle.intersect_config.specs.Leftovers.{sided, leftoverAs, labelOf, blank, Good, packed, leftoverOf, advancedOf, exchanged, turned, agrees, Advances, leftoverRoom}
 use Rattle.intersect_config.proofs.ListFacts.{drop-replicate}
 
 -- ---- one step of the comparison

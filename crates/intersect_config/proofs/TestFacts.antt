@@ -10,7 +10,7 @@ use lib.Dec.{ltb}
 use lib.ListN.{length, getD, getElem?, take, drop, replicate, drop-of-length-le, length-take, length-map}
 use lib.Seq.{drop-cons, getD-take, length-take-le}
 use borrow.Author.Tests.{lt-ltb, le-ltb}
-use Rattle.automata.specs.Lists.{or, and, All}
+use Rattle.automata.specs.Lists.{or, All}
 use Rattle.automata.specs.TapePair.{TapePair}
 use Rattle.automata.specs.Leftover as automata
 use Rattle.automata.specs.Config.{tooLong}

@@ -40,16 +40,16 @@ configBytes c =
     ++ (leftoverBytes (getD (c .leftovers) 0 outside)
     ++ (leftoverBytes (getD (c .leftovers) 1 outside) ++ (leftoverBytes (getD (c .leftovers) 2 outside) ++ leftoverBytes (getD (c .leftovers) 3 outside))))
 
+-- where the leftover of a pair stands in a record
+abbrev pub slot : ℕ → ℕ
+slot i = 2 + leftoverSize * i
+
 -- the configuration whose record stands at a place
 unfoldable pub configAt : ℕ → List ℕ → Config
 configAt at xs = record {
   state = record { 0 = le (part at 2 xs) };
-  leftovers = leftoverAt (at + 2) xs ∷ leftoverAt (at + 76) xs ∷ leftoverAt (at + 150) xs ∷ leftoverAt (at + 224) xs ∷ [];
+  leftovers = leftoverAt (at + 2) xs ∷ leftoverAt (at + slot 1) xs ∷ leftoverAt (at + slot 2) xs ∷ leftoverAt (at + slot 3) xs ∷ [];
 }
-
--- where the leftover of a pair stands in a record
-abbrev pub slot : ℕ → ℕ
-slot i = 2 + leftoverSize * i
 
 -- the bytes are the record of a configuration of so many pairs in its one form
 pub record Row (used : ℕ) (row : List ℕ) : Type 0 where

@@ -19,6 +19,15 @@ use table::record::InputState;
 // The bytes of a configuration: its state 2, each of four leftovers 74.
 pub const ROW_SIZE: usize = 298;
 
+// Where the leftovers stand.
+const FIRST_SLOT: usize = 2;
+
+const SECOND_SLOT: usize = FIRST_SLOT + LEFTOVER_SIZE;
+
+const THIRD_SLOT: usize = SECOND_SLOT + LEFTOVER_SIZE;
+
+const FOURTH_SLOT: usize = THIRD_SLOT + LEFTOVER_SIZE;
+
 // The record of the configuration in which a path starts.
 pub fn start_row(state: InputState) -> [u8; ROW_SIZE]
     ensures { λ r. ⌜ Starts (state .0) (configAt 0 r) × (configBytes (configAt 0 r) ≡ r) ⌝ }
@@ -68,10 +77,10 @@ fn lengths_on(second: bool, row: &[u8]) -> [u8; 4]
     requires { ⌜ (length (now row) ≡ rowSize) × All Good (configAt 0 (now row) .leftovers) ⌝ }
     ensures { λ r. ⌜ r ≡ lengthsOn second (configAt 0 (now (row .entry))) ⌝ }
 {
-    let w = length_on(second, row, 2);
-    let x = length_on(second, row, 76);
-    let y = length_on(second, row, 150);
-    let z = length_on(second, row, 224);
+    let w = length_on(second, row, FIRST_SLOT);
+    let x = length_on(second, row, SECOND_SLOT);
+    let y = length_on(second, row, THIRD_SLOT);
+    let z = length_on(second, row, FOURTH_SLOT);
     [w, x, y, z]
 }
 

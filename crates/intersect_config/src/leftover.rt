@@ -58,7 +58,7 @@ fn agree(u: &[u8], v: &[u8]) -> bool
 }
 
 // A string as the leftover of one tape.
-fn keep(second: bool, r: &[u8]) -> Leftover
+fn pack(second: bool, r: &[u8]) -> Leftover
     requires { ⌜ length (now r) ≤ leftoverRoom ⌝ }
     ensures { λ l. ⌜ l ≡ packed second (now (r .entry)) ⌝ }
 {
@@ -84,9 +84,9 @@ fn strip_to(turn: bool, u: &[u8], v: &[u8]) -> Advanced
         let n = u.len();
         let m = v.len();
         let leftover = if m < n {
-            keep(turn, &u[m..])
+            pack(turn, &u[m..])
         } else {
-            keep(!turn, &v[n..])
+            pack(!turn, &v[n..])
         };
         Advanced {
             compatible: true,

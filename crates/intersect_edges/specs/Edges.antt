@@ -3,7 +3,7 @@ use Prim.Native.Nat.{ℕ, zero, suc, _+_, _*_, _<_}
 use mathlib.Core.Path.{_≡_}
 use mathlib.Core.Option.{some}
 use mathlib.Core.List.{List, [], _∷_, _++_}
-use lib.ListN.{length, getElem?}
+use lib.ListN.{getElem?}
 use Rattle.automata.specs.Lists.{All}
 use Rattle.automata.specs.Graph.{Graph}
 use Rattle.automata.specs.Automaton.{Arc}

@@ -1,6 +1,6 @@
 -- The hash of a record, leftover by leftover, and which rows may be entered.
 use Prim.Native.Nat.{ℕ, zero, suc, _+_, _-_, _*_, _/_, _≤_, _<_}
-use mathlib.Core.Path.{_≡_, refl, sym, ap, ap₂, _∙_, subst}
+use mathlib.Core.Path.{_≡_, sym, ap, ap₂, _∙_, subst}
 use mathlib.Core.List.{List}
 use native.Mathlib.Omega.{arith}
 use native.Mathlib.Nat.{sub-zero}
@@ -10,7 +10,7 @@ use Rattle.automata.specs.Limits.{maxDelay}
 use Rattle.automata.specs.Layout.{configSize}
 use Rattle.search_chains.specs.Hash.{hashFrom}
 use Rattle.intersect_config.specs.Leftovers.{outside, leftoverSize}
-use Rattle.intersect_config.specs.Configs.{Config, configAs, GoodConfig, configBytes, configAt, Row}
+use Rattle.intersect_config.specs.Configs.{Config, configAs, GoodConfig, configBytes, configAt}
 use Rattle.intersect_config.proofs.RowFacts.{len-in-slot, length-row}
 use Rattle.intersect_offers.specs.declared.plan.Plan.{Plan}
 use Rattle.intersect_offers.specs.Plans.{Explorable, StoredIn}

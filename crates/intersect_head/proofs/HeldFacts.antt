@@ -2,7 +2,7 @@
 use Prim.Native.Nat.{ℕ, _+_, _-_, _*_, _≤_, _<_}
 use mathlib.Core.Path.{_≡_, refl, sym, ap, _∙_, subst}
 use mathlib.Core.Bool.{Bool}
-use mathlib.Core.List.{List, [], _∷_, _++_, append-nil}
+use mathlib.Core.List.{List, [], _∷_, _++_}
 use native.Mathlib.Omega.{arith}
 use lib.ListN.{length, getD}
 use Rattle.automata.specs.Automaton.{Arc}
@@ -19,9 +19,9 @@ use Rattle.search_rows.specs.declared.Reached.{Reached}
 use Rattle.table.proofs.RegionFacts.{getD-part, part-splice-before, part-splice-after}
 use Rattle.search_rows.specs.declared.Entered.{Entered}
 use Rattle.search_rows.specs.declared.Entered.the-variants as E
-use Rattle.search_rows.specs.Kept.{keptRecord}
+use Rattle.search_rows.specs.Kept.{storedWithin}
 use Rattle.search_rows.proofs.CodeFacts.{all-insert}
-use Rattle.search_rows.proofs.KeptFacts.{kept-cases, front-made}
+use Rattle.search_rows.proofs.KeptFacts.{kept-cases}
 use Rattle.search_rows.proofs.SearchFacts.{count-more}
 use Rattle.search_chains.specs.Chain.{recordAt, Chained}
 use Rattle.search_chains.specs.Parts.{partStart, partSize, Agrees}
@@ -158,7 +158,7 @@ module _ (p : Plan) (states arcs : List ℕ) (size : ℕ) (x : Explorable p stat
   before l a n b = part-splice-before a n place (edgeBytes (recordOf e)) w (omega (arith, x .configs-fit, b)) (omega (arith, x .edges-fit, x .delays-fit, lw, l))
 
   -- the head counts it whether there is room or not
-  pub edge-held : (u : List ℕ) → u ≡ keptRecord (p .room .edges) (p .room .arcs) (h .arcs) (edgeBytes (recordOf e)) w → Holds p states arcs (counted h) longer late u
+  pub edge-held : (u : List ℕ) → u ≡ storedWithin (p .room .edges) (p .room .arcs) (h .arcs) (edgeBytes (recordOf e)) w → Holds p states arcs (counted h) longer late u
   edge-held u k = kept-cases (p .room .edges) (p .room .arcs) (h .arcs) (edgeBytes (recordOf e)) w u k (λ z. Holds p states arcs (counted h) longer late z)
       (λ l. record {
         configs = fronts-same 0 configSize rowSize (length (s .vertices)) w _ (λ i b. before l (0 + i * configSize) rowSize (omega (arith, o .fits, b))) ∙ o .configs;

@@ -23,7 +23,7 @@ use Rattle.automata.proofs.Configurations.{configs-decided}
 use Rattle.automata.proofs.SoundFacts.{sound-well-formed}
 use Rattle.automata.proofs.IntersectSteps.{outUpTo-zero, outUpTo-all, outUpTo-begins, noted-to, noted-none, lateUpTo-zero, lateUpTo-suc}
 use Rattle.automata.specs.Layout.{configSize}
-use Rattle.table.specs.Region.{part, splice}
+use Rattle.table.specs.Region.{part}
 use Rattle.table.specs.Answers.{lent}
 use Rattle.search_chains.proofs.Meaning.{code-at}
 use Rattle.search_rows.proofs.SearchFacts.{noted-longer}

@@ -21,7 +21,7 @@ use Rattle.table.specs.Answers.{lent}
 use Rattle.search_rows.specs.declared.Reached.{Reached}
 use Rattle.search_rows.specs.declared.Entered.{Entered}
 use Rattle.search_rows.specs.declared.Entered.the-variants as E
-use Rattle.search_rows.specs.Kept.{keptRecord}
+use Rattle.search_rows.specs.Kept.{storedWithin}
 use Rattle.search_rows.proofs.CodeFacts.{index-bound}
 use Rattle.search_rows.proofs.KeptFacts.{kept-length}
 use Rattle.search_chains.specs.Inserted.{Inserted}
@@ -60,7 +60,7 @@ module _ (p : Plan) (h : Head) (d : Config) (j : ℕ) (v : List ℕ) (q : Arriva
       → Inserted rowOf sameConfig (bucketBy (p .pairs .used) (p .room .states)) configSize rowSize (p .room .states) (s .vertices) c v w n × (k ≡ length (insert sameConfig (s .vertices) c))
 
   arrives-noted : (k : ℕ) (n : Reached) (w : List ℕ) → h .reached ≤ k → Enters k n w → (g : Head) (u : List ℕ)
-      → (g ≡ counted (withReached k h)) × (u ≡ keptRecord (p .room .edges) (p .room .arcs) (h .arcs) (edgeBytes (noted h j n)) w) → Arrives p h d j v g u
+      → (g ≡ counted (withReached k h)) × (u ≡ storedWithin (p .room .edges) (p .room .arcs) (h .arcs) (edgeBytes (noted h j n)) w) → Arrives p h d j v g u
   unfolding note
   arrives-noted k n w l enters g u e = record {
     taken = ap (λ (z : Head). z .taken) (e .0);
@@ -77,8 +77,8 @@ module _ (p : Plan) (h : Head) (d : Config) (j : ℕ) (v : List ℕ) (q : Arriva
         let at : ℕ = indexOf sameConfig c more in
         let o1 = inserted-held p h d v (q .good) (q .stored) states arcs s late x o n w k i in
         let b : at ≤ length more = index-bound sameConfig c more in
-        let m : u ≡ keptRecord (p .room .edges) (p .room .arcs) (h .arcs) (edgeBytes (noted h j (record { 0 = at }))) w
-        = e .1 ∙ ap (λ (z : ℕ). keptRecord (p .room .edges) (p .room .arcs) (h .arcs) (edgeBytes (noted h j (record { 0 = z }))) w) (i .0 .number) in
+        let m : u ≡ storedWithin (p .room .edges) (p .room .arcs) (h .arcs) (edgeBytes (noted h j (record { 0 = at }))) w
+        = e .1 ∙ ap (λ (z : ℕ). storedWithin (p .room .edges) (p .room .arcs) (h .arcs) (edgeBytes (noted h j (record { 0 = z }))) w) (i .0 .number) in
         let o2 = edge-held p states arcs (length v) x (withReached k h) (record { vertices = more; edges = s .edges }) late w (i .0 .same-length) o1
         (record { from = h .taken; label = (j, a); to = at }) (q .taken-fits) (q .arc-fits) b u m in
         record {
@@ -90,7 +90,7 @@ module _ (p : Plan) (h : Head) (d : Config) (j : ℕ) (v : List ℕ) (q : Arriva
   module _ (r : Entered) (w : List ℕ) (t : EntersConfig (h .reached) (p .room .states) (p .pairs .used) d v r w) where
     -- it was there already
     pub arrives-at : (n : Reached) → r ≡ E.At n → (g : Head) (u : List ℕ)
-        → (g ≡ counted h) × (u ≡ keptRecord (p .room .edges) (p .room .arcs) (h .arcs) (edgeBytes (noted h j n)) w) → Arrives p h d j v g u
+        → (g ≡ counted h) × (u ≡ storedWithin (p .room .edges) (p .room .arcs) (h .arcs) (edgeBytes (noted h j n)) w) → Arrives p h d j v g u
     arrives-at n z = arrives-noted (h .reached) n w (omega arith)
         (λ states arcs s late x o.
         let t2 = subst (λ (y : Entered). EntersConfig (h .reached) (p .room .states) (p .pairs .used) d v y w) z t in
@@ -98,7 +98,7 @@ module _ (p : Plan) (h : Head) (d : Config) (j : ℕ) (v : List ℕ) (q : Arriva
 
     -- it is new
     pub arrives-new : (n : Reached) → r ≡ E.New n → (g : Head) (u : List ℕ)
-        → (g ≡ counted (withReached (h .reached + 1) h)) × (u ≡ keptRecord (p .room .edges) (p .room .arcs) (h .arcs) (edgeBytes (noted h j n)) w) → Arrives p h d j v g u
+        → (g ≡ counted (withReached (h .reached + 1) h)) × (u ≡ storedWithin (p .room .edges) (p .room .arcs) (h .arcs) (edgeBytes (noted h j n)) w) → Arrives p h d j v g u
     arrives-new n z = arrives-noted (h .reached + 1) n w (omega arith)
         (λ states arcs s late x o.
         let t2 = subst (λ (y : Entered). EntersConfig (h .reached) (p .room .states) (p .pairs .used) d v y w) z t in

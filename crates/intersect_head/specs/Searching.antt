@@ -14,6 +14,7 @@ use Rattle.automata.specs.Search.{Search, note, noteAll}
 use Rattle.automata.specs.Intersect.{out}
 use Rattle.automata.specs.Layout.{configSize}
 use Rattle.search_rows.specs.declared.Entered.{Entered}
+use Rattle.search_rows.specs.Comes as search
 use Rattle.search_chains.specs.Chain.{Chained, Enters}
 use Rattle.search_chains.specs.Hash.{hashFrom, bucketOf}
 use Rattle.search_chains.specs.declared.Shape.{Shape}
@@ -77,9 +78,8 @@ pub record Holds (p : Plan) (states arcs : List ℕ) (h : Head) (s : ConfigSearc
   pub stored : All (StoredIn p) (s .vertices)
 
 -- the head r and the work space w hold the search s, or the configurations are full and s has more of them than there is room for
-pub record Comes (p : Plan) (states arcs : List ℕ) (r : Head) (s : ConfigSearch) (late : Bool) (w : List ℕ) : Type 0 where
-  pub held : r .full ≡ false → Holds p states arcs r s late w
-  pub over : r .full ≡ true → p .room .states < length (s .vertices)
+abbrev pub Comes : Plan → List ℕ → List ℕ → Head → ConfigSearch → Bool → List ℕ → Type 0
+Comes p states arcs r s l w = search.Comes (r .full) (Holds p states arcs r s l w) (p .room .states < length (s .vertices))
 
 -- ---- one arc
 

@@ -5,7 +5,7 @@ ghost use lib.ListN.{length};
 ghost use Rattle.table_adjacency.specs.Chains.{Chained};
 ghost use Rattle.intersect_config.specs.Configs.{configBytes, configAt, Row, rowSize};
 ghost use Rattle.intersect_edges.specs.Edges.{edgeBytes};
-ghost use Rattle.search_rows.specs.Kept.{keptRecord};
+ghost use Rattle.search_rows.specs.Kept.{storedWithin};
 ghost use Rattle.intersect_head.specs.Searching.{counted, Arrivable, Arrives, Visitable, Visits, Takable, TakesUp};
 ghost use Rattle.intersect_head.specs.Starting.{Admittable, Admits, Startable, Enters};
 ghost use Rattle.automata.specs.Layout.{stepSize};
@@ -21,7 +21,7 @@ use intersect_offers::plan::Plan;
 use intersect_room::room::Room;
 use search_rows::Entered;
 use search_rows::Reached;
-use search_rows::keep;
+use search_rows::store_within;
 use table::bytes::get16;
 use table::layout::CONFIG_SIZE;
 use table::layout::STATE_SIZE;
@@ -38,20 +38,20 @@ pub struct Head {
 }
 
 // The record of the edge with this number, written where there is room for it.
-fn keep_edge(work: &mut [u8], room: Room, number: usize, e: EdgeRecord)
+fn store_edge_within(work: &mut [u8], room: Room, number: usize, e: EdgeRecord)
     requires { ⌜ room .edges + stepSize * room .arcs ≤ length (now work) ⌝ }
-    ensures { λ _. ⌜ now (work .exit) ≡ keptRecord (room .edges) (room .arcs) number (edgeBytes e) (now (work .entry)) ⌝ }
+    ensures { λ _. ⌜ now (work .exit) ≡ storedWithin (room .edges) (room .arcs) number (edgeBytes e) (now (work .entry)) ⌝ }
 {
     let mut record = [0u8; 6];
     store_edge(&mut record, 0, e);
-    keep(work, room.edges, room.arcs, number, &record);
+    store_within(work, room.edges, room.arcs, number, &record);
 }
 
 impl Head {
     // An arc from the configuration that is taken up.
     fn note(mut self, plan: Plan, work: &mut [u8], j: usize, to: Reached) -> Head
         requires { ⌜ (plan .room .edges + stepSize * plan .room .arcs ≤ length (now work)) × (self .taken < 1024) × (self .arcs < 4294967296) × (j < 8192) ⌝ }
-        ensures { λ r. ⌜ (r ≡ counted self) × (now (work .exit) ≡ keptRecord (plan .room .edges) (plan .room .arcs) (self .arcs) (edgeBytes (record { from = record { 0 = self .taken }; arc = j; to = to })) (now (work .entry))) ⌝ }
+        ensures { λ r. ⌜ (r ≡ counted self) × (now (work .exit) ≡ storedWithin (plan .room .edges) (plan .room .arcs) (self .arcs) (edgeBytes (record { from = record { 0 = self .taken }; arc = j; to = to })) (now (work .entry))) ⌝ }
     {
         let room = plan.room;
         let edge = EdgeRecord {
@@ -59,7 +59,7 @@ impl Head {
             arc: j as u16,
             to,
         };
-        keep_edge(work, room, self.arcs, edge);
+        store_edge_within(work, room, self.arcs, edge);
         self.arcs += 1;
         self
     }

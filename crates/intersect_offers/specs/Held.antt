@@ -17,11 +17,11 @@ configOf c = record {
   leftovers = map leftoverOf (c .leftovers) ++ replicate (4 - length (c .leftovers)) blank;
 }
 
--- its record of 298 bytes, at the front of its row
+-- its record, at the front of its row
 unfoldable pub rowOf : automata.Config → List ℕ
 rowOf c = configBytes (configOf c)
 
--- the records of cs stand in rows of 320 bytes at the front of w
+-- the records of cs stand in rows at the front of w
 abbrev pub HoldsConfigs : List automata.Config → List ℕ → Type 0
 HoldsConfigs cs w = fronts 0 configSize rowSize (length cs) w ≡ map rowOf cs
 

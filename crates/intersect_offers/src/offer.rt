@@ -1,6 +1,6 @@
 // What an arc of the table read offers a configuration.
 ghost use mathlib.Core.Path.{_≡_};
-ghost use Prim.Native.Nat.{_+_, _*_, _≤_, _<_};
+ghost use Prim.Native.Nat.{_+_, _*_, _≤_};
 ghost use lib.ListN.{length};
 ghost use Rattle.intersect_config.specs.Configs.{GoodConfig, configAt, Row, rowSize};
 ghost use Rattle.intersect_offers.specs.Offers.{TellsViable, Offerable, OffersIn};

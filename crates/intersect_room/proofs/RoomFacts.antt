@@ -1,5 +1,5 @@
 -- The work space is long enough exactly where each of its parts fits into what the parts before it leave.
-use mathlib.Core.Path.{_≡_, refl, sym, _∙_}
+use mathlib.Core.Path.{_≡_, sym, _∙_}
 use mathlib.Core.Bool.{true, false, true≢false}
 use Prim.Native.Nat.{ℕ, _+_, _-_, _*_, _/_, _≤_, _<_, min}
 use native.Mathlib.Omega.{arith}
@@ -7,7 +7,7 @@ use lib.Dec.{leb}
 use borrow.Author.Tests.{le-leb, lt-leb}
 use Rattle.automata.specs.Calls.Work.{buildWork}
 use Rattle.automata.specs.Layout.{configSize, delaysSize, stepSize}
-use Rattle.intersect_room.specs.Room.{lentSpace, Divides, RoomFor}
+use Rattle.intersect_room.specs.Room.{lentSpace, RoomFor}
 use Rattle.intersect_room.specs.declared.room.Room.{Room}
 use Rattle.intersect_room.specs.declared.room.RoomAnswer.{RoomAnswer}
 

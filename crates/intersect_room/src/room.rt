@@ -1,4 +1,4 @@
-// How a build divides its work space: 320 bytes for each state lent, 16 for each arc lent, 64 for each state of the table read.
+// How a build divides its work space: so many bytes for each state lent, each arc lent, each state of the table read.
 ghost use mathlib.Core.Path.{_≡_};
 ghost use mathlib.Core.Bool.{false};
 ghost use Prim.Native.Nat.{min};

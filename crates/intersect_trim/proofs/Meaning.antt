@@ -1,39 +1,35 @@
 -- What the calls leave one after the other: the marks of the configurations on a successful path, and the bytes of the result.
-use Prim.Native.Nat.{ℕ, zero, suc, _+_, _*_, _<_, _≤_}
-use mathlib.Core.Path.{_≡_, refl, sym, ap, ap₂, _∙_}
+use Prim.Native.Nat.{ℕ, _*_, _≤_}
+use mathlib.Core.Path.{_≡_, refl, sym, ap, _∙_}
 use mathlib.Core.Bool.{Bool, true, false}
-use mathlib.Core.List.{List, [], _∷_, _++_, map}
+use mathlib.Core.List.{List, [], _∷_, map}
 use native.Mathlib.Omega.{arith}
-use lib.ListN.{length, take, drop, length-append, length-map}
-use lib.Seq.{take-at}
+use lib.ListN.{length, take, length-append, length-map}
 use Rattle.automata.specs.Lists.{if, filter, All}
 use Rattle.automata.specs.Records.{writeAll}
 use Rattle.automata.specs.Answer.{ok}
 use Rattle.automata.specs.Automaton.{Arc, Automaton}
 use Rattle.automata.specs.Config.{Config}
 use Rattle.automata.specs.Memory.{Memory, Sound, tableOf, encodeStates, encodeArcs}
-use Rattle.automata.specs.Marks.{coaccessible}
-use Rattle.automata.specs.Explore.{Edge, edgeGraph}
+use Rattle.automata.specs.Explore.{Edge}
 use Rattle.automata.specs.Trim.{atMarks, rank, keptEdges}
-use Rattle.automata.specs.Intersect.{accepting, stateOf, arcOf}
-use Rattle.automata.specs.Calls.Outcome.{TableCounts, overwrite, put, madeOf, slicesOf}
+use Rattle.automata.specs.Intersect.{stateOf, arcOf}
+use Rattle.automata.specs.Calls.Outcome.{overwrite, put, madeOf, slicesOf}
 use Rattle.automata.proofs.RankFacts.{length-atMarks, rank-le}
 use Rattle.automata.proofs.KeptEdges.{length-keptEdges}
-use Rattle.automata.proofs.MarkFacts.{length-coaccessible}
 use Rattle.automata.specs.Layout.{arcSize, configSize, stateSize}
 use Rattle.table.specs.Region.{rows}
 use Rattle.table.proofs.RowFacts.{length-rows}
 use Rattle.intersect_edges.specs.declared.edge.EdgeRecord.{EdgeRecord}
-use Rattle.intersect_edges.specs.Edges.{edgesAt, recordGraph, Joined, recordOf, HoldsEdges}
-use Rattle.intersect_edges.specs.Marked.{bit, bits, bools, Bits}
-use Rattle.intersect_edges.proofs.EdgeFacts.{edges-held, coaccessible-held}
-use Rattle.intersect_edges.proofs.MarkFacts.{bools-bits}
+use Rattle.intersect_edges.specs.Edges.{edgesAt, Joined, recordOf, HoldsEdges}
+use Rattle.intersect_edges.specs.Marked.{bools}
+use Rattle.intersect_edges.proofs.EdgeFacts.{edges-held}
 use Rattle.intersect_trim.specs.Ranks.{Numbered}
-use Rattle.intersect_trim.specs.Rows.{rowState, finalByte, Within, RowsOf}
+use Rattle.intersect_trim.specs.Rows.{Within, RowsOf}
 use Rattle.intersect_trim.specs.Result.{rowRecord, keptStates, bothMarks, arcBytes, keptArcs, ArcsWithin, ArcsWritten}
 use Rattle.intersect_trim.specs.Model.{resultOf, EdgeOf}
 use Rattle.intersect_trim.proofs.ResultFacts.{length-row, length-arc}
-use Rattle.intersect_trim.proofs.StateModel.{rows-within, finals-model, kept-model}
+use Rattle.intersect_trim.proofs.StateModel.{rows-within, kept-model}
 use Rattle.intersect_trim.proofs.ArcModel.{edges-joined, arcs-within, count-model, kept-arcs-model}
 
 -- ---- how many bytes the records take up

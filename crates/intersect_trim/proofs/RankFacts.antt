@@ -1,8 +1,7 @@
 -- The numbers of the kept configurations, one after the other.
-use Prim.Native.Nat.{ℕ, zero, suc, _+_, _<_, _≤_}
-use mathlib.Core.Path.{_≡_, refl, sym, ap, _∙_}
+use Prim.Native.Nat.{ℕ, suc, _+_, _<_, _≤_}
+use mathlib.Core.Path.{_≡_, ap, _∙_}
 use mathlib.Core.Bool.{Bool, true, false}
-use mathlib.Core.Logic.{_⊎_, inl, inr, _≢_}
 use mathlib.Core.List.{List}
 use native.Mathlib.Omega.{arith}
 use native.Mathlib.Numerals.{add-one}
@@ -11,7 +10,7 @@ use lib.ListN.{length, getD, take, set}
 use lib.Seq.{getD-set-same, getD-set-other, getD-take}
 use Rattle.automata.specs.Lists.{if}
 use Rattle.automata.specs.Trim.{rank}
-use Rattle.automata.proofs.RankFacts.{rank-zero, rank-suc}
+use Rattle.automata.proofs.RankFacts.{rank-suc}
 use Rattle.intersect_edges.specs.Marked.{bit, isMark, bools}
 use Rattle.intersect_edges.proofs.MarkFacts.{mark-at}
 use Rattle.intersect_trim.specs.Ranks.{Numbered}

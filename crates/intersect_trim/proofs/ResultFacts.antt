@@ -3,11 +3,11 @@ use Prim.Native.Nat.{ℕ, zero, suc, _+_, _-_, _*_, _<_, _≤_}
 use mathlib.Core.Path.{_≡_, refl, sym, ap, ap₂, _∙_}
 use mathlib.Core.Bool.{Bool, true, false}
 use mathlib.Core.Logic.{_≢_}
-use mathlib.Core.List.{List, [], _∷_, _++_, map}
+use mathlib.Core.List.{List, [], _∷_, _++_}
 use native.Mathlib.Omega.{arith}
 use lib.Dec.{eqb}
 use lib.ListN.{length, getD, take, drop, length-append}
-use Rattle.automata.specs.Lists.{if, and, filter, All}
+use Rattle.automata.specs.Lists.{if, filter, All}
 use Rattle.automata.specs.Records.{writeAll}
 use Rattle.automata.specs.Memory.{zeros}
 use Rattle.automata.specs.Trim.{atMarks}
@@ -42,7 +42,7 @@ write-end to zs all out out0 e f = sym (splice-none to out) ∙ ap (λ (r : List
 
 -- ---- states
 
--- the record of a row takes up 10 bytes
+-- the size of the record of a row
 pub length-row : (states row : List ℕ) → stateSize * rowState row + stateSize ≤ length states → length (rowRecord states row) ≡ stateSize
 unfolding rowRecord
 length-row states row h = go (rowPlain row)
@@ -98,7 +98,7 @@ kept-none k at left states ms w s = rw (s, part-zero k ms)
 
 -- ---- arcs
 
--- the record of an arc takes up 80 bytes
+-- the size of the record of an arc
 pub length-arc : (ranks inputs : List ℕ) (e : EdgeRecord) → arcSize * e .arc + arcSize ≤ length inputs → length (arcBytes ranks inputs e) ≡ arcSize
 unfolding arcBytes
 length-arc ranks inputs e h = let l = length-part (arcSize * e .arc + contentPlace) contentSize inputs (omega arith) in omega arith

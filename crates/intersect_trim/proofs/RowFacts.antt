@@ -1,13 +1,13 @@
 -- Rows of configurations.
-use Prim.Native.Nat.{ℕ, zero, suc, _+_, _-_, _*_, _<_, _≤_}
-use mathlib.Core.Path.{_≡_, refl, sym, ap, ap₂, _∙_}
+use Prim.Native.Nat.{ℕ, suc, _+_, _-_, _*_, _≤_}
+use mathlib.Core.Path.{_≡_, refl, sym, ap, _∙_}
 use mathlib.Core.Bool.{Bool, true, false, not}
 use mathlib.Core.Logic.{_≢_}
 use mathlib.Core.List.{List, [], _∷_, _++_, map}
 use native.Mathlib.Omega.{arith}
-use lib.Dec.{eqb, eqb-refl}
+use lib.Dec.{eqb}
 use lib.ListN.{length, getD, set, take, drop, length-take, length-map}
-use Rattle.automata.specs.Lists.{and, All}
+use Rattle.automata.specs.Lists.{and}
 use Rattle.automata.proofs.TestFacts.{eqb-false}
 use Rattle.automata.specs.Layout.{configSize, stateSize, finalPlace}
 use Rattle.table.specs.Region.{part, splice, rows}

@@ -8,9 +8,9 @@ use native.Mathlib.Omega.{arith}
 use lib.Dec.{eqb}
 use lib.ListN.{length, getD, getElem?, take, drop}
 use lib.Seq.{getD-take, getD-drop}
-use Rattle.automata.specs.Lists.{if, and, all, All, guard, isSome, bind}
+use Rattle.automata.specs.Lists.{if, and, all, All, guard, isSome}
 use Rattle.automata.specs.Records.{writeAll}
-use Rattle.automata.specs.Automaton.{State, Arc, Automaton, initialOf, finalOf}
+use Rattle.automata.specs.Automaton.{State, Arc, Automaton, finalOf}
 use Rattle.automata.specs.Leftover.{Leftover, nothing, sameLeftover}
 use Rattle.automata.specs.Config.{Config, noLeftovers}
 use Rattle.automata.specs.Memory.{Memory, Sound, Holds, tableOf, stateRecord, encodeStates, zeros}

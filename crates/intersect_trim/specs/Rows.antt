@@ -1,7 +1,7 @@
--- A configuration as a row of 320 bytes: its input state (2 bytes), and four leftovers of 74 bytes (side, length, 72 symbols).
+-- A configuration as a row of the work space: its input state, and four leftovers (side, length, symbols).
 use Prim.Native.Nat.{ℕ, zero, suc, _+_, _*_, _≤_, _<_}
 use mathlib.Core.Path.{_≡_}
-use mathlib.Core.Bool.{Bool, true, false}
+use mathlib.Core.Bool.{Bool, true}
 use mathlib.Core.Option.{some}
 use mathlib.Core.List.{List, [], _∷_}
 use lib.Dec.{eqb}

@@ -1,4 +1,4 @@
-// The marks of the configurations in which a path may end, by their rows of 320 bytes.
+// The marks of the configurations in which a path may end, by their rows.
 use table::bytes::get16;
 use table::layout::CONFIG_SIZE;
 use table::layout::FINAL_PLACE;

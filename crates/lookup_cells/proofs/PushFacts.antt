@@ -1,10 +1,10 @@
 -- One arc, the arcs into a state, and the states of the queue one after the other, from what each call gave.
 use mathlib.Core.Path.{_≡_, refl, sym, ap, subst, _∙_}
 use mathlib.Core.Logic.{_⊎_, inl, inr, _≢_, ⊎-elim}
-use mathlib.Core.Bool.{Bool, true, false, not, false≢true}
+use mathlib.Core.Bool.{Bool, true, false, false≢true}
 use mathlib.Core.Option.{Option, none, some}
 use mathlib.Core.List.{List}
-use Prim.Native.Nat.{ℕ, zero, suc, _+_, _-_, _*_, _/_, _≤_, _<_, min}
+use Prim.Native.Nat.{ℕ, _+_, _-_, _*_, _≤_, _<_, min}
 use native.Mathlib.Omega.{arith}
 use native.Mathlib.Decide.{ℕ-discrete, decLe}
 use lib.Arith.{digits-lt}
@@ -18,7 +18,7 @@ use Rattle.lookup_moves.specs.Distances.{far, cellsOf, lowered, sum, Trend, Low
 use Rattle.lookup_cells.specs.Chains.{firstOf, nextOf, Chained}
 use Rattle.lookup_cells.specs.Queues.{countOf, Queue, Enqueues, Dequeues}
 use Rattle.table.specs.Arcs.{sourceOf, targetOf, arcWeight}
-use Rattle.lookup_cells.specs.Pushes.{backBy, cellAt, cellBack, passed, pushed, Pushed, start, more, Still, Done, toDo, AllDone, Passable, Spaced, Ready, Marking, Visits, Spreads, Pushes, PushesAll, Marks, Settles}
+use Rattle.lookup_cells.specs.Pushes.{backBy, cellAt, cellBack, passed, pushed, Pushed, start, more, Still, Done, toDo, AllDone, Spaced, Ready, Marking, Visits, Spreads, Pushes, PushesAll, Marks, Settles}
 use Rattle.lookup_cells.proofs.QueueFacts.{queue-done}
 
 -- ---- weights only become less

@@ -1,8 +1,8 @@
 // The states to take up at a combination, first in, first out: a mark for each of 1,024 states, a ring of 1,024 numbers
 // of states, where it begins, and how many stand in it.
 ghost use mathlib.Core.Path.{_≡_};
-ghost use Prim.Native.Nat.{_≤_, _<_};
-ghost use lib.ListN.{length, replicate};
+ghost use Prim.Native.Nat.{_<_};
+ghost use lib.ListN.{replicate};
 ghost use Rattle.lookup_cells.specs.Queues.{countOf, Queue, Enqueues, Dequeues};
 
 // No state waits.

@@ -10,7 +10,7 @@ use native.Mathlib.Omega.{arith}
 use borrow.Author.Tests.{lt-ltb, le-ltb, not-true, not-false}
 use lib.Dec.{eqb, ltb, eqb-refl}
 use lib.ListN.{length, getD}
-use Rattle.automata.specs.Lists.{if, and, bind, sameList}
+use Rattle.automata.specs.Lists.{if, bind, sameList}
 use Rattle.automata.proofs.TestFacts.{eqb-false, T-true}
 use Rattle.automata.specs.Layout.{labelSize}
 use Rattle.table.specs.Region.{part}

@@ -8,7 +8,6 @@ use lib.Dec.{leb}
 use lib.ListN.{length}
 use borrow.Author.Tests.{le-leb, lt-leb, leb-true}
 use Rattle.automata.specs.Limits.{maxPairs}
-use Rattle.automata.specs.Refusal as refusal
 use Rattle.automata.specs.Lists.{and, all}
 use Rattle.automata.specs.Answer.{ok, refused}
 use Rattle.automata.specs.TapePair.{Pair, TapePair, tapesOf, limitsFit}

@@ -1,24 +1,23 @@
 -- What the rows and the moves in work space mean: the states and the arcs of the product.
 use mathlib.Core.Path.{_≡_, refl, sym, ap, ap₂, subst, _∙_}
-use mathlib.Core.Bool.{Bool}
-use mathlib.Core.Option.{Option, none, some, Option·map}
+use mathlib.Core.Option.{some}
 use mathlib.Core.List.{List, [], _∷_, _++_, map, append-assoc}
 use Prim.Native.Nat.{ℕ, zero, suc, _+_, _-_, _*_, _≤_, _<_}
 use native.Mathlib.Omega.{arith}
-use lib.ListN.{length, getElem?, getD, take, drop}
+use lib.ListN.{length, getElem?, getD, drop}
 use Rattle.automata.specs.Lists.{and, all, All}
 use Rattle.automata.specs.Records.{writeAll}
 use Rattle.automata.specs.OrderedSum.{ℕ-sum}
 use Rattle.automata.specs.Automaton as automata
 use Rattle.automata.specs.Automaton.{Automaton, Arc, Content}
-use Rattle.automata.specs.System.{system, vertexState, stepArc, initialAt, finalAt}
+use Rattle.automata.specs.System.{vertexState, stepArc}
 use Rattle.automata.specs.Explore.{Edge}
 use Rattle.automata.specs.Product as product
 use Rattle.automata.specs.Product.{added, fitsAt, sameVertex, productSystem}
 use Rattle.automata.specs.Tapes.{emptyTuple}
 use Rattle.automata.specs.Table.{weightFits}
 use Rattle.automata.specs.Memory.{Memory, Sound, tableOf, zeros, labelRecord, stateRecord, arcRecord}
-use Rattle.automata.proofs.ListFacts.{place-bound, place-default, map-place}
+use Rattle.automata.proofs.ListFacts.{place-bound}
 use Rattle.automata.proofs.RecordFacts.{writeAll-append}
 use Rattle.automata.proofs.WellFormedFacts.{all-place}
 use Rattle.automata.proofs.SoundFacts.{sound-holds}
@@ -38,7 +37,7 @@ use Rattle.product_search.specs.declared.vertex.Vertex.{Vertex}
 use Rattle.product_search.specs.declared.vertex.Move.{Move}
 use Rattle.product_search.specs.Vertices.{placeNumber, vertexOf, vertexBytes, vertexAt, rowOf, HoldsVertices, VertexBelow}
 use Rattle.product_search.specs.Moves.{moveAt, Carries, by-both, by-second, by-first, RecordOf}
-use Rattle.product_records.specs.Sums.{placeState, plus, plusState, vertexSum, stateFits, sideSum, moveSum, sideLabels, moveFront, moveLabels, moveRecord, verticesAt, movesAt, VertexFits, MoveFits}
+use Rattle.product_records.specs.Sums.{placeState, plus, plusState, vertexSum, sideSum, moveSum, sideLabels, moveFront, moveLabels, moveRecord, verticesAt, movesAt, VertexFits, MoveFits}
 use Rattle.product_records.specs.Results.{statesFit, stateRecords, Vertices, movesFit, moveRecords, Moves}
 use Rattle.product.proofs.SideModel.{SideOf, place-model, place-fits, place-number, side-follows, side-stays}
 

@@ -3,13 +3,13 @@ use mathlib.Core.Path.{_≡_, refl, sym, ap, ap₂, subst, _∙_}
 use mathlib.Core.Bool.{Bool, true, false, not}
 use mathlib.Core.Option.{some}
 use mathlib.Core.List.{List, map}
-use Prim.Native.Nat.{ℕ, zero, suc, _+_, _*_, _/_, _≤_, _<_}
+use Prim.Native.Nat.{ℕ, _+_, _*_, _≤_, _<_}
 use native.Mathlib.Omega.{arith}
 use lib.ListN.{length, length-map, getElem?}
 use Rattle.automata.specs.Refusal as refusal
-use Rattle.automata.specs.Lists.{and, all, All}
+use Rattle.automata.specs.Lists.{and}
 use Rattle.automata.specs.Answer.{Answer, ok, refused}
-use Rattle.automata.specs.Space.{Space, stateCap, arcCap}
+use Rattle.automata.specs.Space.{Space, arcCap}
 use Rattle.automata.specs.OrderedSum.{ℕ-sum}
 use Rattle.automata.specs.Automaton.{Automaton, Content}
 use Rattle.automata.specs.System.{vertexState, stepArc}
@@ -17,8 +17,8 @@ use Rattle.automata.specs.Explore.{Edge}
 use Rattle.automata.specs.Product as product
 use Rattle.automata.specs.Product.{sameVertex, productSystem, fitting, crossProduct}
 use Rattle.automata.specs.Table.{weightFits}
-use Rattle.automata.specs.Memory.{Memory, Sound, encodeStates, encodeArcs}
-use Rattle.automata.specs.Calls.Outcome.{Slices, TableCounts, spaceOf, overwrite, put, madeOf, slicesOf}
+use Rattle.automata.specs.Memory.{encodeStates, encodeArcs}
+use Rattle.automata.specs.Calls.Outcome.{Slices, spaceOf, overwrite, put, madeOf, slicesOf}
 use Rattle.automata.specs.Calls.JoinSteps.{productStep}
 use Rattle.automata.proofs.CallFacts.{put-refused, put-ok}
 use Rattle.automata.proofs.ListFacts.{place-bound}

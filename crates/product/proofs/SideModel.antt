@@ -1,13 +1,13 @@
 -- What a side of a product means: the places of a table in memory, its arcs, and what each adds to a move.
-use mathlib.Core.Path.{_≡_, refl, sym, ap, ap₂, subst, _∙_}
+use mathlib.Core.Path.{_≡_, refl, sym, ap, subst, _∙_}
 use mathlib.Core.Option.{Option, none, some, Option·some-injective, Option·none-ne-some}
-use mathlib.Core.List.{List, [], _∷_, _++_}
+use mathlib.Core.List.{List, _++_}
 use Prim.Native.Nat.{ℕ, zero, suc, _+_, _-_, _*_, _≤_, _<_}
 use native.Mathlib.Omega.{arith}
 use lib.Dec.{eqb}
-use lib.ListN.{length, getElem?, getD, take, drop, replicate}
+use lib.ListN.{length, getElem?, getD, take}
 use lib.Seq.{take-at}
-use Rattle.automata.specs.Lists.{if, All, Each}
+use Rattle.automata.specs.Lists.{All, Each}
 use Rattle.automata.specs.Records.{writeAll}
 use Rattle.automata.specs.OrderedSum.{ℕ-sum}
 use Rattle.automata.specs.Automaton.{Automaton, State, Arc}

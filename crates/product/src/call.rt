@@ -1,5 +1,5 @@
 // The call: a refusal before any state is reached, the search, the answer that it settles, and work space cleared.
-use crate::finish::settle;
+use crate::finish::answer_search;
 use crate::prepare::plan_for;
 use crate::prepare::prepare;
 use product_search::explore::explore;
@@ -47,7 +47,7 @@ pub fn product_step(
         second_arcs,
         work,
     );
-    settle(
+    answer_search(
         plan,
         head,
         first_states,

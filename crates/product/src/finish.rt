@@ -17,7 +17,7 @@ ghost use Rattle.product.specs.Settled.{Settleable};
 
 // The answer: more states than there is room for (8), more arcs (9), a summed weight out of range (11), or the product. Nothing is written
 // before that is known.
-pub fn settle(
+pub fn answer_search(
     plan: Plan,
     head: Head,
     first_states: &[u8],

@@ -1,12 +1,11 @@
 -- The record of a move as it is written, over plain lists.
-use mathlib.Core.Path.{_≡_, refl, sym, ap, ap₂, _∙_}
+use mathlib.Core.Path.{_≡_, refl, sym, ap, _∙_}
 use mathlib.Core.Bool.{Bool, true, false}
 use mathlib.Core.List.{List, [], _∷_, _++_}
-use Prim.Native.Nat.{ℕ, zero, suc, _+_, _-_, _*_, _/_, _%_, _≤_, _<_}
+use Prim.Native.Nat.{ℕ, zero, suc, _+_, _-_, _*_, _≤_}
 use native.Mathlib.Omega.{arith}
 use lib.Dec.{eqb, eqb-refl}
-use lib.ListN.{length, getD, set, take, drop, length-append, length-drop, length-replicate, replicate-append-replicate}
-use lib.Seq.{getD-drop}
+use lib.ListN.{length, getD, set, length-append, length-replicate, replicate-append-replicate}
 use Rattle.automata.specs.Lists.{if}
 use Rattle.automata.specs.Memory.{zeros}
 use Rattle.automata.proofs.TestFacts.{eqb-false, false-not-true, T-true}
@@ -141,7 +140,7 @@ module _ (arcs : List ℕ) (tapes k : ℕ) (h : (k ≡ noArc → ⊥) → arcSiz
 
 module _ (a1 a2 : List ℕ) (n k : ℕ) (m : Move) (f : (m .first ≡ noArc → ⊥) → arcSize * m .first + arcSize ≤ length a1)
     (g : (m .second ≡ noArc → ⊥) → arcSize * m .second + arcSize ≤ length a2) (t : n + k ≤ 8) where
-  -- the labels of both sides and the zeros behind them take up 72 bytes
+  -- the size of the labels of both sides and the zeros behind them
   length-labels : length (moveLabels a1 a2 n k m) ≡ labelsSize
   unfolding moveLabels
   length-labels =
@@ -194,7 +193,7 @@ move-stored s1 a1 s2 a2 w n k m weight to out out1 out2 h e a b l =
     let p : out2 ≡ splice to (f ++ x) out = splice-behind to (to + labelsPlace) f x out out1 out2 a b (omega (arith, lf)) (omega (arith, lf, l)) in
     (p ∙ ap (λ (v : ℕ). splice to (moveFront m v ++ x) out) e, length-append (moveFront m (moveSum s1 a1 s2 a2 w m)) x ∙ (omega (arith, l)))
 
--- the record of a move takes up 80 bytes
+-- the size of the record of a move
 pub length-record : (s1 a1 s2 a2 w : List ℕ) (n k : ℕ) (m : Move) → MoveFits s1 a1 s2 a2 w m → n + k ≤ 8 → length (moveRecord s1 a1 s2 a2 w n k m) ≡ arcSize
 unfolding moveRecord moveFront
 length-record s1 a1 s2 a2 w n k m f t =

@@ -8,7 +8,6 @@ use lib.ListN.{length}
 use borrow.Author.Tests.{le-leb, lt-leb}
 use Rattle.automata.specs.Lists.{and, all, All}
 use Rattle.automata.specs.Records.{writeAll}
-use Rattle.automata.specs.Table.{weightFits}
 use Rattle.automata.specs.Calls.Outcome.{overwrite}
 use Rattle.automata.proofs.TestFacts.{false-not-true}
 use Rattle.automata.proofs.RecordFacts.{All-map, length-writeAll}
@@ -63,7 +62,7 @@ vertices-none : (at left : ℕ) (w : List ℕ) → left ≡ 0 → verticesAt at 
 unfolding verticesAt
 vertices-none at left w s = rw s
 
--- a state takes up 10 bytes
+-- the size of the record of a state
 pub length-state : (s : State) → length (stateBytes s) ≡ stateSize
 unfolding stateBytes
 length-state s = go (s .initial) (s .last)

@@ -1,19 +1,18 @@
 -- The sums of a product, over plain lists.
-use mathlib.Core.Path.{_≡_, refl, sym, ap, ap₂, _∙_}
+use mathlib.Core.Path.{_≡_, refl, sym, ap, _∙_}
 use mathlib.Core.Bool.{Bool, true, false, not}
 use mathlib.Core.List.{List}
 use Prim.Native.Nat.{ℕ, _+_, _*_, _≤_, _<_}
 use native.Mathlib.Omega.{arith}
 use lib.Dec.{eqb, leb}
-use lib.ListN.{length}
-use Rattle.automata.specs.Lists.{if, and, Each}
+use Rattle.automata.specs.Lists.{Each}
 use Rattle.automata.specs.Table as table
-use Rattle.automata.specs.Table.{weightFits, WellFormedState}
+use Rattle.automata.specs.Table.{weightFits}
 use Rattle.automata.specs.Product.{fitsAt}
 use Rattle.automata.proofs.TestFacts.{eqb-false, false-not-true}
-use Rattle.automata.specs.Layout.{arcSize, stateSize, vertexSize}
+use Rattle.automata.specs.Layout.{stateSize, vertexSize}
 use Rattle.table.specs.Arcs.{arcWeight}
-use Rattle.table.specs.Records.{optionOf, stateAs, stateAt}
+use Rattle.table.specs.Records.{optionOf, stateAt}
 use Rattle.table.specs.declared.record.Weight.{Weight}
 use Rattle.table.specs.declared.record.Weight.the-variants.{Absent, Present}
 use Rattle.table.specs.declared.record.State.{State}
@@ -21,7 +20,7 @@ use Rattle.product_search.specs.declared.vertex.Vertex.{Vertex}
 use Rattle.product_search.specs.declared.vertex.Move.{Move}
 use Rattle.product_search.specs.Vertices.{ended, vertexAt}
 use Rattle.product_search.specs.Moves.{noArc}
-use Rattle.product_records.specs.Sums.{endedState, placeState, plus, plusState, vertexSum, stateFits, amount, sideSum, moveSum, PlaceFits, VertexFits, SideFits, MoveFits}
+use Rattle.product_records.specs.Sums.{endedState, placeState, plus, vertexSum, stateFits, amount, sideSum, moveSum, VertexFits, SideFits}
 
 -- ---- places
 

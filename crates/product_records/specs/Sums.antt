@@ -2,7 +2,7 @@
 use mathlib.Core.Path.{_≡_}
 use mathlib.Core.Bool.{Bool}
 use mathlib.Core.List.{List, [], _∷_, _++_}
-use Prim.Native.Nat.{ℕ, zero, suc, _+_, _-_, _*_, _≤_, _<_}
+use Prim.Native.Nat.{ℕ, zero, suc, _+_, _-_, _*_, _≤_}
 use lib.Dec.{eqb}
 use lib.ListN.{length}
 use Rattle.automata.specs.Lists.{if, and}
@@ -78,7 +78,7 @@ sideOver arcs tapes k to out = if (eqb k noArc) out (splice to (part (arcSize * 
 unfoldable pub moveFront : Move → ℕ → List ℕ
 moveFront m weight = toLe 2 (m .from .0) ++ (toLe 2 (m .to .0) ++ toLe 4 weight)
 
--- the 72 bytes of its labels: those of the first side, of the second behind them, and zeros
+-- the bytes of its labels: those of the first side, of the second behind them, and zeros
 unfoldable pub moveLabels : List ℕ → List ℕ → ℕ → ℕ → Move → List ℕ
 moveLabels a1 a2 n k m = sideLabels a1 n (m .first) ++ (sideLabels a2 k (m .second) ++ zeros (labelsSize - labelSize * n - labelSize * k))
 

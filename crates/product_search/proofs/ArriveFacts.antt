@@ -1,5 +1,5 @@
 -- What a move to a state comes to, from what the calls answer and leave.
-use Prim.Native.Nat.{ℕ, _+_, _-_, _*_, _≤_, _<_}
+use Prim.Native.Nat.{ℕ, _+_, _-_, _≤_, _<_}
 use mathlib.Core.Path.{_≡_, refl, sym, ap, _∙_, subst}
 use mathlib.Core.Bool.{false}
 use mathlib.Core.List.{List, [], _∷_, _++_}
@@ -20,7 +20,7 @@ use Rattle.search_rows.specs.declared.Reached.{Reached}
 use Rattle.search_rows.specs.declared.Entered.{Entered}
 use Rattle.search_rows.specs.declared.Entered.the-variants as E
 use Rattle.search_chains.specs.Inserted.{Inserted}
-use Rattle.search_rows.specs.Kept.{keptRecord}
+use Rattle.search_rows.specs.Kept.{storedWithin}
 use Rattle.product_search.specs.declared.vertex.Vertex.{Vertex}
 use Rattle.product_search.specs.declared.vertex.Move.{Move}
 use Rattle.product_search.specs.declared.plan.Plan.{Plan}
@@ -63,7 +63,7 @@ module _ (p : Plan) (h : Head) (d : Vertex) (i j : ℕ) (v : List ℕ) (q : Read
 
   -- the head is that after the move, and the record of the move is kept
   arrives-noted : (k : ℕ) (n : Reached) (w : List ℕ) → h .reached ≤ k → k ≤ p .states → length w ≡ length v → Enters k n w → (g : Head) (u : List ℕ)
-      → (g ≡ counted p (withReached k h)) × (u ≡ keptRecord (p .base) (p .arcs) (h .arcs) (moveBytes (noted h i j n)) w) → Arrives p h d i j v g u
+      → (g ≡ counted p (withReached k h)) × (u ≡ storedWithin (p .base) (p .arcs) (h .arcs) (moveBytes (noted h i j n)) w) → Arrives p h d i j v g u
   unfolding note noteAll
   arrives-noted k n w l b lw enters g u e = record {
     grows = record {
@@ -81,8 +81,8 @@ module _ (p : Plan) (h : Head) (d : Vertex) (i j : ℕ) (v : List ℕ) (q : Read
         let x : Edge (Content ℕ) = record { from = h .taken; label = y; to = to } in
         let o1 = inserted-held p h d v (q .vertices-fit) (q .moves-fit) A B t la lb di bt s o n w k ins in
         let bound : to ≤ length more = index-bound sameVertex t more in
-        let mv : u ≡ keptRecord (p .base) (p .arcs) (h .arcs) (moveBytes (noted h i j (record { 0 = to }))) w
-        = e .1 ∙ ap (λ (z : ℕ). keptRecord (p .base) (p .arcs) (h .arcs) (moveBytes (noted h i j (record { 0 = z }))) w) (ins .0 .number) in
+        let mv : u ≡ storedWithin (p .base) (p .arcs) (h .arcs) (moveBytes (noted h i j (record { 0 = to }))) w
+        = e .1 ∙ ap (λ (z : ℕ). storedWithin (p .base) (p .arcs) (h .arcs) (moveBytes (noted h i j (record { 0 = z }))) w) (ins .0 .number) in
         let o2 = move-held p A B (withReached k h) (record { vertices = more; edges = s .edges }) w (q .vertices-fit) (omega (arith, lw, q .moves-fit)) o1 x (noted h i j (record { 0 = to }))
         (record { from = omega (arith, q .taken-fits, q .fits, q .few-states); first = i-fits; second = j-fits; to = omega (arith, bound, ins .0 .fits, q .few-states) })
         (record { vertex = c; at-from = AppendFacts.begins-place (insert-begins sameVertex (s .vertices) t) (h .taken) at; from-is = refl; to-is = refl; carried = ca }) u mv in
@@ -98,14 +98,14 @@ module _ (p : Plan) (h : Head) (d : Vertex) (i j : ℕ) (v : List ℕ) (q : Read
 
   module _ (r : Entered) (w : List ℕ) (t : EntersVertex (h .reached) (p .states) d v r w) where
     -- it was there already
-    pub arrives-at : (n : Reached) → r ≡ E.At n → (u : List ℕ) → u ≡ keptRecord (p .base) (p .arcs) (h .arcs) (moveBytes (noted h i j n)) w
+    pub arrives-at : (n : Reached) → r ≡ E.At n → (u : List ℕ) → u ≡ storedWithin (p .base) (p .arcs) (h .arcs) (moveBytes (noted h i j n)) w
         → Arrives p h d i j v (movedTo p h (h .reached)) u
     arrives-at n z u e = arrives-noted (h .reached) n w (omega arith) (q .fits) (t .same-length)
         (λ A B c la lb di bt s o. was-at p h d v (q .vertices-fit) (q .moves-fit) A B c la lb di bt s o n w (subst (λ (y : Entered). EntersVertex (h .reached) (p .states) d v y w) z t))
         _ u (moved-on p h (h .reached) (q .fits), e)
 
     -- it is new
-    pub arrives-new : (n : Reached) → r ≡ E.New n → (u : List ℕ) → u ≡ keptRecord (p .base) (p .arcs) (h .arcs) (moveBytes (noted h i j n)) w
+    pub arrives-new : (n : Reached) → r ≡ E.New n → (u : List ℕ) → u ≡ storedWithin (p .base) (p .arcs) (h .arcs) (moveBytes (noted h i j n)) w
         → Arrives p h d i j v (movedTo p h (h .reached + 1)) u
     arrives-new n z u e =
         let t2 = subst (λ (y : Entered). EntersVertex (h .reached) (p .states) d v y w) z t in

@@ -23,7 +23,7 @@ use Rattle.automata.specs.Layout.{arcSize}
 use Rattle.table.specs.declared.answer.Counts.{Counts}
 use Rattle.table.specs.Records.{arcAs, arcAt}
 use Rattle.table_adjacency.specs.Chains.{inChain}
-use Rattle.table_adjacency.specs.Distinct.{Between, Covers}
+use Rattle.table_adjacency.specs.Distinct.{Covers}
 use Rattle.product_search.specs.Reading.{ReadsArcs, chainedArcs, chainedOnly}
 use Rattle.product_search.specs.Searching.{Step}
 use Rattle.product_search.specs.Starting.{startsOf}

@@ -11,7 +11,6 @@ use Rattle.automata.specs.Lists.{if, isSome}
 use Rattle.automata.specs.OrderedSum.{ℕ-sum}
 use Rattle.automata.specs.Automaton.{Automaton, Content}
 use Rattle.automata.specs.System.{system, outAt, finalAt}
-use Rattle.automata.specs.Product as automata
 use Rattle.automata.specs.Product.{both, afterFirst, afterSecond, allBoth, allAfterFirst, allAfterSecond}
 use Rattle.automata.specs.Layout.{arcSize}
 use Rattle.table.specs.declared.answer.Counts.{Counts}

@@ -18,7 +18,7 @@ use Rattle.search_rows.specs.declared.Reached.{Reached}
 use Rattle.table.proofs.RegionFacts.{part-splice-before}
 use Rattle.search_rows.specs.declared.Entered.{Entered}
 use Rattle.search_rows.specs.declared.Entered.the-variants as E
-use Rattle.search_rows.specs.Kept.{keptRecord}
+use Rattle.search_rows.specs.Kept.{storedWithin}
 use Rattle.search_rows.proofs.CodeFacts.{all-insert}
 use Rattle.search_rows.proofs.KeptFacts.{kept-cases, Keeps, stand-none, stand-kept, stand-more, stand-beyond}
 use Rattle.search_rows.proofs.SearchFacts.{count-more}
@@ -143,7 +143,7 @@ module _ (p : Plan) (A B : Automaton ℕ) (h : Head) (s : VertexSearch) (w : Lis
   before l a n b = part-splice-before a n (p .base + stepSize * h .arcs) (moveBytes m) w (omega (arith, vf, b)) (omega (arith, mf, l))
 
   -- the head counts it whether there is room or not
-  pub move-held : (u : List ℕ) → u ≡ keptRecord (p .base) (p .arcs) (h .arcs) (moveBytes m) w → Holds p A B (counted p h) longer u
+  pub move-held : (u : List ℕ) → u ≡ storedWithin (p .base) (p .arcs) (h .arcs) (moveBytes m) w → Holds p A B (counted p h) longer u
   move-held u k = kept-cases (p .base) (p .arcs) (h .arcs) (moveBytes m) w u k (λ z. Holds p A B (counted p h) longer z)
       (λ l. record {
         vertices = fronts-same 0 vertexSize 4 (length (s .vertices)) w _ (λ k b. before l (0 + k * vertexSize) 4 (omega (arith, o .fits, b))) ∙ o .vertices;

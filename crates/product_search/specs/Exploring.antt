@@ -18,7 +18,7 @@ use Rattle.product_search.specs.Vertices.{HoldsVertices, VertexBelow}
 use Rattle.product_search.specs.Moves.{HoldsMoves}
 use Rattle.product_search.specs.Reading.{chainedOnly}
 use Rattle.product_search.specs.Plans.{firstIn, secondIn}
-use Rattle.product_search.specs.Searching.{Comes, Tables, Indexed, Reads, chainedOut}
+use Rattle.product_search.specs.Searching.{Comes, Tables, Reads, chainedOut}
 use Rattle.product_search.specs.Starting.{Open, startsOf}
 
 module _ (p : Plan) (s1 a1 s2 a2 : List ℕ) where

@@ -1,7 +1,6 @@
 -- What a search over the states of a product reads: two tables in memory, and a work space in parts.
 use mathlib.Core.List.{List}
 use Prim.Native.Nat.{ℕ, _+_, _*_, _≤_}
-use lib.ListN.{length}
 use Rattle.automata.specs.Automaton.{Automaton}
 use Rattle.automata.specs.Memory.{Sound, tableOf}
 use Rattle.automata.specs.Layout.{stepSize, vertexSize}

@@ -17,6 +17,7 @@ use Rattle.automata.specs.Product.{sameVertex, allBoth, allAfterFirst, allAfter
 use Rattle.automata.specs.Layout.{arcSize, stepSize, vertexSize}
 use Rattle.table.specs.declared.answer.Counts.{Counts}
 use Rattle.table.specs.Records.{arcAs, arcAt}
+use Rattle.search_rows.specs.Comes as search
 use Rattle.product_search.specs.declared.vertex.Vertex.{Vertex}
 use Rattle.product_search.specs.declared.plan.Plan.{Plan}
 use Rattle.product_search.specs.declared.head.Head.{Head}
@@ -65,9 +66,8 @@ Exceeds p r s = (p .states < length (s .vertices)) ⊎ ((p .limit < r .arcs) × 
 
 -- the head r and the work space w hold the search s, or it was given up, and s has more than there is room for or than
 -- is looked for
-pub record Comes (p : Plan) (A B : Automaton ℕ) (r : Head) (s : VertexSearch) (w : List ℕ) : Type 0 where
-  pub held : r .full ≡ false → Holds p A B r s w
-  pub over : r .full ≡ true → Exceeds p r s
+abbrev pub Comes : Plan → Automaton ℕ → Automaton ℕ → Head → VertexSearch → List ℕ → Type 0
+Comes p A B r s w = search.Comes (r .full) (Holds p A B r s w) (Exceeds p r s)
 
 -- From the head h and the work space v to r and w the steps xs out of the state c that is taken up were noted, whatever search was held.
 abbrev pub Notes : Plan → Automaton ℕ → Automaton ℕ → automata.Vertex → List Step → Head → List ℕ → Head → List ℕ → Type 0

@@ -3,7 +3,7 @@ ghost use mathlib.Core.Path.{_≡_};
 ghost use mathlib.Core.Bool.{false};
 ghost use Prim.Native.Nat.{_+_, _*_, _≤_, _<_};
 ghost use lib.ListN.{length};
-ghost use Rattle.search_rows.specs.Kept.{keptRecord};
+ghost use Rattle.search_rows.specs.Kept.{storedWithin};
 ghost use Rattle.product_search.specs.Vertices.{vertexAt};
 ghost use Rattle.product_search.specs.Moves.{moveBytes};
 ghost use Rattle.product_search.specs.Reading.{StatesLent, ArcsLent, LinkedArcs};
@@ -16,8 +16,8 @@ use crate::vertex::Move;
 use crate::vertex::NO_ARC;
 use crate::vertex::Vertex;
 use crate::vertex::enter_vertex;
-use crate::vertex::keep_move;
 use crate::vertex::load_vertex;
+use crate::vertex::store_move_within;
 use search_rows::Entered;
 use search_rows::Reached;
 use table::answer::Counts;
@@ -74,7 +74,7 @@ impl Head {
     // A move from the state that is taken up, written.
     fn note(self, plan: Plan, work: &mut [u8], i: u16, j: u16, to: Reached)
         requires { ⌜ (plan .base + stepSize * plan .arcs ≤ length (now work)) × (self .taken < 1024) ⌝ }
-        ensures { λ _. ⌜ now (work .exit) ≡ keptRecord (plan .base) (plan .arcs) (self .arcs) (moveBytes (record { from = record { 0 = self .taken }; first = i; second = j; to = to })) (now (work .entry)) ⌝ }
+        ensures { λ _. ⌜ now (work .exit) ≡ storedWithin (plan .base) (plan .arcs) (self .arcs) (moveBytes (record { from = record { 0 = self .taken }; first = i; second = j; to = to })) (now (work .entry)) ⌝ }
     {
         let m = Move {
             from: Reached(self.taken as u16),
@@ -82,7 +82,7 @@ impl Head {
             second: j,
             to,
         };
-        keep_move(work, plan.base, plan.arcs, self.arcs, m);
+        store_move_within(work, plan.base, plan.arcs, self.arcs, m);
     }
 
     // A move by the arcs with numbers `i` and `j` to the state `to`: how many states are now reached, or one more than

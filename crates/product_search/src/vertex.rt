@@ -4,7 +4,7 @@ use search_chains::link_below;
 use search_rows::Entered;
 use search_rows::Found;
 use search_rows::Reached;
-use search_rows::keep;
+use search_rows::store_within;
 use table::bytes::get16;
 use table::bytes::get32;
 use table::bytes::put16;
@@ -16,7 +16,7 @@ ghost use Prim.Native.Nat.{_+_, _*_, _≤_, _<_};
 ghost use lib.ListN.{length};
 ghost use Rattle.table.specs.Region.{splice};
 ghost use Rattle.table.specs.Endian.{toLe};
-ghost use Rattle.search_rows.specs.Kept.{keptRecord};
+ghost use Rattle.search_rows.specs.Kept.{storedWithin};
 ghost use Rattle.search_chains.specs.Chain.{appended};
 ghost use Rattle.product_search.specs.Vertices.{vertexBytes, vertexAt, FindsVertex, EntersVertex};
 ghost use Rattle.product_search.specs.Moves.{moveBytes, moveAt};
@@ -155,11 +155,11 @@ pub fn load_move(work: &[u8], at: usize) -> Move
 }
 
 // The record of the move with this number, written where there is room for it.
-pub fn keep_move(work: &mut [u8], base: usize, room: usize, number: usize, m: Move)
+pub fn store_move_within(work: &mut [u8], base: usize, room: usize, number: usize, m: Move)
     requires { ⌜ base + stepSize * room ≤ length (now work) ⌝ }
-    ensures { λ _. ⌜ now (work .exit) ≡ keptRecord base room number (moveBytes m) (now (work .entry)) ⌝ }
+    ensures { λ _. ⌜ now (work .exit) ≡ storedWithin base room number (moveBytes m) (now (work .entry)) ⌝ }
 {
     let mut record = [0u8; 8];
     store_move(&mut record, 0, m);
-    keep(work, base, room, number, &record);
+    store_within(work, base, room, number, &record);
 }

@@ -15,7 +15,7 @@ use Rattle.search_rows.specs.declared.Found.{Found}
 use Rattle.search_rows.specs.declared.Found.the-variants.{At, Nothing}
 use Rattle.search_rows.specs.Find.{indexFrom}
 use Rattle.search_chains.specs.declared.Shape.{Shape}
-use Rattle.search_chains.specs.Chain.{fronts, recordAt, appended, Chained, Searchable, Finds, entry, enterOf, Enters}
+use Rattle.search_chains.specs.Chain.{fronts, recordAt, appended, Chained, Searchable, Finds, enterOf, Enters}
 use Rattle.search_chains.proofs.FrontFacts.{length-fronts, getD-fronts, fronts-same, fronts-snoc, index-absent}
 use Rattle.search_chains.proofs.EntryFacts.{length-appended, record-old, record-new, beyond-kept, chained-appended}
 

@@ -2,11 +2,11 @@
 -- that are kept or cleared.
 use Prim.Native.Nat.{ℕ, zero, suc, _+_, _-_, _*_, _≤_, _<_}
 use mathlib.Core.Path.{_≡_, refl, sym, ap, _∙_, subst}
-use mathlib.Core.List.{List, [], _∷_, _++_}
-use native.Mathlib.Decide.{decLt, ℕ-discrete}
+use mathlib.Core.List.{List}
+use native.Mathlib.Decide.{ℕ-discrete}
 use native.Mathlib.Omega.{arith}
-use native.Mathlib.Nat.{zero-add, add-zero}
-use lib.ListN.{length, drop}
+use native.Mathlib.Nat.{add-zero}
+use lib.ListN.{length}
 use Rattle.table.specs.Region.{part, splice}
 use Rattle.table.specs.Endian.{le, toLe}
 use Rattle.table.proofs.RegionFacts.{length-splice, part-splice-same, part-splice-after}

@@ -1,8 +1,7 @@
 -- The search along a chain: what a link that is followed passes, and what the search tells at its end.
 use Prim.Native.Nat.{ℕ, zero, suc, _+_, _-_, _*_, _≤_, _<_}
-use mathlib.Core.Path.{_≡_, refl, sym, ap, _∙_, subst}
-use mathlib.Core.Bool.{Bool, true, false}
-use mathlib.Core.List.{List, [], _∷_, _++_}
+use mathlib.Core.Path.{_≡_, sym, ap, _∙_, subst}
+use mathlib.Core.List.{List, []}
 use native.Mathlib.Decide.{decLt, ℕ-discrete}
 use native.Mathlib.Omega.{arith}
 use native.Mathlib.Nat.{zero-add}
@@ -13,15 +12,12 @@ use borrow.Author.Tests.{le-leb, lt-leb}
 use Rattle.automata.specs.Lists.{if}
 use Rattle.table.specs.Region.{part}
 use Rattle.table.specs.Endian.{le}
-use Rattle.search_rows.specs.declared.Reached.{Reached}
 use Rattle.table.proofs.RegionFacts.{length-part, getD-part}
 use Rattle.table.proofs.RowFacts.{mul-step}
-use Rattle.search_rows.specs.declared.Found.{Found}
 use Rattle.search_rows.specs.declared.Found.the-variants.{At, Nothing}
-use Rattle.search_rows.specs.Find.{indexOf}
 use Rattle.search_chains.specs.declared.Shape.{Shape}
 use Rattle.search_chains.specs.Parts.{partStart, partSize, Agrees}
-use Rattle.search_chains.specs.Chain.{fronts, recordAt, headAt, nextAt, linkBelow, Leads, Chained, Searchable, Finds}
+use Rattle.search_chains.specs.Chain.{fronts, recordAt, headAt, nextAt, linkBelow, Leads, Searchable, Finds}
 use Rattle.search_chains.proofs.FrontFacts.{length-fronts, getD-fronts, index-none, index-only}
 
 -- ---- links

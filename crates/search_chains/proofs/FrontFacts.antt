@@ -1,5 +1,5 @@
 -- Records at the fronts of rows as a list, and the search in a list where a record stands once or not at all.
-use Prim.Native.Nat.{ℕ, zero, suc, _+_, _*_, _≤_, _<_}
+use Prim.Native.Nat.{ℕ, zero, suc, _+_, _*_, _<_}
 use mathlib.Core.Path.{_≡_, refl, sym, ap, ap₂, _∙_}
 use mathlib.Core.Bool.{Bool, true, false}
 use mathlib.Core.List.{List, [], _∷_, _++_}
@@ -10,7 +10,6 @@ use lib.ListN.{length, getD}
 use Rattle.automata.specs.Lists.{if, sameList}
 use Rattle.automata.proofs.ListFacts.{numbers-decided, lists-decided}
 use Rattle.table.specs.Region.{part}
-use Rattle.search_rows.specs.declared.Found.{Found}
 use Rattle.search_rows.specs.declared.Found.the-variants.{At, Nothing}
 use Rattle.search_rows.specs.Find.{indexFrom}
 use Rattle.search_chains.specs.Chain.{fronts}

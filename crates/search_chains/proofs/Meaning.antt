@@ -18,7 +18,6 @@ use Rattle.search_rows.specs.declared.Entered.{Entered}
 use Rattle.search_rows.specs.declared.Entered.the-variants as E
 use Rattle.search_rows.specs.declared.Found.{Found}
 use Rattle.search_rows.specs.declared.Found.the-variants.{At, Nothing}
-use Rattle.search_rows.specs.Find as Find
 use Rattle.search_rows.specs.Inserted.{Tells}
 use Rattle.search_rows.proofs.Meaning.{index-codes}
 use Rattle.search_chains.specs.declared.Shape.{Shape}

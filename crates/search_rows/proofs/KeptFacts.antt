@@ -17,21 +17,21 @@ use Rattle.automata.proofs.ListFacts
 use Rattle.automata.specs.Layout.{stepSize}
 use Rattle.table.specs.Region.{part, splice}
 use Rattle.table.proofs.RegionFacts.{length-splice, splice-front, part-splice-in, part-splice-before}
-use Rattle.search_rows.specs.Kept.{keptRecord}
+use Rattle.search_rows.specs.Kept.{storedWithin}
 
 -- a record that there is room for, and one that there is none for
-pub kept-put : (at room number : ℕ) (bytes w v : List ℕ) → number < room → v ≡ splice (at + stepSize * number) bytes w → v ≡ keptRecord at room number bytes w
-unfolding keptRecord
+pub kept-put : (at room number : ℕ) (bytes w v : List ℕ) → number < room → v ≡ splice (at + stepSize * number) bytes w → v ≡ storedWithin at room number bytes w
+unfolding storedWithin
 kept-put at room number bytes w v h k = rw (lt-ltb number room h) k
 
-pub kept-left : (at room number : ℕ) (bytes w : List ℕ) → room ≤ number → w ≡ keptRecord at room number bytes w
-unfolding keptRecord
+pub kept-left : (at room number : ℕ) (bytes w : List ℕ) → room ≤ number → w ≡ storedWithin at room number bytes w
+unfolding storedWithin
 kept-left at room number bytes w h = rw (le-ltb number room h)
 
 -- by whether there is room
-module _ (at room number : ℕ) (bytes w v : List ℕ) (k : v ≡ keptRecord at room number bytes w) where
+module _ (at room number : ℕ) (bytes w v : List ℕ) (k : v ≡ storedWithin at room number bytes w) where
   pub kept-cases : (P : List ℕ → Type 0) → (number < room → P (splice (at + stepSize * number) bytes w)) → (room ≤ number → P w) → P v
-  unfolding keptRecord
+  unfolding storedWithin
   kept-cases P f g = go (ltb number room) refl
     where
       go : (b : Bool) → ltb number room ≡ b → P v
@@ -50,11 +50,11 @@ front-made n k bytes r l e =
     e ∙ splice-front bytes (replicate (n + k) 0) ∙ ap (λ (m : ℕ). bytes ++ drop {A = ℕ} m (replicate (n + k) 0)) l ∙ ap (λ (y : List ℕ). bytes ++ y) z
 
 -- with none behind it, what is kept is the record
-pub kept-made : (n at room number : ℕ) (bytes r w v : List ℕ) → length bytes ≡ n → r ≡ splice 0 bytes (replicate n 0) → v ≡ keptRecord at room number r w
-    → v ≡ keptRecord at room number bytes w
+pub kept-made : (n at room number : ℕ) (bytes r w v : List ℕ) → length bytes ≡ n → r ≡ splice 0 bytes (replicate n 0) → v ≡ storedWithin at room number r w
+    → v ≡ storedWithin at room number bytes w
 kept-made n at room number bytes r w v l e k =
     let q : r ≡ bytes = front-made n 0 bytes r l (e ∙ ap (λ (m : ℕ). splice 0 bytes (replicate m 0)) (sym (add-zero n))) ∙ append-nil bytes in
-    k ∙ ap (λ (z : List ℕ). keptRecord at room number z w) q
+    k ∙ ap (λ (z : List ℕ). storedWithin at room number z w) q
 
 -- the front of what was written at a place
 pub part-start : (at n : ℕ) (r w : List ℕ) → n ≤ length r → at + length r ≤ length w → part at n (splice at r w) ≡ part 0 n r

@@ -7,5 +7,5 @@ use Rattle.automata.specs.Layout.{stepSize}
 use Rattle.table.specs.Region.{splice}
 
 -- the work space with one more of the records from place at on, 16 bytes apart, where there is room for it
-unfoldable pub keptRecord : ℕ → ℕ → ℕ → List ℕ → List ℕ → List ℕ
-keptRecord at room number bytes w = if (ltb number room) (splice (at + stepSize * number) bytes w) w
+unfoldable pub storedWithin : ℕ → ℕ → ℕ → List ℕ → List ℕ → List ℕ
+storedWithin at room number bytes w = if (ltb number room) (splice (at + stepSize * number) bytes w) w

@@ -2,3 +2,4 @@
 pub mod Find
 pub mod Inserted
 pub mod Kept
+pub mod Comes

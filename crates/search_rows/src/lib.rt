@@ -4,7 +4,7 @@ use table::layout::STEP_SIZE;
 ghost use mathlib.Core.Path.{_≡_};
 ghost use Prim.Native.Nat.{_+_, _*_, _≤_, _<_};
 ghost use lib.ListN.{length};
-ghost use Rattle.search_rows.specs.Kept.{keptRecord};
+ghost use Rattle.search_rows.specs.Kept.{storedWithin};
 ghost use Rattle.automata.specs.Layout.{stepSize};
 
 // The number of a record among those that a search has reached, in the order reached.
@@ -24,9 +24,9 @@ pub enum Found {
 }
 
 // The record with this number and these bytes, written where there is room for it.
-pub fn keep(work: &mut [u8], base: usize, room: usize, number: usize, bytes: &[u8])
+pub fn store_within(work: &mut [u8], base: usize, room: usize, number: usize, bytes: &[u8])
     requires { ⌜ (base + stepSize * room ≤ length (now work)) × (length (now bytes) ≤ stepSize) ⌝ }
-    ensures { λ _. ⌜ now (work .exit) ≡ keptRecord base room number (now (bytes .entry)) (now (work .entry)) ⌝ }
+    ensures { λ _. ⌜ now (work .exit) ≡ storedWithin base room number (now (bytes .entry)) (now (work .entry)) ⌝ }
 {
     if room <= number {
         return;

@@ -4,7 +4,7 @@ use mathlib.Core.List.{List, _++_}
 use Prim.Native.Nat.{ℕ, _+_, _-_, _≤_}
 use lib.ListN.{length, take, drop}
 use native.Mathlib.Omega.{arith}
-use Rattle.automata.specs.Layout.{targetPlace, contentPlace, contentSize, arcSize}
+use Rattle.automata.specs.Layout.{targetPlace, contentSize, arcSize}
 use Rattle.table.specs.Region.{part, splice}
 use Rattle.table.specs.Endian.{toLe}
 use Rattle.table.proofs.RegionFacts.{splice-behind}

@@ -24,11 +24,11 @@ readLabel x = labelRecord .read x
 unfoldable pub labelsRead : ℕ → List ℕ → Answer (List (List ℕ))
 labelsRead n x = readCopies labelRecord n x
 
--- the 72 bytes of an arc's labels: those of so many tapes, and zeros
+-- the bytes of an arc's labels: those of so many tapes, and zeros
 unfoldable pub readLabels : ℕ → List ℕ → Answer (List (List ℕ))
 readLabels tapes x = labelRecords tapes .read x
 
--- an arc of a table with so many tapes and states, in 80 bytes
+-- the record of an arc of a table with so many tapes and states
 unfoldable pub readArc : ℕ → ℕ → List ℕ → Answer (Arc ℕ)
 readArc tapes states x = arcRecord tapes states .read x
 

@@ -58,11 +58,11 @@ arcAs tapes a = arcOf tapes (a .source .0) (a .target .0) (a .content)
 
 -- ---- the bytes that a record is stored as
 
--- the 5 bytes of a weight
+-- the bytes of a weight
 unfoldable pub weightBytes : Weight → List ℕ
 weightBytes w = weightRecord .write (optionOf w)
 
--- the 10 bytes of a state
+-- the bytes of a state
 unfoldable pub stateBytes : State → List ℕ
 stateBytes s = stateRecord .write (stateAs s)
 

@@ -101,7 +101,7 @@ fn blank_labels(labels: &[u8], tapes: usize) -> bool
     true
 }
 
-// Whether 72 bytes are the labels of an arc, those of unused tapes zero.
+// Whether the bytes are the labels of an arc, those of unused tapes zero.
 fn good_tapes(labels: &[u8], tapes: usize) -> bool
     requires { ⌜ (length (now labels) ≡ labelsSize) × (tapes ≤ 8) ⌝ }
     ensures { λ r. ⌜ (r ≡ true → forget (readLabels tapes (now (labels .entry))) ≡ ok tt) ⌝ }
@@ -113,7 +113,7 @@ fn good_tapes(labels: &[u8], tapes: usize) -> bool
     blank_labels(&labels[end..LABELS_SIZE], 8 - tapes)
 }
 
-// Whether 80 bytes are an arc of a table with so many tapes and states.
+// Whether the bytes are the record of an arc of a table with so many tapes and states.
 pub fn good_arc(arc: &[u8], tapes: usize, states: usize) -> bool
     requires { ⌜ (length (now arc) ≡ arcSize) × (tapes ≤ 8) ⌝ }
     ensures { λ r. ⌜ (r ≡ true → forget (readArc tapes states (now (arc .entry))) ≡ ok tt) ⌝ }

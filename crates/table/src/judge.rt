@@ -128,7 +128,7 @@ fn judge_labels(labels: &[u8], tapes: usize) -> Judged
     judged
 }
 
-// The 72 bytes of an arc's labels: unused tapes are zero.
+// The bytes of an arc's labels: unused tapes are zero.
 fn judge_tapes(labels: &[u8], tapes: usize) -> Judged
     requires { ⌜ (length (now labels) ≡ labelsSize) × (tapes ≤ 8) ⌝ }
     ensures { λ r. ⌜ judgedAs r ≡ forget (readLabels tapes (now (labels .entry))) ⌝ }
@@ -139,7 +139,7 @@ fn judge_tapes(labels: &[u8], tapes: usize) -> Judged
     both(used, demand(unused, Refusal::Form))
 }
 
-// The 80 bytes of an arc of a table with so many tapes and states.
+// The record of an arc of a table with so many tapes and states.
 fn judge_arc_record(arc: &[u8], tapes: usize, states: usize) -> Judged
     requires { ⌜ (length (now arc) ≡ arcSize) × (tapes ≤ 8) ⌝ }
     ensures { λ r. ⌜ judgedAs r ≡ forget (readArc tapes states (now (arc .entry))) ⌝ }

@@ -1,17 +1,17 @@
 -- Marking arcs so that each has a marked one between the same states, and linking the marked ones.
 use Prim.Native.Nat.{ℕ, zero, suc, _+_, _-_, _*_, _≤_, _<_}
 use mathlib.Core.Path.{_≡_, refl, sym, ap, _∙_, subst}
-use mathlib.Core.Bool.{Bool, true, false}
+use mathlib.Core.Bool.{true, false}
 use mathlib.Core.List.{List}
 use native.Mathlib.Omega.{arith}
 use native.Mathlib.Decide.{ℕ-discrete}
 use lib.Dec.{ltb}
 use lib.ListN.{length, getD, set, replicate, length-set, length-replicate, getD-replicate}
 use lib.Seq.{getD-set-same, getD-set-other}
-use borrow.Author.Tests.{lt-ltb, le-ltb}
+use borrow.Author.Tests.{lt-ltb}
 use Rattle.table.specs.Arcs.{sourceOf, targetOf}
-use Rattle.table_adjacency.specs.Chains.{inChain, FirstIn, Linked, Chained, Chainable}
-use Rattle.table_adjacency.specs.Distinct.{Between, Grown, Marked, MarksArc, Markable, MarksState, Covers, MarksAll, LinkedFrom, SameMarks, LinksArc, LinksAll, LinksDistinct}
+use Rattle.table_adjacency.specs.Chains.{inChain, FirstIn, Linked, Chainable}
+use Rattle.table_adjacency.specs.Distinct.{Between, Grown, Marked, MarksArc, Markable, MarksState, MarksAll, LinkedFrom, SameMarks, LinksArc, LinksAll, LinksDistinct}
 use Rattle.table_adjacency.proofs.ChainFacts.{First, first-arc, next-arc}
 use Rattle.automata.specs.Layout.{arcSize}
 

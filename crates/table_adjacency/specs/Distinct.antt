@@ -6,7 +6,7 @@ use mathlib.Core.List.{List}
 use Prim.Native.Nat.{ℕ, _+_, _*_, _≤_, _<_}
 use lib.ListN.{length, getD}
 use Rattle.table.specs.Arcs.{sourceOf, targetOf}
-use Rattle.table_adjacency.specs.Chains.{inChain, FirstIn, Linked, Chained, Chainable}
+use Rattle.table_adjacency.specs.Chains.{inChain, FirstIn, Linked, Chained}
 use Rattle.automata.specs.Layout.{arcSize}
 
 -- one of n arcs that stands in a chain, or is marked to, leads from q to t

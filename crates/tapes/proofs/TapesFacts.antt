@@ -84,7 +84,7 @@ module _ (tapes states : ℕ) (js : List ℕ) (few : tapes ≤ 8) (short : lengt
 -- ---- a table in memory
 
 module _ (m : Memory) (T : Automaton ℕ) (w : WellFormed T) (h : Holds m T) where
-  -- each record of an arc takes up 80 bytes
+  -- the size of each record of an arc
   arcs-sized : All (Sized (arcRecord (T .tapes) (length (T .states)) .write) arcSize) (T .arcs)
   arcs-sized = subst (λ (z : ℕ). All (Sized (arcRecord (T .tapes) (length (T .states)) .write) z) (T .arcs))
       (arcRecord-width (T .tapes) (length (T .states)) (w .counts .tapesFit))

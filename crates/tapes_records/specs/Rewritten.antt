@@ -8,11 +8,11 @@ use Rattle.table.specs.Arcs.{sourceAt, targetAt}
 use Rattle.table.specs.Region.{part, splice}
 use Rattle.table.specs.Endian.{toLe}
 
--- the first n records of 80 bytes, each rewritten
+-- the first n records of arcs, each rewritten
 unfoldable pub rewritten : (List ℕ → List ℕ) → ℕ → List ℕ → List ℕ
 rewritten f n x = writeAll f (chunks arcSize n x)
 
--- the labels on the tapes of a list, 9 bytes each, one after the other
+-- the labels on the tapes of a list, one after the other
 unfoldable pub chosenLabels : List ℕ → List ℕ → List ℕ
 chosenLabels js labels = writeAll (λ j. part (labelSize * (j - 1)) labelSize labels) js
 

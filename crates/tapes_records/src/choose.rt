@@ -38,7 +38,7 @@ fn copy_labels(labels: &[u8], tapes: &[u8], used: usize, out: &mut [u8])
     }
 }
 
-// The 72 bytes of these labels of the arc at `at`, with zeros behind them.
+// The bytes of these labels of the arc at `at`, with zeros behind them.
 fn labels_at(arcs: &[u8], at: usize, tapes: &[u8], used: usize) -> [u8; LABELS_SIZE]
     requires { ⌜ Choice (now tapes) used × (at + arcSize ≤ length (now arcs)) ⌝ }
     ensures { λ r. ⌜ r ≡ splice 0 (chosenLabels (take used (now (tapes .entry))) (part (at + labelsPlace) labelsSize (now (arcs .entry)))) (zeros labelsSize) ⌝ }

@@ -1,15 +1,15 @@
 -- Columns that are fine: the number or weight that they are read as is what they come to without a judgement.
-use mathlib.Core.Path.{_≡_, refl, sym, ap, _∙_}
+use mathlib.Core.Path.{_≡_, refl, sym, _∙_}
 use mathlib.Core.Bool.{Bool, true, false}
 use mathlib.Core.Option.{Option, none, some}
 use mathlib.Core.List.{List, [], _∷_}
-use Prim.Native.Nat.{ℕ, suc, _+_, _-_, _*_, _%_, _≤_, _<_}
+use Prim.Native.Nat.{ℕ, _+_, _-_, _*_, _%_, _≤_, _<_}
 use native.Mathlib.Omega.{arith}
 use lib.Dec.{T, leb, ltb, eqb, leb→le, ltb→lt}
 use lib.ListN.{length, getD}
 use borrow.Author.Tests.{ne-eqb, eqb-true}
 use Rattle.automata.specs.Lists.{if, and, sameList}
-use Rattle.automata.specs.Answer.{_>>=_, Answer, ok, check}
+use Rattle.automata.specs.Answer.{_>>=_, ok, check}
 use Rattle.automata.specs.Refusal.{form, size, state}
 use Rattle.automata.specs.Symbols.{isDigit}
 use Rattle.automata.specs.Decimal.{withDigit, leadingColumn}

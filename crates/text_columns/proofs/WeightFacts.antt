@@ -9,7 +9,7 @@ use native.Mathlib.Numerals.{add-one}
 use lib.Dec.{leb, eqb}
 use lib.ListN.{length, take, drop, getD, replicate, drop-of-length-le}
 use lib.Seq.{drop-cons}
-use borrow.Author.Tests.{eq-eqb, ne-eqb, le-leb, lt-leb, eqb-true}
+use borrow.Author.Tests.{le-leb, lt-leb, eqb-true}
 use Rattle.automata.specs.Lists.{if, and, sameList}
 use Rattle.automata.specs.Answer.{_>>=_, Answer, ok, refused, check, forget}
 use Rattle.automata.specs.Decimal.{decimal}

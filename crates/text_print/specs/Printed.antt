@@ -14,15 +14,15 @@ use Rattle.table.specs.declared.answer.Counts.{Counts}
 use Rattle.text_columns.specs.Columns.{decimalText}
 use Rattle.text_store.specs.Recode.{recoded}
 
--- the columns of the weight in a record of 5 bytes
+-- the columns of the weight in a record
 unfoldable pub weightOfRecord : List ℕ → List ℕ
 weightOfRecord x = weightColumns .write (if (eqb (getD x 0 0) 0) none (some (le (part 1 4 x))))
 
--- the line of the state in a record of 10 bytes
+-- the line of the state in a record
 unfoldable pub lineOfState : List ℕ → List ℕ
 lineOfState x = (weightOfRecord (take weightSize x) ++ weightOfRecord (drop weightSize x)) ++ (newline ∷ [])
 
--- the columns of the label in a record of 9 bytes
+-- the columns of the label in a record
 unfoldable pub columnsOfLabel : List ℕ → List ℕ
 columnsOfLabel x = labelColumns .write (take (getD x 0 0) (drop 1 x))
 
@@ -30,7 +30,7 @@ columnsOfLabel x = labelColumns .write (take (getD x 0 0) (drop 1 x))
 unfoldable pub numbersOfRecord : List ℕ → List ℕ
 numbersOfRecord x = decimalText numberWidth (sourceAt 0 x) ++ (decimalText numberWidth (targetAt 0 x) ++ decimalText amountWidth (arcWeightAt 0 x))
 
--- the line of the arc in a record of 80 bytes, of a table with so many tapes
+-- the line of the arc in a record, of a table with so many tapes
 unfoldable pub lineOfArc : ℕ → List ℕ → List ℕ
 lineOfArc tapes x = (numbersOfRecord x ++ recoded columnsOfLabel labelSize tapes (drop labelsPlace x)) ++ (newline ∷ [])
 

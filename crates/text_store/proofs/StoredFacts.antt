@@ -32,7 +32,7 @@ pub state-stored : (at : ℕ) (x xs us : List ℕ) (s : State) → us ≡ splice
 unfolding stateOfLine stateBytes
 state-stored at x xs us s e f g = e ∙ ap₂ (λ (a b : Option ℕ). splice at (stateRecord .write (record { initial = a; final = b })) xs) f g
 
--- a state's record is 10 bytes
+-- the size of a state's record
 pub state-sized : (x : List ℕ) → length x ≡ stateWidth → length (stateOfLine x) ≡ stateSize
 unfolding stateOfLine
 state-sized x e =
@@ -121,7 +121,7 @@ splice-over a ys zs xs h k =
     ∙ ap (splice (a + n) d) (splice-twice a t ys xs lt (omega arith))
     ∙ splice-append a ys d xs (omega arith)
 
--- a label's record is 9 bytes
+-- the size of a label's record
 pub label-sized : (x : List ℕ) → length x ≡ labelWidth → length (labelOfColumns x) ≡ labelWidth
 unfolding labelOfColumns
 label-sized x e =
@@ -154,7 +154,7 @@ module _ (tapes : ℕ) (x : List ℕ) (h : length x ≡ arcWidth + tapes * label
       let m : length (r ++ zeros ((8 - tapes) * labelWidth)) ≡ labelsSize = length-append r (zeros ((8 - tapes) * labelWidth)) ∙ rw (labels-length, length-replicate) (omega arith) in
       splice-behind at (at + labelsPlace) (numberBytes x) (r ++ zeros ((8 - tapes) * labelWidth)) xs us ws e w refl (omega arith)
 
-  -- an arc's record is 80 bytes
+  -- the size of an arc's record
   pub arc-sized : tapes ≤ 8 → length (arcOfLine tapes x) ≡ arcSize
   unfolding arcOfLine numberBytes
   arc-sized t =

@@ -1,18 +1,17 @@
 -- The counts that a call tells are those of a table, so that one number of 64 bits holds them.
-use mathlib.Core.Path.{_≡_, refl, sym, ap, _∙_, subst}
+use mathlib.Core.Path.{_≡_, refl, sym, ap, subst}
 use mathlib.Core.List.{List}
 use Prim.Native.Nat.{ℕ, _+_, _*_, _≤_, _<_}
 use native.Mathlib.Omega.{arith}
 use native.Mathlib.Nat.{mul-le-mul}
 use lib.ListN.{length}
 use Rattle.automata.specs.Answer.{Answer, ok, refused}
-use Rattle.automata.specs.Space.{Space}
 use Rattle.automata.specs.Automaton.{Automaton}
 use Rattle.automata.specs.Table.{WellFormed}
 use Rattle.automata.specs.TapePair.{TapePair}
 use Rattle.automata.specs.TableText.{writeTable}
 use Rattle.automata.specs.Memory.{Memory, decodeTable}
-use Rattle.automata.specs.Calls.Outcome.{Slices, TableCounts, Made, Built, Joined, Written, Found, spaceOf, put, build, conclude, print, madeOf, builtOf, joinedOf, foundOf}
+use Rattle.automata.specs.Calls.Outcome.{Slices, TableCounts, Made, Built, Joined, Written, spaceOf, put, build, conclude, print, madeOf, builtOf, joinedOf}
 use Rattle.automata.specs.Calls.Work.{enough}
 use Rattle.automata.specs.Calls.Read.{readAnswer, readOutcome}
 use Rattle.automata.specs.Calls.Write.{writeAnswer, writeOutcome}

@@ -3,7 +3,7 @@
 use mathlib.Core.Bool.{Bool}
 use mathlib.Core.List.{List}
 use Prim.Native.Nat.{ℕ}
-use Rattle.automata.specs.Answer.{_>>=_, Answer, ok, refused}
+use Rattle.automata.specs.Answer.{_>>=_, ok, refused}
 use Rattle.automata.specs.OrderedSum.{ℕ-sum}
 use Rattle.automata.specs.Automaton.{Automaton}
 use Rattle.automata.specs.Table.{weightFits}

@@ -1,13 +1,13 @@
--- `product::finish::settle` meets its contract. Assumes nothing.
+-- `product::finish::answer_search` meets its contract. Assumes nothing.
 use Rattle.product.proofs.SettleFacts.{settled-full, settled-arcs, settled-weights, settled-made, rows-fit, rows-within, moves-long, moves-within, states-room, arcs-room}
 use mathlib.Core.Path.{refl}
 use native.Mathlib.Omega.{arith}
 use denote.Ref.{now}
 use borrow.Author.Needs.{needs}
-use Rattle.product.proofs.finish.settle.Statement.{statement}
-use Rattle.product.proofs.finish.settle.Tie as tie
-use Rattle.product.proofs.finish.settle.Reads as reads
-use Rattle.product.proofs.finish.settle.Lts as lts
+use Rattle.product.proofs.finish.answer_search.Statement.{statement}
+use Rattle.product.proofs.finish.answer_search.Tie as tie
+use Rattle.product.proofs.finish.answer_search.Reads as reads
+use Rattle.product.proofs.finish.answer_search.Lts as lts
 use Rattle.product_records.proofs.judge.sums_fit.Reads as sums-fit-reads
 use Rattle.product_records.proofs.result.write_moves.Reads as write-moves-reads
 use Rattle.product_records.proofs.result.write_states.Reads as write-states-reads
@@ -62,8 +62,8 @@ returns-4 c =
     let s = c .before .before .before .before .before .before .before .before .before .before .before .before .before .before .before .before .before .before .before .before .before in
     settled-made _ _ _ _ _ _ _ (now (s .args .out-states)) (now (s .args .out-arcs)) (s .pre) (c .before .before .before .before .before .before .before .before .before .before .before .before .before .if1 .left) (c .before .before .before .before .before .before .before .before .before .before .if2 .left) _ (c .before .before .before .before .before .before .before .before .before .sums-fit .ensures) (c .before .before .before .before .before .before .before .before .if3 .left) _ _ _ _ refl refl (c .before .before .before .before .before .before .write-states .ensures) (c .before .before .write-moves .ensures)
 
-pub settle-spec : {M : Type 1} → statement M
-settle-spec =
+pub answer-search-spec : {M : Type 1} → statement M
+answer-search-spec =
     tie.close
     (tie.spec
     returns

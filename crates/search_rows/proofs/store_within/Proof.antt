@@ -1,10 +1,10 @@
--- `search_rows::keep` meets its contract. Assumes nothing.
+-- `search_rows::store_within` meets its contract. Assumes nothing.
 use Rattle.search_rows.proofs.KeptFacts.{kept-put, kept-left}
 use borrow.Author.Needs.{needs}
-use Rattle.search_rows.proofs.keep.Statement.{statement}
-use Rattle.search_rows.proofs.keep.Tie as tie
-use Rattle.search_rows.proofs.keep.Reads as reads
-use Rattle.search_rows.proofs.keep.Lts as lts
+use Rattle.search_rows.proofs.store_within.Statement.{statement}
+use Rattle.search_rows.proofs.store_within.Tie as tie
+use Rattle.search_rows.proofs.store_within.Reads as reads
+use Rattle.search_rows.proofs.store_within.Lts as lts
 use Rattle.table.proofs.bytes.copy_into.Reads as copy-into-reads
 
 returns : tie.Need-returns
@@ -25,7 +25,7 @@ same-length c = search needs
 returns-2 : tie.Need-returns-2
 returns-2 c = kept-put _ _ _ _ _ _ (c .before .before .before .before .if1 .left) (c .before .before .copy-into .ensures)
 
-pub keep-spec : {M : Type 1} → statement M
-keep-spec =
+pub store-within-spec : {M : Type 1} → statement M
+store-within-spec =
     tie.close
     (tie.spec returns mul-copy-into add-copy-into copy-into-requires same-length returns-2)

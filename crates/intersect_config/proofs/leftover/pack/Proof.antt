@@ -1,11 +1,11 @@
--- `intersect_config::leftover::keep` meets its contract. Assumes nothing.
+-- `intersect_config::leftover::pack` meets its contract. Assumes nothing.
 use Rattle.intersect_config.proofs.StripFacts.{packed-none, packed-some}
 use mathlib.Core.Path.{sym, _∙_}
 use borrow.Author.Needs.{needs}
-use Rattle.intersect_config.proofs.leftover.keep.Statement.{statement}
-use Rattle.intersect_config.proofs.leftover.keep.Tie as tie
-use Rattle.intersect_config.proofs.leftover.keep.Reads as reads
-use Rattle.intersect_config.proofs.leftover.keep.Lts as lts
+use Rattle.intersect_config.proofs.leftover.pack.Statement.{statement}
+use Rattle.intersect_config.proofs.leftover.pack.Tie as tie
+use Rattle.intersect_config.proofs.leftover.pack.Reads as reads
+use Rattle.intersect_config.proofs.leftover.pack.Lts as lts
 use Rattle.intersect_config.proofs.leftover.blank_leftover.Reads as blank-leftover-reads
 use Rattle.table.proofs.bytes.copy_into.Reads as copy-into-reads
 
@@ -27,8 +27,8 @@ cast-t9 c = search needs
 returns-2 : tie.Need-returns-2
 returns-2 c = sym (packed-some _ _ _ (c .before .before .before .if1 .left) (c .before .copy-into .ensures))
 
-pub keep-spec : {M : Type 1} → statement M
-keep-spec =
+pub pack-spec : {M : Type 1} → statement M
+pack-spec =
     tie.close
     (tie.spec
     blank-leftover-requires
