@@ -55,6 +55,17 @@ vertexSize = 16
 abbrev pub delaysSize : ℕ
 delaysSize = 64
 
+-- of each pair its least delay and, behind it, that of the pair turned round; behind those of four pairs, whether a final
+-- state is reached
+abbrev pub pairDelays : ℕ
+pairDelays = 8
+
+abbrev pub oppositePlace : ℕ
+oppositePlace = 4
+
+abbrev pub reachingPlace : ℕ
+reachingPlace = 32
+
 -- ---- the columns of a table's text
 
 -- a line ends with byte 10

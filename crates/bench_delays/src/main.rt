@@ -6,6 +6,8 @@ use delays_relaxation::listing::list_arcs;
 use table::bytes::get16;
 use table::bytes::put16;
 use table::layout::ARC_SIZE;
+use table::layout::LABELS_PLACE;
+use table::layout::TARGET_PLACE;
 ghost use mathlib.Core.Path.{_≡_};
 ghost use mathlib.Core.Bool.{true, false};
 ghost use Prim.Native.Nat.{_+_, _*_, _≤_};
@@ -31,8 +33,8 @@ fn put_arc(arcs: &mut [u8], at: usize, source: u16, target: u16, up: u8, down: u
     requires { ⌜ at + arcSize ≤ length (now arcs) ⌝ }
 {
     put16(arcs, at, source);
-    put16(arcs, at + 2, target);
-    arcs[at + 8] = up;
+    put16(arcs, at + TARGET_PLACE, target);
+    arcs[at + LABELS_PLACE] = up;
     arcs[at + 17] = down;
 }
 

@@ -7,6 +7,7 @@ use table::answer::refusal_number;
 use table::bytes::copy_into;
 use table::bytes::put16;
 use table::layout::ARC_SIZE;
+use table::layout::TARGET_PLACE;
 ghost use mathlib.Core.Path.{_≡_};
 ghost use Prim.Native.Nat.{_+_, _*_, _≤_};
 ghost use lib.ListN.{length};
@@ -36,7 +37,7 @@ fn put_arc(arcs: &mut [u8], at: usize, source: u16, target: u16)
     requires { ⌜ at + arcSize ≤ length (now arcs) ⌝ }
 {
     put16(arcs, at, source);
-    put16(arcs, at + 2, target);
+    put16(arcs, at + TARGET_PLACE, target);
     let label = [1u8, 65];
     copy_into(arcs, at + 8, &label);
     copy_into(arcs, at + 17, &label);

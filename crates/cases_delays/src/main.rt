@@ -7,6 +7,8 @@ use table::bytes::copy_into;
 use table::bytes::get16;
 use table::layout::ARC_SIZE;
 use table::layout::DELAYS_SIZE;
+use table::layout::OPPOSITE_PLACE;
+use table::layout::REACHING_PLACE;
 use table::pair::Pair;
 use table::pair::PairList;
 ghost use mathlib.Core.Path.{_≡_};
@@ -98,8 +100,8 @@ fn print_state(work: &[u8], q: usize)
     io::write_all(1, b": least ");
     print_delay(get16(work, at));
     io::write_all(1, b", turned round ");
-    print_delay(get16(work, at + 4));
-    if get16(work, at + 32) == 65535 {
+    print_delay(get16(work, at + OPPOSITE_PLACE));
+    if get16(work, at + REACHING_PLACE) == 65535 {
         io::write_all(1, b", no final state\n");
         return;
     }

@@ -17,7 +17,8 @@ use Rattle.automata.proofs.ReachingDelays.{held, least-held}
 use Rattle.automata.proofs.ReversalFacts.{directed-formed}
 use Rattle.automata.proofs.WellFormedFacts.{well-formed}
 use Rattle.automata.proofs.SoundFacts.{sound-well-formed, sound-holds, sound-states-lent, sound-arcs-lent}
-use Rattle.automata.specs.Layout.{arcSize, delaysSize, stateSize}
+use Rattle.automata.specs.Layout.{arcSize, delaysSize, stateSize, pairDelays, oppositePlace, reachingPlace}
+use Rattle.automata.specs.Limits.{maxTapes}
 use Rattle.delays_relaxation.specs.Column.{column, Frame}
 use Rattle.delays_relaxation.specs.Edges.{edges, Joined, Readable}
 use Rattle.delays_relaxation.specs.Lowered.{Least, FillsLeast}
@@ -44,12 +45,12 @@ closing-of A ps h c e =
 
 -- the bytes of four pairs are all that pairs change
 pairs-frame : (bytes : List ℕ) (n : ℕ) (arcs : List ℕ) (count : ℕ) (ps : List Pair) (k base : ℕ) (w v : List ℕ) → k ≤ 4 → ClosesPairs bytes n arcs count ps k base w v
-    → Frame base 32 n w v
+    → Frame base reachingPlace n w v
 pairs-frame bytes n arcs count ps k base w v l c = record {
   same-length = c .same-length;
   same = λ i o. c .same i (λ h s. (
-    outside-in (base + 8 * h) 2 base 32 n i (omega arith) (omega arith) (omega arith) o,
-    outside-in (base + 8 * h + 4) 2 base 32 n i (omega arith) (omega arith) (omega arith) o,
+    outside-in (base + pairDelays * h) 2 base reachingPlace n i (omega arith) (omega arith) (omega arith) o,
+    outside-in (base + pairDelays * h + oppositePlace) 2 base reachingPlace n i (omega arith) (omega arith) (omega arith) o,
   ));
 }
 
@@ -76,7 +77,7 @@ module _ (m : Memory) (s : Sound m) where
       }
 
   -- its pairs name tapes of eight
-  pub sound-within : (ps : PairList) → length (ps .pairs) ≡ 4 → Named (m .tapes) ps → (h : ℕ) → h < ps .used → Within 8 (getD (ps .pairs) h noPair)
+  pub sound-within : (ps : PairList) → length (ps .pairs) ≡ 4 → Named (m .tapes) ps → (h : ℕ) → h < ps .used → Within maxTapes (getD (ps .pairs) h noPair)
   sound-within ps l n h lt =
       let i = n .each h lt in
       let b = sound-well-formed m s .counts .tapesFit in
@@ -105,7 +106,7 @@ module _ (m : Memory) (s : Sound m) where
   -- the two columns of a pair hold its least delays, and those of it turned round
   pub pair-closed : (r : Bool) (p : Pair) → Within (m .tapes) p → (at : ℕ) (w : List ℕ) → PairClosed r (m .stateBytes) (m .states) (m .arcBytes) (m .arcs) p at w
       → (column at (m .states) w ≡ leastDelays (directed r t) (p .first - 1) (p .second - 1))
-      × (column (at + 4) (m .states) w ≡ leastDelays (directed r t) (p .second - 1) (p .first - 1))
+      × (column (at + oppositePlace) (m .states) w ≡ leastDelays (directed r t) (p .second - 1) (p .first - 1))
   pair-closed r p i at w c =
       let first : p .first - 1 < t .tapes = omega (arith, i .first-from, i .first-to, tapes-are) in
       let second : p .second - 1 < t .tapes = omega (arith, i .second-from, i .second-to, tapes-are) in
@@ -113,18 +114,18 @@ module _ (m : Memory) (s : Sound m) where
 
   -- what the two calls left
   pub writes-closing : (ps : PairList) (base : ℕ) (v u w : List ℕ) → length (ps .pairs) ≡ 4 → Named (m .tapes) ps → base + delaysSize * m .states ≤ length v
-      → FillsLeast false (edges false 0 0 0 (m .arcs) (m .arcBytes)) (base + 32) (m .states) (m .stateBytes) u v
+      → FillsLeast false (edges false 0 0 0 (m .arcs) (m .arcBytes)) (base + reachingPlace) (m .states) (m .stateBytes) u v
       → ClosesPairs (m .stateBytes) (m .states) (m .arcBytes) (m .arcs) (ps .pairs) (ps .used) base w u → WritesClosing m ps base w v
   unfolding closingTables
   writes-closing ps base v u w l n room a b =
       let e = a .frame .same-length in
       let k = n .used-fit in
-      let r : column (base + 32) (m .states) w ≡ column (base + 32) (m .states) u
-      = frame-column (base + 32) base 32 (m .states) w u (pairs-frame (m .stateBytes) (m .states) (m .arcBytes) (m .arcs) (ps .pairs) (ps .used) base w u k b)
+      let r : column (base + reachingPlace) (m .states) w ≡ column (base + reachingPlace) (m .states) u
+      = frame-column (base + reachingPlace) base reachingPlace (m .states) w u (pairs-frame (m .stateBytes) (m .states) (m .arcBytes) (m .arcs) (ps .pairs) (ps .used) base w u k b)
       (omega arith) (inl (omega arith, omega arith)) in
       record {
         tables = record {
-          reaching = r ∙ reaching-are false (column (base + 32) (m .states) u) (a .least);
+          reaching = r ∙ reaching-are false (column (base + reachingPlace) (m .states) u) (a .least);
           least = λ h c q. let f = closing-of t ps h c q in pair-closed false _ (n .each h (f .0)) _ _ (b .closed h (f .0)) .0 ∙ ap (λ (z : Closing). z .least) (f .1);
           opposite = λ h c q. let f = closing-of t ps h c q in pair-closed false _ (n .each h (f .0)) _ _ (b .closed h (f .0)) .1 ∙ ap (λ (z : Closing). z .opposite) (f .1);
         };

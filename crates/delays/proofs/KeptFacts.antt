@@ -9,7 +9,7 @@ use Rattle.table.specs.Endian.{le}
 use Rattle.table.proofs.RegionFacts.{part-part}
 use Rattle.automata.specs.Closing.{ClosingTables}
 use Rattle.automata.proofs.ListFacts.{place-bound}
-use Rattle.automata.specs.Layout.{delaysSize}
+use Rattle.automata.specs.Layout.{delaysSize, pairDelays, oppositePlace, reachingPlace}
 use Rattle.delays_relaxation.specs.Column.{column}
 use Rattle.delays_relaxation.proofs.ColumnFacts.{column-ext}
 use Rattle.delays.specs.ClosingRegion.{HoldsClosing}
@@ -25,10 +25,10 @@ column-part base n c w v h e = column-ext (base + c) n (base + c) w v
 -- so a region with the same bytes holds the same closing tables, of at most four pairs
 pub holds-part : (T : ClosingTables) (base n : ℕ) (w v : List ℕ) → length (T .closings) ≤ 4 → part base (delaysSize * n) w ≡ part base (delaysSize * n) v → HoldsClosing T base n v → HoldsClosing T base n w
 holds-part T base n w v k e o = record {
-  reaching = column-part base n 32 w v (omega arith) e ∙ o .reaching;
-  least = λ h c q. let b = place-bound (T .closings) h q in column-part base n (8 * h) w v (omega (arith, b)) e ∙ o .least h c q;
+  reaching = column-part base n reachingPlace w v (omega arith) e ∙ o .reaching;
+  least = λ h c q. let b = place-bound (T .closings) h q in column-part base n (pairDelays * h) w v (omega (arith, b)) e ∙ o .least h c q;
   opposite = λ h c q.
       let b = place-bound (T .closings) h q in
-      let f : base + 8 * h + 4 ≡ base + (8 * h + 4) = omega arith in
-      ap (λ (p : ℕ). column p n w) f ∙ column-part base n (8 * h + 4) w v (omega (arith, b)) e ∙ ap (λ (p : ℕ). column p n v) (sym f) ∙ o .opposite h c q;
+      let f : base + pairDelays * h + oppositePlace ≡ base + (pairDelays * h + oppositePlace) = omega arith in
+      ap (λ (p : ℕ). column p n w) f ∙ column-part base n (pairDelays * h + oppositePlace) w v (omega (arith, b)) e ∙ ap (λ (p : ℕ). column p n v) (sym f) ∙ o .opposite h c q;
 }

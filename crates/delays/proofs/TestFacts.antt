@@ -14,7 +14,7 @@ use Rattle.automata.specs.Leftover.{Leftover}
 use Rattle.automata.specs.Memory.{Memory, tableOf}
 use Rattle.automata.specs.Closing.{missing, Closing, closing, closingTables, canClose, canCloseAll, viable}
 use Rattle.automata.proofs.ReachingDelays.{held, held-at}
-use Rattle.automata.specs.Layout.{delaysSize}
+use Rattle.automata.specs.Layout.{delaysSize, pairDelays, oppositePlace, reachingPlace}
 use Rattle.delays_relaxation.proofs.ColumnFacts.{column-at}
 use Rattle.table.specs.declared.pair.PairList.{PairList}
 use Rattle.table.specs.Pairs.{pairAs, pairsAs}
@@ -22,7 +22,7 @@ use Rattle.delays.specs.ClosingRegion.{closableAt, closableFrom, viableA
 
 module _ (q : ℕ) (firsts seconds w : List ℕ) where
   closable-all : (at h left : ℕ) (cs : List Closing) (ls : List Leftover) → length cs ≡ left → length ls ≡ left
-      → ((k : ℕ) (c : Closing) → getElem? cs k ≡ some c → (le (part (at + 8 * k) 2 w) ≡ getD (c .least) q missing) × (le (part (at + 8 * k + 4) 2 w) ≡ getD (c .opposite) q missing))
+      → ((k : ℕ) (c : Closing) → getElem? cs k ≡ some c → (le (part (at + pairDelays * k) 2 w) ≡ getD (c .least) q missing) × (le (part (at + pairDelays * k + oppositePlace) 2 w) ≡ getD (c .opposite) q missing))
       → ((k : ℕ) (l : Leftover) → getElem? ls k ≡ some l → (getD firsts (h + k) 0 ≡ length (l .first)) × (getD seconds (h + k) 0 ≡ length (l .second)))
       → closableFrom at h left firsts seconds w ≡ canCloseAll q cs ls
   unfolding closableFrom
@@ -33,26 +33,26 @@ module _ (q : ℕ) (firsts seconds w : List ℕ) where
   closable-all at h (suc left) (c ∷ cs) (l ∷ ls) e f g i =
       let p = g 0 c refl in
       let r = i 0 l refl in
-      let a0 : at + 8 * 0 ≡ at = omega arith in
+      let a0 : at + pairDelays * 0 ≡ at = omega arith in
       let h0 : h + 0 ≡ h = omega arith in
       let p0 = rw a0 at p in
       let r0 = rw h0 at r in
       let head : closableAt at (getD firsts h 0) (getD seconds h 0) w ≡ canClose q c l = rw (p0 .0, p0 .1, r0 .0, r0 .1) in
       ap₂ (λ (x y : Bool). and x y) head
-      (closable-all (at + 8) (h + 1) left cs ls (omega arith) (omega arith)
-      (λ k d z. let y : at + 8 * suc k ≡ at + 8 + 8 * k = omega arith in rw y at (g (suc k) d z))
+      (closable-all (at + pairDelays) (h + 1) left cs ls (omega arith) (omega arith)
+      (λ k d z. let y : at + pairDelays * suc k ≡ at + pairDelays + pairDelays * k = omega arith in rw y at (g (suc k) d z))
       (λ k d z. let y : h + suc k ≡ h + 1 + k = omega arith in rw y at (i (suc k) d z)))
 
   pub tests : (base k : ℕ) (r : Bool) → r ≡ viableAt (base + delaysSize * q) k firsts seconds w → Tests base q k firsts seconds w r
   unfolding viable
   tests base k r e T n c o b l f g s =
-      let x : le (part (base + delaysSize * q + 32) 2 w) ≡ held (getD (T .reaching) q false)
-      = ap (λ (p : ℕ). le (part p 2 w)) (omega arith) ∙ sym (column-at (base + 32) n w q missing l) ∙ ap (λ (z : List ℕ). getD z q missing) (o .reaching) ∙ held-at (T .reaching) q in
+      let x : le (part (base + delaysSize * q + reachingPlace) 2 w) ≡ held (getD (T .reaching) q false)
+      = ap (λ (p : ℕ). le (part p 2 w)) (omega arith) ∙ sym (column-at (base + reachingPlace) n w q missing l) ∙ ap (λ (z : List ℕ). getD z q missing) (o .reaching) ∙ held-at (T .reaching) q in
       let y : closableFrom (base + delaysSize * q) 0 k firsts seconds w ≡ canCloseAll q (T .closings) (c .leftovers)
       = closable-all (base + delaysSize * q) 0 k (T .closings) (c .leftovers) f (s .count)
       (λ h d z. (
-        ap (λ (p : ℕ). le (part p 2 w)) (omega arith) ∙ sym (column-at (base + 8 * h) n w q missing l) ∙ ap (λ (a : List ℕ). getD a q missing) (o .least h d z),
-        ap (λ (p : ℕ). le (part p 2 w)) (omega arith) ∙ sym (column-at (base + 8 * h + 4) n w q missing l) ∙ ap (λ (a : List ℕ). getD a q missing) (o .opposite h d z),
+        ap (λ (p : ℕ). le (part p 2 w)) (omega arith) ∙ sym (column-at (base + pairDelays * h) n w q missing l) ∙ ap (λ (a : List ℕ). getD a q missing) (o .least h d z),
+        ap (λ (p : ℕ). le (part p 2 w)) (omega arith) ∙ sym (column-at (base + pairDelays * h + oppositePlace) n w q missing l) ∙ ap (λ (a : List ℕ). getD a q missing) (o .opposite h d z),
       ))
       (λ h d z. (
         ap (λ (p : ℕ). getD firsts p 0) (omega arith) ∙ s .first h d z,

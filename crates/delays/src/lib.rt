@@ -5,6 +5,9 @@ use delays_relaxation::listing::list_arcs;
 use table::answer::Counts;
 use table::bytes::get16;
 use table::layout::DELAYS_SIZE;
+use table::layout::OPPOSITE_PLACE;
+use table::layout::PAIR_DELAYS;
+use table::layout::REACHING_PLACE;
 use table::pair::Pair;
 use table::pair::PairList;
 use table::record::InputState;
@@ -13,7 +16,8 @@ ghost use Prim.Native.Nat.{_+_, _*_, _≤_, _<_};
 ghost use lib.ListN.{length, getD};
 ghost use Rattle.automata.specs.Closing.{withDelay≤};
 ghost use Rattle.automata.specs.Memory.{Sound};
-ghost use Rattle.automata.specs.Layout.{delaysSize};
+ghost use Rattle.automata.specs.Layout.{delaysSize, pairDelays, reachingPlace};
+ghost use Rattle.automata.specs.Limits.{maxTapes};
 ghost use Rattle.table.specs.Answers.{lent};
 ghost use Rattle.delays_relaxation.specs.Column.{Room};
 ghost use Rattle.delays_relaxation.specs.Edges.{edges, Readable};
@@ -34,7 +38,7 @@ pub fn close_pair(
     work: &mut [u8],
     at: usize,
 )
-    requires { ⌜ Readable (now bytes) states (now arcs) count × Within 8 p × Room at 8 states (now work) ⌝ }
+    requires { ⌜ Readable (now bytes) states (now arcs) count × Within maxTapes p × Room at pairDelays states (now work) ⌝ }
     ensures { λ _. ⌜ ClosesPair reversed (now (bytes .entry)) states (now (arcs .entry)) count p at (now (work .exit)) (now (work .entry)) ⌝ }
 {
     let first = p.first as usize - 1;
@@ -61,7 +65,7 @@ pub fn close_pair(
         first,
         order,
         work,
-        at + 4,
+        at + OPPOSITE_PLACE,
     );
 }
 
@@ -77,7 +81,7 @@ fn close_pairs(
     work: &mut [u8],
     base: usize,
 )
-    requires { ⌜ Readable (now bytes) states (now arcs) count × (used ≤ 4) × ((h : _) → h < used → Within 8 (getD pairs h noPair)) × Room base 32 states (now work) ⌝ }
+    requires { ⌜ Readable (now bytes) states (now arcs) count × (used ≤ 4) × ((h : _) → h < used → Within maxTapes (getD pairs h noPair)) × Room base reachingPlace states (now work) ⌝ }
     ensures { λ _. ⌜ ClosesPairs (now (bytes .entry)) states (now (arcs .entry)) count pairs used base (now (work .exit)) (now (work .entry)) ⌝ }
 {
     let mut h: usize = 0;
@@ -92,7 +96,7 @@ fn close_pairs(
             order,
             p,
             work,
-            base + 8 * h,
+            base + PAIR_DELAYS * h,
         );
         h += 1;
     }
@@ -135,7 +139,7 @@ fn closable(work: &[u8], at: usize, x: u8, y: u8) -> bool
     if !within_delay(x, least, y) {
         return false;
     }
-    let opposite = get16(work, at + 4);
+    let opposite = get16(work, at + OPPOSITE_PLACE);
     within_delay(y, opposite, x)
 }
 
@@ -144,12 +148,12 @@ pub fn viable_at(work: &[u8], at: usize, used: usize, firsts: [u8; 4], seconds: 
     requires { ⌜ (at + 34 ≤ length (now work)) × (used ≤ 4) ⌝ }
     ensures { λ r. ⌜ r ≡ viableAt at used firsts seconds (now (work .entry)) ⌝ }
 {
-    if get16(work, at + 32) == 65535 {
+    if get16(work, at + REACHING_PLACE) == 65535 {
         return false;
     }
     let mut h: usize = 0;
     while h < used {
-        if !closable(work, at + 8 * h, firsts[h], seconds[h]) {
+        if !closable(work, at + PAIR_DELAYS * h, firsts[h], seconds[h]) {
             return false;
         }
         h += 1;
@@ -178,7 +182,7 @@ fn write_tables(
         false,
         order,
         work,
-        base + 32,
+        base + REACHING_PLACE,
     );
     let list = pairs.pairs;
     close_pairs(

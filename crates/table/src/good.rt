@@ -15,8 +15,11 @@ use crate::bytes::get16;
 use crate::bytes::get32;
 use crate::bytes::get64;
 use crate::layout::ARC_SIZE;
+use crate::layout::CONTENT_PLACE;
 use crate::layout::LABEL_SIZE;
+use crate::layout::LABELS_PLACE;
 use crate::layout::LABELS_SIZE;
+use crate::layout::TARGET_PLACE;
 
 // The highest bits of eight bytes.
 const HIGHEST: u64 = 0x8080808080808080;
@@ -121,11 +124,11 @@ pub fn good_arc(arc: &[u8], tapes: usize, states: usize) -> bool
     if states <= get16(arc, 0) as usize {
         return false;
     }
-    if states <= get16(arc, 2) as usize {
+    if states <= get16(arc, TARGET_PLACE) as usize {
         return false;
     }
-    if 999999999 < get32(arc, 4) {
+    if 999999999 < get32(arc, CONTENT_PLACE) {
         return false;
     }
-    good_tapes(&arc[8..ARC_SIZE], tapes)
+    good_tapes(&arc[LABELS_PLACE..ARC_SIZE], tapes)
 }

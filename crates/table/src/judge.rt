@@ -19,9 +19,12 @@ use crate::bytes::get16;
 use crate::bytes::get32;
 use crate::good::good_arc;
 use crate::layout::ARC_SIZE;
+use crate::layout::CONTENT_PLACE;
 use crate::layout::LABEL_SIZE;
+use crate::layout::LABELS_PLACE;
 use crate::layout::LABELS_SIZE;
 use crate::layout::STATE_SIZE;
+use crate::layout::TARGET_PLACE;
 use crate::layout::WEIGHT_SIZE;
 use crate::symbol::has_number;
 
@@ -145,9 +148,9 @@ fn judge_arc_record(arc: &[u8], tapes: usize, states: usize) -> Judged
     ensures { λ r. ⌜ judgedAs r ≡ forget (readArc tapes states (now (arc .entry))) ⌝ }
 {
     let source = demand((get16(arc, 0) as usize) < states, Refusal::State);
-    let target = demand((get16(arc, 2) as usize) < states, Refusal::State);
-    let weight = demand(get32(arc, 4) <= 999999999, Refusal::Size);
-    let labels = judge_tapes(&arc[8..ARC_SIZE], tapes);
+    let target = demand((get16(arc, TARGET_PLACE) as usize) < states, Refusal::State);
+    let weight = demand(get32(arc, CONTENT_PLACE) <= 999999999, Refusal::Size);
+    let labels = judge_tapes(&arc[LABELS_PLACE..ARC_SIZE], tapes);
     both(source, both(target, both(weight, labels)))
 }
 

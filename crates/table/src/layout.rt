@@ -36,6 +36,14 @@ pub const VERTEX_SIZE: usize = 16;
 // The closing delays of a state, for each state of the table read.
 pub const DELAYS_SIZE: usize = 64;
 
+// Of each pair its least delay and, behind it, that of the pair turned round; behind those of four pairs, whether a final
+// state is reached.
+pub const PAIR_DELAYS: usize = 8;
+
+pub const OPPOSITE_PLACE: usize = 4;
+
+pub const REACHING_PLACE: usize = 32;
+
 // The most symbols of a string of a tuple.
 pub const MAX_STRING: usize = 64;
 

@@ -13,10 +13,11 @@ use Rattle.delays.proofs.viable_at.Reads as reads
 use Rattle.delays.proofs.viable_at.Lts as lts
 use Rattle.delays.proofs.closable.Reads as closable-reads
 use Rattle.table.proofs.bytes.get16.Reads as get16-reads
+use Rattle.automata.specs.Layout.{pairDelays}
 
 abbrev Inv-loop : tie.InvT-loop
 Inv-loop work at used firsts seconds h₀ h =
-    (h ≤ used) × (closableFrom (at + 8 * h) h (used - h) firsts seconds work ≡ closableFrom at 0 used firsts seconds work)
+    (h ≤ used) × (closableFrom (at + pairDelays * h) h (used - h) firsts seconds work ≡ closableFrom at 0 used firsts seconds work)
 
 abbrev μ-loop : tie.MeasureT-loop
 μ-loop work at used firsts seconds h₀ h = used - h
