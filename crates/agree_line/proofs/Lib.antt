@@ -1,3 +1,3 @@
--- Laws of the pair line and of pairs as bytes.
+-- Facts of the pair line and of pairs as bytes.
 pub mod PairFacts
 pub mod LineFacts

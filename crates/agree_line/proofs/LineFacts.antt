@@ -1,4 +1,4 @@
--- Laws of the parts of a first line.
+-- Facts of the parts of a first line.
 use mathlib.Core.Path.{_≡_, sym, ap, _∙_}
 use mathlib.Core.List.{List}
 use Prim.Native.Nat.{ℕ, _+_, _-_, _*_, _≤_, _<_}

@@ -1,4 +1,4 @@
--- Laws of pairs of tapes and their limits in columns: how they are judged, and what is kept of them.
+-- Facts of pairs of tapes and their limits in columns: how they are judged, and what is kept of them.
 use mathlib.Core.Path.{_≡_, refl, sym, ap, ap₂, _∙_}
 use mathlib.Core.List.{List, [], _∷_}
 use Prim.Native.Nat.{ℕ, zero, suc, _+_, _-_, _*_, _≤_, _<_}

@@ -1,4 +1,4 @@
--- Laws of the first line as a whole: its parts and the bytes of its pairs are what is read.
+-- Facts of the first line as a whole: its parts and the bytes of its pairs are what is read.
 use mathlib.Core.Path.{_≡_, refl, sym, ap, ap₂, subst, _∙_}
 use mathlib.Core.Bool.{Bool, true, false}
 use mathlib.Core.List.{List}

@@ -1,4 +1,4 @@
--- Laws of the first line of an input and of the program's steps.
+-- Facts of the first line of an input and of the program's steps.
 pub mod FirstFacts
 pub mod CutFacts
 pub mod RefusalFacts

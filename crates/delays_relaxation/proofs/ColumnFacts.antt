@@ -1,4 +1,4 @@
--- Laws of columns: one entry, a store to it, and what a store leaves.
+-- Facts of columns: one entry, a store to it, and what a store leaves.
 use Prim.Native.Nat.{ℕ, zero, suc, _+_, _-_, _*_, _%_, _<_, _≤_}
 use mathlib.Core.Path.{_≡_, refl, sym, ap, _∙_}
 use mathlib.Core.Logic.{_⊎_, inl, inr}

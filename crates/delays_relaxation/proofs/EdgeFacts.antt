@@ -1,4 +1,4 @@
--- Laws of what an arc does to one delay.
+-- Facts of what an arc does to one delay.
 use Prim.Native.Nat.{ℕ, _+_, _-_, _<_, _≤_}
 use mathlib.Core.Path.{_≡_}
 use mathlib.Core.Logic.{_≢_}

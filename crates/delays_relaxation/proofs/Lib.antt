@@ -1,4 +1,4 @@
--- Laws of the columns and of the edges.
+-- Facts of the columns and of the edges.
 pub mod ColumnFacts
 pub mod EdgeFacts
 pub mod RunFacts

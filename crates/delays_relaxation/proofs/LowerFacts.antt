@@ -1,4 +1,4 @@
--- Laws of lowered delays: what an edge, a round and a closed run that lessens the delay make of them, and when they are
+-- Facts of lowered delays: what an edge, a round and a closed run that lessens the delay make of them, and when they are
 -- the least.
 use Prim.Native.Nat.{ℕ, zero, suc, _+_, _*_, _<_, _≤_, min}
 use mathlib.Core.Path.{_≡_, refl, sym, ap, _∙_}

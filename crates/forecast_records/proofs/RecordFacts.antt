@@ -1,4 +1,4 @@
--- Laws of the records of forecasts.
+-- Facts of the records of forecasts.
 use Prim.Native.Nat.{ℕ, suc, _+_, _*_, _≤_, _<_}
 use mathlib.Core.Path.{_≡_, sym, ap, _∙_}
 use mathlib.Core.Bool.{true, false}

@@ -1,4 +1,4 @@
--- Laws of the auto-intersection as it is called.
+-- Facts of the auto-intersection as it is called.
 pub mod ConfigRows
 pub mod SearchFacts
 pub mod StepFacts

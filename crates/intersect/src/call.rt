@@ -1,4 +1,4 @@
-// The call: a refusal before any configuration is reached, the search, the answer that it settles, and work space cleared.
+// The call: a refusal before any configuration is reached, the search, the answer by it, and work space cleared.
 use crate::prepare::prepare;
 use crate::step::reach;
 use intersect_offers::plan::Plan;

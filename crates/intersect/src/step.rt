@@ -1,4 +1,4 @@
-// The auto-intersection behind its tests: the search over the configurations, and the answer that it settles.
+// The auto-intersection behind its tests: the search over the configurations, and the answer by it.
 use intersect_offers::plan::Plan;
 use intersect_result::finish::answer_search;
 use intersect_room::room::room_for;
@@ -21,7 +21,7 @@ ghost use Rattle.intersect_offers.specs.Plans.{Explorable, pairsIn, viableIn};
 ghost use Rattle.intersect_result.specs.Searched.{tableBy};
 ghost use Rattle.intersect.specs.Step.{Intersectable};
 
-// The search over the configurations of a plan, and the answer that it settles.
+// The search over the configurations of a plan, and the answer by it.
 pub fn reach(
     plan: Plan,
     states: &[u8],

@@ -1,4 +1,4 @@
--- Laws that belong to no one function.
+-- Facts that belong to no one function.
 pub mod ListFacts
 pub mod StripFacts
 pub mod RecordFacts

@@ -1,4 +1,4 @@
--- Laws of the step by an arc: pair after pair, from the labels in the arc's record.
+-- Facts of the step by an arc: pair after pair, from the labels in the arc's record.
 use Prim.Native.Nat.{ℕ, zero, suc, _+_, _-_, _≤_, _<_}
 use mathlib.Core.Path.{_≡_, refl, sym, ap, ap₂, subst₂, _∙_}
 use mathlib.Core.Bool.{Bool, true, false, not, Bool·not-not}

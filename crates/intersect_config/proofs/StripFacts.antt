@@ -1,4 +1,4 @@
--- Laws of `agrees` and `strip`, and of what an arc leaves of two tapes.
+-- Facts of `agrees` and `strip`, and of what an arc leaves of two tapes.
 use Prim.Native.Nat.{ℕ, _+_, _-_, _≤_, _<_}
 use mathlib.Core.Path.{_≡_, refl, sym, ap, ap₂, _∙_}
 use mathlib.Core.Bool.{Bool, true, false, not, false≢true}

@@ -1,4 +1,4 @@
--- Laws of the start, and of the lengths of a configuration's leftovers.
+-- Facts of the start, and of the lengths of a configuration's leftovers.
 use Prim.Native.Nat.{ℕ, zero, suc, _+_, _≤_, _<_}
 use mathlib.Core.Path.{_≡_, refl, sym, ap, ap₂, _∙_}
 use mathlib.Core.Bool.{Bool, true, false, not, false≢true, Bool·beq}

@@ -1,3 +1,3 @@
--- Laws of edges in work space and of marks.
+-- Facts of edges in work space and of marks.
 pub mod EdgeFacts
 pub mod MarkFacts

@@ -1,4 +1,4 @@
--- Laws of the head of the search over configurations.
+-- Facts of the head of the search over configurations.
 pub mod AgreeFacts
 pub mod EntryFacts
 pub mod HeldFacts

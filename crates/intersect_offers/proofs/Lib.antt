@@ -1,3 +1,3 @@
--- Laws that belong to no one function.
+-- Facts that belong to no one function.
 pub mod FormFacts
 pub mod OfferFacts

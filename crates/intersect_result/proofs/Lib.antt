@@ -1,4 +1,4 @@
--- Laws of the result of an auto-intersection.
+-- Facts of the result of an auto-intersection.
 pub mod KeepFacts
 pub mod FinishFacts
 pub mod SettleFacts

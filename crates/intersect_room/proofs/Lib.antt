@@ -1,2 +1,2 @@
--- Laws of the work space of a build.
+-- Facts of the work space of a build.
 pub mod RoomFacts

@@ -1,4 +1,4 @@
--- Laws of the rows of configurations, of their numbers and of the result.
+-- Facts of the rows of configurations, of their numbers and of the result.
 pub mod RankFacts
 pub mod RowFacts
 pub mod ResultFacts

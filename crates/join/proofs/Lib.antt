@@ -1,4 +1,4 @@
--- Laws of a join as it is called.
+-- Facts of a join as it is called.
 pub mod RoomFacts
 pub mod JudgeFacts
 pub mod CallFacts

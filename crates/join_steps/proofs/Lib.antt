@@ -1,4 +1,4 @@
--- Laws of a join's steps.
+-- Facts of a join's steps.
 pub mod MaskFacts
 pub mod DropFacts
 pub mod KeepFacts

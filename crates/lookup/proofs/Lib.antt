@@ -1,3 +1,3 @@
--- Laws of a lookup as it is called.
+-- Facts of a lookup as it is called.
 pub mod JudgeFacts
 pub mod CallFacts

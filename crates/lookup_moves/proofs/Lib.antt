@@ -1,4 +1,4 @@
--- Laws that belong to no one function.
+-- Facts that belong to no one function.
 pub mod MoveFacts
 pub mod CellFacts
 pub mod SpanFacts

@@ -1,4 +1,4 @@
--- Laws of the strings of a text by their places: one line more, and all of them.
+-- Facts of the strings of a text by their places: one line more, and all of them.
 use mathlib.Core.Path.{_≡_, refl, sym, ap, subst, _∙_}
 use mathlib.Core.Logic.{_⊎_, inl, inr, _≢_}
 use mathlib.Core.Bool.{Bool, true, false}

@@ -1,4 +1,4 @@
--- Laws of lists of numbers in a loop: what the rest of a list says of the whole.
+-- Facts of lists of numbers in a loop: what the rest of a list says of the whole.
 use Prim.Native.Nat.{ℕ, zero, suc, _+_, _-_, _≤_, _<_}
 use mathlib.Core.Path.{_≡_, sym, ap, _∙_}
 use mathlib.Core.Bool.{Bool, true, false}

@@ -1,4 +1,4 @@
--- Laws of lists of pairs: in bytes, by value, and in a loop over them.
+-- Facts of lists of pairs: in bytes, by value, and in a loop over them.
 use Prim.Native.Nat.{ℕ, zero, suc, _+_, _-_, _*_, _/_, _≤_, _<_}
 use mathlib.Core.Path.{_≡_, refl, sym, ap, ap₂, _∙_}
 use mathlib.Core.Bool.{true, false}

@@ -1,4 +1,4 @@
--- Laws of the tests 5, 6, 7 of a list of pairs, and the judgements that follow from them.
+-- Facts of the tests 5, 6, 7 of a list of pairs, and the judgements that follow from them.
 use Prim.Native.Nat.{ℕ, _/_, _≤_, _<_}
 use mathlib.Core.Path.{_≡_, refl, sym, ap, _∙_}
 use mathlib.Core.Bool.{Bool, true, false}

@@ -1,4 +1,4 @@
--- Laws of judgements in turn: a table, the pairs, the work space.
+-- Facts of judgements in turn: a table, the pairs, the work space.
 use Prim.Native.Nat.{ℕ}
 use mathlib.Core.Path.{_≡_, refl, sym, ap, _∙_}
 use mathlib.Core.Bool.{Bool, true, false}

@@ -1,2 +1,2 @@
--- Laws of lists of pairs lent as records.
+-- Facts of lists of pairs lent as records.
 pub mod RecordFacts

@@ -1,4 +1,4 @@
--- Laws of a list of pairs lent as records: the loop over them, and what the first four of them say of the whole list.
+-- Facts of a list of pairs lent as records: the loop over them, and what the first four of them say of the whole list.
 use Prim.Native.Nat.{ℕ, zero, suc, _+_, _≤_, _<_}
 use mathlib.Core.Path.{_≡_, refl, sym, ap, _∙_}
 use mathlib.Core.Bool.{Bool, true, false}

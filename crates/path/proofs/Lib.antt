@@ -1,3 +1,3 @@
--- Laws of the call for a path.
+-- Facts of the call for a path.
 pub mod CallFacts
 pub mod RecordFacts

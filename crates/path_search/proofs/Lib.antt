@@ -1,4 +1,4 @@
--- Laws of the search for the path behind a weight.
+-- Facts of the search for the path behind a weight.
 pub mod EnterCellFacts
 pub mod TightFacts
 pub mod ReadFacts

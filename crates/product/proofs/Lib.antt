@@ -1,4 +1,4 @@
--- Laws of the aligned product as it is called.
+-- Facts of the aligned product as it is called.
 pub mod SideModel
 pub mod MoveModel
 pub mod CrossFacts

@@ -1,4 +1,4 @@
--- Laws of the records of a product.
+-- Facts of the records of a product.
 pub mod SumFacts
 pub mod RecordFacts
 pub mod ResultFacts

@@ -1,4 +1,4 @@
--- Laws that belong to no one function.
+-- Facts that belong to no one function.
 pub mod RecordFacts
 pub mod KeyFacts
 pub mod FormFacts

@@ -1,4 +1,4 @@
--- Laws of hash chains: records at the fronts of rows, one row's bytes beside another's, the search, an entry, and what
+-- Facts of hash chains: records at the fronts of rows, one row's bytes beside another's, the search, an entry, and what
 -- they mean.
 pub mod FrontFacts
 pub mod RowFacts

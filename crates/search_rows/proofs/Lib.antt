@@ -1,4 +1,4 @@
--- Laws of codes of vertices, of a search over them and of the records kept.
+-- Facts of codes of vertices, of a search over them and of the records kept.
 pub mod Meaning
 pub mod CodeFacts
 pub mod KeptFacts

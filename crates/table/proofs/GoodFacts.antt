@@ -1,4 +1,4 @@
--- Laws of the quick test of an arc's record: what passes it has no refusal.
+-- Facts of the quick test of an arc's record: what passes it has no refusal.
 use mathlib.Core.Path.{_≡_, refl, sym, ap, subst, _∙_}
 use mathlib.Core.Bool.{true}
 use mathlib.Core.List.{List}

@@ -1,4 +1,4 @@
--- Laws of the judgement of a record: what the format of each part says of the bytes that the code looks at.
+-- Facts of the judgement of a record: what the format of each part says of the bytes that the code looks at.
 use mathlib.Core.Path.{_≡_, refl, sym, ap, ap₂, _∙_}
 use mathlib.Core.Bool.{Bool, true, false, not}
 use mathlib.Core.List.{List, [], _∷_}

@@ -1,4 +1,4 @@
--- Laws that belong to no one function.
+-- Facts that belong to no one function.
 pub mod PartFacts
 pub mod SpliceFacts
 pub mod StoreFacts

@@ -1,4 +1,4 @@
--- Laws of `part`, over any element type.
+-- Facts of `part`, over any element type.
 use Prim.Native.Nat.{ℕ, suc, _+_, _≤_, _<_}
 use mathlib.Core.Path.{_≡_, refl, sym, ap, _∙_}
 use mathlib.Core.List.{List, [], _∷_, _++_}

@@ -1,4 +1,4 @@
--- Laws of `rows`: a run of records of one size as a list, and what a store to one of them does.
+-- Facts of `rows`: a run of records of one size as a list, and what a store to one of them does.
 use Prim.Native.Nat.{ℕ, zero, suc, _+_, _*_, _≤_, _<_}
 use mathlib.Core.Path.{_≡_, refl, sym, ap, ap₂, _∙_}
 use mathlib.Core.List.{List, _∷_}

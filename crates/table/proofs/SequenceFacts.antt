@@ -1,4 +1,4 @@
--- Laws of values that are judged one after the other, over any format of a value.
+-- Facts of values that are judged one after the other, over any format of a value.
 use mathlib.Core.Path.{_≡_, refl, sym, ap, _∙_}
 use mathlib.Core.Bool.{Bool, true, false}
 use mathlib.Core.List.{List, _∷_}

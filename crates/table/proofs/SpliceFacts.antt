@@ -1,4 +1,4 @@
--- Laws of `splice`, over any element type.
+-- Facts of `splice`, over any element type.
 use Prim.Native.Nat.{ℕ, zero, suc, _+_, _-_, _≤_, _<_}
 use mathlib.Core.Path.{_≡_, sym, ap, ap₂, _∙_}
 use mathlib.Core.List.{List, [], _∷_, _++_, append-assoc}

@@ -1,3 +1,3 @@
--- Laws of the arcs by their sources.
+-- Facts of the arcs by their sources.
 pub mod ChainFacts
 pub mod DistinctFacts

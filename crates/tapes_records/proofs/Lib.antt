@@ -1,4 +1,4 @@
--- Laws of the records of unions and columns.
+-- Facts of the records of unions and of tables with other tapes.
 pub mod RewriteFacts
 pub mod ChoiceFacts
 pub mod RoomFacts

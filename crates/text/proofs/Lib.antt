@@ -1,3 +1,3 @@
--- Laws of texts that are read and written.
+-- Facts of texts that are read and written.
 pub mod ReadFacts
 pub mod WrittenFacts

@@ -1,4 +1,4 @@
--- Laws of the call `read`: what was judged and stored is the outcome of its definition.
+-- Facts of the call `read`: what was judged and stored is the outcome of its definition.
 use mathlib.Core.Path.{_≡_, sym, ap, ap₂, subst, _∙_}
 use mathlib.Core.List.{List, [], _∷_, _++_}
 use Prim.Native.Nat.{ℕ, _+_, _*_, _/_, _%_, _≤_, _<_}

@@ -1,4 +1,4 @@
--- Laws of the call `write`: the text of the table, or its refusal.
+-- Facts of the call `write`: the text of the table, or its refusal.
 use mathlib.Core.Path.{_≡_, sym, ap, ap₂, _∙_}
 use mathlib.Core.List.{List}
 use Prim.Native.Nat.{ℕ, _+_, _-_, _*_, _≤_, _<_}

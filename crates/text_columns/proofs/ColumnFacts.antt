@@ -1,4 +1,4 @@
--- Laws of the columns of a decimal number, read from the left.
+-- Facts of the columns of a decimal number, read from the left.
 use mathlib.Core.Path.{_≡_, refl, sym, ap, _∙_}
 use mathlib.Core.Bool.{Bool, true, false}
 use mathlib.Core.List.{List, [], _∷_, _++_}

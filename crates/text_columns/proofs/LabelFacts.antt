@@ -1,4 +1,4 @@
--- Laws of labels, and of the number of a state.
+-- Facts of labels, and of the number of a state.
 use mathlib.Core.Path.{_≡_, refl, sym, ap, _∙_}
 use mathlib.Core.Bool.{Bool, true, false, true≢false, and-assoc, and-true}
 use mathlib.Core.List.{List, [], _∷_}

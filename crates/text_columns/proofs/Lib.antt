@@ -1,4 +1,4 @@
--- Laws of columns that are read and written.
+-- Facts of columns that are read and written.
 pub mod ColumnFacts
 pub mod WriteFacts
 pub mod WeightFacts

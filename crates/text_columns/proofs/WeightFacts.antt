@@ -1,4 +1,4 @@
--- Laws of the columns of a weight.
+-- Facts of the columns of a weight.
 use mathlib.Core.Path.{_≡_, refl, sym, ap, ap₂, _∙_}
 use mathlib.Core.Bool.{Bool, true, false}
 use mathlib.Core.Option.{none, some}

@@ -1,4 +1,4 @@
--- Laws of decimal numbers that are written from the right.
+-- Facts of decimal numbers that are written from the right.
 use mathlib.Core.Path.{_≡_, refl, sym, ap, _∙_}
 use mathlib.Core.List.{List, [], _∷_, _++_}
 use Prim.Native.Nat.{ℕ, zero, suc, _+_, _-_, _/_, _%_, _≤_, _<_}

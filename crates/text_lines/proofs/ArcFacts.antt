@@ -1,4 +1,4 @@
--- Laws of the line of an arc.
+-- Facts of the line of an arc.
 use mathlib.Core.Path.{_≡_, refl, sym, ap, _∙_}
 use mathlib.Core.List.{List}
 use Prim.Native.Nat.{ℕ, _+_, _-_, _*_}

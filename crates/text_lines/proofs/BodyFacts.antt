@@ -1,4 +1,4 @@
--- Laws of what follows the header.
+-- Facts of what follows the header.
 use mathlib.Core.Path.{_≡_, refl, sym, ap, _∙_}
 use mathlib.Core.Bool.{true, false}
 use mathlib.Core.List.{List, [], _∷_}

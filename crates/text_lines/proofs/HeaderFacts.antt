@@ -1,4 +1,4 @@
--- Laws of the header of a table.
+-- Facts of the header of a table.
 use mathlib.Core.Path.{_≡_, refl, sym, ap, _∙_}
 use mathlib.Core.Bool.{Bool, true, false}
 use mathlib.Core.List.{List}

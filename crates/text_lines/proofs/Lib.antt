@@ -1,4 +1,4 @@
--- Laws of lines that are read and judged.
+-- Facts of lines that are read and judged.
 pub mod LineFacts
 pub mod ArcFacts
 pub mod SequenceFacts

@@ -1,4 +1,4 @@
--- Laws of lines: parts side by side, of which the least refusal counts.
+-- Facts of lines: parts side by side, of which the least refusal counts.
 use mathlib.Core.Path.{_≡_, refl, sym, ap, _∙_}
 use mathlib.Core.Bool.{Bool, true, false}
 use mathlib.Core.Option.{Option}

@@ -1,4 +1,4 @@
--- Laws of lines that are judged one after the other.
+-- Facts of lines that are judged one after the other.
 use mathlib.Core.Path.{_≡_, refl, sym, ap, _∙_}
 use mathlib.Core.Bool.{Bool, true, false}
 use mathlib.Core.List.{List}

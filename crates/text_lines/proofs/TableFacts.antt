@@ -1,4 +1,4 @@
--- Laws of a text that is judged as a whole.
+-- Facts of a text that is judged as a whole.
 use mathlib.Core.Path.{_≡_, refl, sym, ap, _∙_}
 use mathlib.Core.Bool.{Bool, true, false}
 use mathlib.Core.List.{List}

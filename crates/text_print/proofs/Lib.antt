@@ -1,3 +1,3 @@
--- Laws of the lines printed of a table.
+-- Facts of the lines printed of a table.
 pub mod PrintedFacts
 pub mod TablePrinted

@@ -1,4 +1,4 @@
--- Laws of records that are written as lines.
+-- Facts of records that are written as lines.
 use mathlib.Core.Path.{_≡_, refl, sym, ap, ap₂, _∙_}
 use mathlib.Core.Bool.{Bool}
 use mathlib.Core.Option.{Option, none, some}

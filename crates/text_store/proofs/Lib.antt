@@ -1,3 +1,3 @@
--- Laws of records stored from a text.
+-- Facts of records stored from a text.
 pub mod RecodeFacts
 pub mod StoredFacts

@@ -1,4 +1,4 @@
--- Laws of parts that are written one after the other in another form.
+-- Facts of parts that are written one after the other in another form.
 use mathlib.Core.Path.{_≡_, refl, sym, ap, ap₂, _∙_}
 use mathlib.Core.List.{List, [], _∷_, _++_}
 use Prim.Native.Nat.{ℕ, zero, suc, _+_, _-_, _*_, _≤_, _<_}

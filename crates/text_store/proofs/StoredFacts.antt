@@ -1,4 +1,4 @@
--- Laws of lines that are stored as records.
+-- Facts of lines that are stored as records.
 use mathlib.Core.Path.{_≡_, refl, sym, ap, ap₂, _∙_}
 use mathlib.Core.Option.{Option, none, some}
 use mathlib.Core.List.{List, [], _∷_, _++_}

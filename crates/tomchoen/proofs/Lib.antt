@@ -1,4 +1,4 @@
--- Laws of answers as numbers.
+-- Facts of answers as numbers.
 pub mod WordFacts
 pub mod FitFacts
 pub mod WeightFacts
