@@ -25,6 +25,8 @@
  *   - Space for a result is counted in whole records; more than 1,024 states and 8,192 arcs are never used.
  *   - The numbers of result states and the order of result arcs are fixed: the same call gives the same bytes, also
  *     with more space or higher limits. docs/C-API.md says which order.
+ *
+ * tomchoen_table.h, which is included below, has the same calls on tables, spaces and pairs as structs.
  */
 #ifndef TOMCHOEN_H
 #define TOMCHOEN_H
@@ -35,6 +37,18 @@
 #ifdef __cplusplus
 extern "C" {
 #endif
+
+/* The version, as numbers and as a string; docs/C-API.md says what a step of each means. */
+#define TOMCHOEN_VERSION_MAJOR 0
+#define TOMCHOEN_VERSION_MINOR 7
+#define TOMCHOEN_VERSION_PATCH 0
+#define TOMCHOEN_VERSION \
+    TOMCHOEN_STRING(TOMCHOEN_VERSION_MAJOR) "." TOMCHOEN_STRING(TOMCHOEN_VERSION_MINOR) "." \
+    TOMCHOEN_STRING(TOMCHOEN_VERSION_PATCH)
+
+/* What a macro stands for, as a string. */
+#define TOMCHOEN_STRING(macro) TOMCHOEN_QUOTED(macro)
+#define TOMCHOEN_QUOTED(words) #words
 
 /* Why a call was refused; docs/REFUSALS.md says what to do about each. */
 enum tomchoen_refusal {
@@ -57,6 +71,30 @@ enum tomchoen_refusal {
 /* Of a lookup and of a path: no successful path spells the tuple. */
 #define TOMCHOEN_NONE 255
 
+/* The word of docs/REFUSALS.md for a refusal; "none" for TOMCHOEN_NONE, "not refused" for 0, "unknown refusal" for any
+ * other number. */
+static inline const char *tomchoen_refusal_word(unsigned refusal) {
+    switch (refusal) {
+    case 0: return "not refused";
+    case TOMCHOEN_SHORT: return "short";
+    case TOMCHOEN_FORM: return "form";
+    case TOMCHOEN_SIZE: return "size";
+    case TOMCHOEN_STATE: return "state";
+    case TOMCHOEN_TAPE: return "tape";
+    case TOMCHOEN_PAIRS: return "pairs";
+    case TOMCHOEN_LIMIT: return "limit";
+    case TOMCHOEN_STATES_FULL: return "states full";
+    case TOMCHOEN_ARCS_FULL: return "arcs full";
+    case TOMCHOEN_DELAY: return "delay";
+    case TOMCHOEN_WEIGHT: return "weight";
+    case TOMCHOEN_WIDTH: return "width";
+    case TOMCHOEN_SPACE: return "space";
+    case TOMCHOEN_PATH: return "path";
+    case TOMCHOEN_NONE: return "none";
+    default: return "unknown refusal";
+    }
+}
+
 /* The parts of an answer: the low byte; of a table its counts; of a text or of forecasts the length; of a lookup the
  * weight. */
 #define TOMCHOEN_REFUSAL(answer) ((unsigned)((answer) & 255))
@@ -65,6 +103,17 @@ enum tomchoen_refusal {
 #define TOMCHOEN_ARCS(answer) ((size_t)((answer) >> 32))
 #define TOMCHOEN_LENGTH(answer) ((size_t)((answer) >> 8))
 #define TOMCHOEN_WEIGHT_OF(answer) ((uint64_t)((answer) >> 8))
+
+/* Whether an answer is "none", and whether it is a refusal: its low byte neither 0 nor TOMCHOEN_NONE. Each takes its
+ * argument once, so that it may be a call. */
+#define TOMCHOEN_IS_NONE(answer) (TOMCHOEN_REFUSAL(answer) == TOMCHOEN_NONE)
+#define TOMCHOEN_IS_REFUSED(answer) (TOMCHOEN_REFUSAL(answer) - 1u < TOMCHOEN_NONE - 1u)
+
+/* The most that a table can have, and the greatest limit of a pair. */
+#define TOMCHOEN_MOST_TAPES 8
+#define TOMCHOEN_MOST_STATES 1024
+#define TOMCHOEN_MOST_ARCS 8192
+#define TOMCHOEN_MOST_LIMIT 64
 
 /* Bytes of so many records. */
 #define TOMCHOEN_STATE_BYTES(states) ((size_t)10 * (states))
@@ -227,5 +276,7 @@ uint64_t tomchoen_path(size_t tapes, size_t states, size_t arcs,
 #ifdef __cplusplus
 }
 #endif
+
+#include "tomchoen_table.h"
 
 #endif
