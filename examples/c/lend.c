@@ -5,149 +5,134 @@
  *   lend TABLE FIRST SECOND [FIRST SECOND ..]
  *
  * TABLE is a file with the text of a table, and each FIRST SECOND a pair of its tapes, counted from 1.
- * Exit status: 0 built, 1 refused or nothing to lend by, 2 wrong usage or a file that cannot be read.
+ * Exit status: 0 built, 1 refused or no limits to lend by, 2 as in example.h. Where the build is refused, no table is
+ * printed.
  */
-#include "tomchoen.h"
+#include "example.h"
 
-#include <stdio.h>
-#include <stdlib.h>
-
-enum { STATES = 1024, ARCS = 8192, LIMIT = 64, PAIRS = 8, TEXT = 1 << 20 };
+const char *const program = "lend";
 
 /* What is lent for a build, and whether each pair has a delay that can be lent as its limit. */
-struct space {
-    uint64_t states, arcs;
+struct plan {
+    size_t states, arcs;
     int limits_fit;
 };
 
-static size_t tapes, states, arcs;
-static uint8_t text[TEXT], state_bytes[TOMCHOEN_STATE_BYTES(STATES)], arc_bytes[TOMCHOEN_ARC_BYTES(ARCS)];
-static uint8_t pairs[TOMCHOEN_PAIR_BYTES(PAIRS)], records[TOMCHOEN_FORECAST_BYTES(PAIRS)];
-
-/* Ends the program with a message. */
-static void stop(const char *reason, const char *what) {
-    fprintf(stderr, "lend: %s%s\n", reason, what);
-    exit(2);
+/* Memory for so many pairs; null where there is none of them. */
+static struct tomchoen_pair *lend_pairs(size_t count) {
+    struct tomchoen_pair *pairs = (struct tomchoen_pair *)calloc(count, sizeof *pairs);
+    if (pairs == NULL && count > 0) stop("no memory", "");
+    return pairs;
 }
 
-/* Ends the program where a call was refused. */
-static void stop_if_refused(const char *call, uint64_t answer) {
-    if (TOMCHOEN_REFUSAL(answer) == 0) return;
-    printf("%s: refused %u\n", call, TOMCHOEN_REFUSAL(answer));
-    exit(1);
-}
-
-/* So many bytes of memory. */
-static uint8_t *lent(size_t bytes) {
-    uint8_t *memory = malloc(bytes + 1);
-    if (memory == NULL) stop("no memory", "");
-    return memory;
-}
-
-/* Reads the table from a file. */
-static void read_table(const char *path) {
-    FILE *file = fopen(path, "rb");
-    if (file == NULL) stop("cannot read ", path);
-    size_t length = fread(text, 1, sizeof text, file);
-    if (ferror(file) != 0 || fgetc(file) != EOF) stop("cannot read all of ", path);
-    fclose(file);
-    uint64_t answer = tomchoen_read(text, length, state_bytes, sizeof state_bytes, arc_bytes, sizeof arc_bytes);
-    stop_if_refused(path, answer);
-    tapes = TOMCHOEN_TAPES(answer);
-    states = TOMCHOEN_STATES(answer);
-    arcs = TOMCHOEN_ARCS(answer);
-}
-
-/* Reads the tapes of the pairs from the command line, each limit 0; how many bytes they take. */
-static size_t read_pairs(int count, char **words) {
-    if (count < 2 || count % 2 != 0 || count > 2 * PAIRS) stop("usage: lend TABLE FIRST SECOND [FIRST SECOND ..]", "");
-    size_t tapes_named = (size_t)count;
-    for (size_t i = 0; i < tapes_named; i++) {
-        char *end;
-        unsigned long tape = strtoul(words[i], &end, 10);
-        if (*words[i] < '0' || *words[i] > '9' || *end != '\0' || tape > 255) stop("no tape: ", words[i]);
-        pairs[TOMCHOEN_PAIR_BYTES(i / 2) + i % 2] = (uint8_t)tape;
+/* The pairs of tapes on the command line, each with the limit 0. */
+static struct tomchoen_pair *take_pairs(size_t count, char **words) {
+    struct tomchoen_pair *pairs = lend_pairs(count);
+    for (size_t k = 0; k < count; k++) {
+        pairs[k].first = byte(words[2 * k]);
+        pairs[k].second = byte(words[2 * k + 1]);
     }
-    return TOMCHOEN_PAIR_BYTES(tapes_named / 2);
+    return pairs;
 }
 
-/* Asks for the forecasts; how many pairs they tell of. */
-static size_t forecast(size_t pair_bytes) {
-    size_t need = TOMCHOEN_FORECAST_WORK(states);
-    uint8_t *work = lent(need);
-    uint64_t answer = tomchoen_forecast(tapes, states, arcs, state_bytes, sizeof state_bytes, arc_bytes, sizeof arc_bytes,
-                                        pairs, pair_bytes, records, sizeof records, work, need);
-    free(work);
-    stop_if_refused("forecast", answer);
-    return TOMCHOEN_LENGTH(answer) / TOMCHOEN_FORECAST_BYTES(1);
+/* The forecasts of so many pairs. */
+static struct tomchoen_space forecast(const struct tomchoen_table *table, const struct tomchoen_pair *pairs,
+                                      size_t count) {
+    struct tomchoen_space records = lend(TOMCHOEN_FORECAST_BYTES(count));
+    struct tomchoen_space work = lend(TOMCHOEN_FORECAST_WORK(table->states));
+    stop_if_refused("forecast", tomchoen_table_forecast(table, pairs, count, records, work));
+    free(work.bytes);
+    return records;
 }
 
-/* Prints the forecast of a pair, takes its delay as the pair's limit, and adds it to what is lent: the configurations
- * are at most the states times the leftovers of all pairs, and each has at most the arcs of its state. */
-static struct space with_pair(struct space space, size_t k) {
-    uint8_t *pair = pairs + TOMCHOEN_PAIR_BYTES(k);
+/* The lesser of two numbers. */
+static size_t least(size_t one, size_t other) { return one < other ? one : other; }
+
+/* A plan with so many times as much: the configurations are at most the states times the leftovers of all pairs, and
+ * each has at most the arcs of its state. */
+static struct plan times(struct plan plan, size_t leftovers) {
+    plan.states = least(plan.states * leftovers, TOMCHOEN_MOST_STATES);
+    plan.arcs = least(plan.arcs * leftovers, TOMCHOEN_MOST_ARCS);
+    return plan;
+}
+
+/* Prints the forecast of a pair, takes its delay as the pair's limit, and adds it to the plan. */
+static struct plan with_pair(struct plan plan, size_t states, struct tomchoen_pair *pair, const uint8_t *records,
+                             size_t k) {
     unsigned delay = TOMCHOEN_DELAY_OF(records, k), number = TOMCHOEN_NUMBER_OF(records, k);
-    printf("pair %u %u: ", pair[0], pair[1]);
+    printf("pair %u %u: ", pair->first, pair->second);
     switch (TOMCHOEN_FORECAST(records, k)) {
     case TOMCHOEN_FORECAST_MIXED:
         printf("mixed\n");
-        space.limits_fit = 0;
-        return space;
+        plan.limits_fit = 0;
+        return plan;
     case TOMCHOEN_FORECAST_OVER:
         printf("delay %u, over\n", delay);
-        space.states = STATES;
-        space.arcs = ARCS;
+        plan.states = TOMCHOEN_MOST_STATES;
+        plan.arcs = TOMCHOEN_MOST_ARCS;
         break;
     default:
         printf("delay %u, number %u\n", delay, number);
-        space.states = states == 0 ? 0 : space.states * (number / states);
-        space.arcs = states == 0 ? 0 : space.arcs * (number / states);
+        plan = times(plan, states == 0 ? 0 : number / states);
     }
-    if (space.states > STATES) space.states = STATES;
-    if (space.arcs > ARCS) space.arcs = ARCS;
-    if (delay > LIMIT) space.limits_fit = 0;
-    else pair[2] = (uint8_t)delay;
-    return space;
+    if (delay > TOMCHOEN_MOST_LIMIT) plan.limits_fit = 0;
+    else pair->limit = (uint8_t)delay;
+    return plan;
 }
 
-/* Writes a built table to standard output. */
-static void print_built(uint64_t built, const uint8_t *built_states, size_t state_space, const uint8_t *built_arcs,
-                        size_t arc_space) {
-    uint64_t answer = tomchoen_write(TOMCHOEN_TAPES(built), TOMCHOEN_STATES(built), TOMCHOEN_ARCS(built), built_states,
-                                     state_space, built_arcs, arc_space, text, sizeof text);
-    stop_if_refused("write", answer);
-    printf("built: %zu states, %zu arcs\n", TOMCHOEN_STATES(built), TOMCHOEN_ARCS(built));
-    fwrite(text, 1, TOMCHOEN_LENGTH(answer), stdout);
+/* What to lend for a build on so many pairs, by their forecasts. */
+static struct plan plan_by(const struct tomchoen_table *table, struct tomchoen_pair *pairs, size_t count,
+                           const uint8_t *records) {
+    struct plan plan = {table->states, table->arcs, 1};
+    for (size_t k = 0; k < count; k++) plan = with_pair(plan, table->states, &pairs[k], records, k);
+    return plan;
 }
 
-/* Builds in the space lent. */
-static void build(struct space space, size_t pair_bytes) {
-    size_t state_space = TOMCHOEN_STATE_BYTES(space.states), arc_space = TOMCHOEN_ARC_BYTES(space.arcs);
-    size_t need = TOMCHOEN_BUILD_WORK(space.states, space.arcs, states);
-    uint8_t *out_states = lent(state_space), *out_arcs = lent(arc_space), *work = lent(need);
-    printf("lent: %u states, %u arcs, %zu bytes of work, limits", (unsigned)space.states, (unsigned)space.arcs, need);
-    for (size_t at = 0; at < pair_bytes; at += TOMCHOEN_PAIR_BYTES(1)) printf(" %u", pairs[at + 2]);
+/* Prints what is lent. */
+static void print_lent(struct plan plan, size_t work, const struct tomchoen_pair *pairs, size_t count) {
+    printf("lent: %zu states, %zu arcs, %zu bytes of work, limits", plan.states, plan.arcs, work);
+    for (size_t k = 0; k < count; k++) printf(" %u", pairs[k].limit);
     printf("\n");
-    uint64_t answer = tomchoen_build(tapes, states, arcs, state_bytes, sizeof state_bytes, arc_bytes, sizeof arc_bytes, pairs,
-                                     pair_bytes, out_states, state_space, out_arcs, arc_space, work, need);
-    if (TOMCHOEN_REFUSAL(answer) == 0) print_built(answer, out_states, state_space, out_arcs, arc_space);
-    free(out_states);
-    free(out_arcs);
-    free(work);
-    stop_if_refused("build", answer);
+}
+
+/* Builds in the space planned. */
+static struct tomchoen_table build(const struct tomchoen_table *table, const struct tomchoen_pair *pairs, size_t count,
+                                   struct plan plan) {
+    struct tomchoen_table built = lend_table(plan.states, plan.arcs);
+    struct tomchoen_space work = lend(TOMCHOEN_BUILD_WORK(plan.states, plan.arcs, table->states));
+    print_lent(plan, work.length, pairs, count);
+    stop_if_refused("build", tomchoen_table_build(table, pairs, count, &built, work));
+    free(work.bytes);
+    return built;
+}
+
+/* Prints a built table. */
+static void print_built(const struct tomchoen_table *built) {
+    struct tomchoen_space text = text_of(built);
+    printf("built: %zu states, %zu arcs\n", built->states, built->arcs);
+    fwrite(text.bytes, 1, text.length, stdout);
+    free(text.bytes);
 }
 
 int main(int count, char **words) {
-    if (count < 2) stop("usage: lend TABLE FIRST SECOND [FIRST SECOND ..]", "");
-    size_t pair_bytes = read_pairs(count - 2, words + 2);
-    read_table(words[1]);
-    size_t told = forecast(pair_bytes);
-    struct space space = {.states = states, .arcs = arcs, .limits_fit = 1};
-    for (size_t k = 0; k < told; k++) space = with_pair(space, k);
-    if (!space.limits_fit) {
-        printf("no limits up to %d are sure to do\n", LIMIT);
-        return 1;
+    if (count < 4 || count % 2 != 0) stop("usage: ", "lend TABLE FIRST SECOND [FIRST SECOND ..]");
+    size_t pair_count = ((size_t)count - 2) / 2;
+    struct tomchoen_pair *pairs = take_pairs(pair_count, words + 2);
+    struct tomchoen_table table = read_table(words[1], TOMCHOEN_MOST_STATES, TOMCHOEN_MOST_ARCS);
+    struct tomchoen_space records = forecast(&table, pairs, pair_count);
+    struct plan plan = plan_by(&table, pairs, pair_count, records.bytes);
+    int status = REFUSED;
+    if (plan.limits_fit) {
+        struct tomchoen_table built = build(&table, pairs, pair_count, plan);
+        print_built(&built);
+        free_table(&built);
+        status = 0;
+    } else {
+        fprintf(stderr, "%s: no limits up to %d are sure to do\n", program, TOMCHOEN_MOST_LIMIT);
     }
-    build(space, pair_bytes);
-    return 0;
+    stop_if_unwritten();
+    free(records.bytes);
+    free_table(&table);
+    free(pairs);
+    return status;
 }
