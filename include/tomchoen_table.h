@@ -76,7 +76,8 @@ static inline uint64_t tomchoen_take_counts(struct tomchoen_table *table, uint64
     return answer;
 }
 
-/* The pointer of space and of bytes as a function takes it: to the spare byte where they are empty and null. */
+/* The pointer of space and of bytes as a function takes it: to the spare byte where they are empty and null. Several
+ * may point there, since they have no bytes to overlap. */
 static inline uint8_t *tomchoen_space_pointer(struct tomchoen_space space, uint8_t *spare) {
     return space.bytes == NULL && space.length == 0 ? spare : space.bytes;
 }
