@@ -1,0 +1,102 @@
+#!/usr/bin/env python3
+"""Runs the commands of Markdown files as a reader pastes them. Usage: tools/paste.py FILE..
+
+A command is a line of a block fenced as `sh`, or of an indented block whose first word is a program of PROGRAMS or a path under
+target/ or tests/; a line that ends with a backslash goes on in the next. Each runs in a shell of its own in the repository's root. A
+block fenced as `text` directly behind a block of commands is what the last of them prints. Each command is told with `ok`,
+`failed`, `skipped` (the gate itself, SKIPPED) or `other output`, and its seconds. The exit status is 0 only where every file has a
+command and all are ok or skipped."""
+import os, re, subprocess, sys, time
+
+ROOT = os.path.join(os.path.dirname(os.path.abspath(__file__)), "..")
+PROGRAMS = ("rt", "cargo", "cc", "c++", "bash", "sh", "python3", "make", "printf")
+SKIPPED = ("bash .ci/run",)
+
+
+def language_of(line):
+    """What an indented block is, told by its first line."""
+    word = line.split()[0]
+    return "sh" if word in PROGRAMS or word.startswith(("target/", "tests/")) else ""
+
+
+def fenced(lines, i):
+    """The fenced block that begins at a line: its language, its lines, and the place behind it."""
+    indent, language = re.match(r"( *)```(.*)", lines[i]).groups()
+    end = i + 1
+    while end < len(lines) and lines[end].strip() != "```":
+        end += 1
+    return language, [line[len(indent):] for line in lines[i + 1:end]], end + 1
+
+
+def indented(lines, i):
+    """The indented block that begins at a line, likewise."""
+    end = i
+    while end < len(lines) and lines[end].startswith("    "):
+        end += 1
+    body = [line.strip() for line in lines[i:end]]
+    return language_of(body[0]), body, end
+
+
+def blocks(lines):
+    """The blocks of a text: language, lines, and the language of the block directly before, with only blank lines between."""
+    i, before = 0, ""
+    while i < len(lines):
+        line = lines[i]
+        if line.lstrip().startswith("```"):
+            language, body, i = fenced(lines, i)
+        elif line.startswith("    ") and (i == 0 or not lines[i - 1].strip()):
+            language, body, i = indented(lines, i)
+        else:
+            before = "" if line.strip() else before
+            i += 1
+            continue
+        yield language, body, before
+        before = language
+
+
+def commands(body):
+    """The commands of a block: lines put together where they go on, without blank ones and comments."""
+    joined = "\n".join(body).replace("\\\n", " ").split("\n")
+    return [line.strip() for line in joined if line.strip() and not line.strip().startswith("#")]
+
+
+def runs(lines):
+    """The commands of a text, each with what it must print, None where that is not shown."""
+    found = []
+    for language, body, before in blocks(lines):
+        if language == "sh":
+            found += [[command, None] for command in commands(body)]
+        elif language == "text" and before == "sh" and found:
+            found[-1][1] = "".join(line + "\n" for line in body)
+    return found
+
+
+def run(command, shown):
+    """Runs one command; what came of it."""
+    if command.split(" #")[0].strip() in SKIPPED:
+        return "skipped"
+    done = subprocess.run(["bash", "-e", "-o", "pipefail", "-c", command], cwd=ROOT, stdin=subprocess.DEVNULL, capture_output=True)
+    if done.returncode == 0 and shown in (None, done.stdout.decode()):
+        return "ok"
+    sys.stdout.write(done.stdout.decode(errors="replace")[-2000:] + done.stderr.decode(errors="replace")[-2000:])
+    return "failed" if done.returncode else "other output"
+
+
+def paste(path):
+    """Runs the commands of a file; whether all was well."""
+    with open(path, encoding="utf-8") as file:
+        found = runs(file.read().split("\n"))
+    if not found:
+        print(f"{path}: no command")
+    well = bool(found)
+    for command, shown in found:
+        start = time.monotonic()
+        what = run(command, shown)
+        well = well and what in ("ok", "skipped")
+        print(f"{path}: {what}, {time.monotonic() - start:.1f} s: {command}", flush=True)
+    return well
+
+
+if len(sys.argv) < 2:
+    sys.exit(__doc__)
+sys.exit(0 if all([paste(path) for path in sys.argv[1:]]) else 1)
