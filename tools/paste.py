@@ -3,9 +3,10 @@
 
 A command is a line of a block fenced as `sh`, or of an indented block whose first word is a program of PROGRAMS or a path under
 target/ or tests/; a line that ends with a backslash goes on in the next. Each runs in a shell of its own in the repository's root. A
-block fenced as `text` directly behind a block of commands is what the last of them prints. Each command is told with `ok`,
-`failed`, `skipped` (the gate itself, SKIPPED) or `other output`, and its seconds. The exit status is 0 only where every file has a
-command and all are ok or skipped."""
+block fenced as `text` directly behind a block of commands is what the last of them prints. A line on standard output tells of each
+command `ok`, `failed`, `other output`, `as before` (the same command was ok) or `skipped` (the gate itself, SKIPPED), and its
+seconds; what a command that is not ok wrote goes to standard error. The exit status is 0 only where every file has a command, and
+none failed or had other output."""
 import os, re, subprocess, sys, time
 
 ROOT = os.path.join(os.path.dirname(os.path.abspath(__file__)), "..")
@@ -73,30 +74,41 @@ def runs(lines):
 
 def run(command, shown):
     """Runs one command; what came of it."""
-    if command.split(" #")[0].strip() in SKIPPED:
-        return "skipped"
     done = subprocess.run(["bash", "-e", "-o", "pipefail", "-c", command], cwd=ROOT, stdin=subprocess.DEVNULL, capture_output=True)
-    if done.returncode == 0 and shown in (None, done.stdout.decode()):
+    if done.returncode == 0 and shown in (None, done.stdout.decode(errors="replace")):
         return "ok"
-    sys.stdout.write(done.stdout.decode(errors="replace")[-2000:] + done.stderr.decode(errors="replace")[-2000:])
+    sys.stderr.write((done.stdout + done.stderr).decode(errors="replace")[-4000:])
     return "failed" if done.returncode else "other output"
 
 
-def paste(path):
-    """Runs the commands of a file; whether all was well."""
+def answer(command, shown, well):
+    """What is told of a command, by those that were ok before it, to which it is added."""
+    if command.split(" #")[0].strip() in SKIPPED:
+        return "skipped"
+    if (command, shown) in well:
+        return "as before"
+    told = run(command, shown)
+    if told == "ok":
+        well.update([(command, None), (command, shown)])
+    return told
+
+
+def paste(path, well):
+    """Runs the commands of a file; whether it has some, and none failed or had other output."""
     with open(path, encoding="utf-8") as file:
         found = runs(file.read().split("\n"))
     if not found:
         print(f"{path}: no command")
-    well = bool(found)
+    wrong = 0
     for command, shown in found:
         start = time.monotonic()
-        what = run(command, shown)
-        well = well and what in ("ok", "skipped")
-        print(f"{path}: {what}, {time.monotonic() - start:.1f} s: {command}", flush=True)
-    return well
+        told = answer(command, shown, well)
+        wrong += told in ("failed", "other output")
+        print(f"{path}: {told}, {time.monotonic() - start:.1f} s: {command}", flush=True)
+    return found and not wrong
 
 
 if len(sys.argv) < 2:
     sys.exit(__doc__)
-sys.exit(0 if all([paste(path) for path in sys.argv[1:]]) else 1)
+well = set()
+sys.exit(0 if all([paste(path, well) for path in sys.argv[1:]]) else 1)
