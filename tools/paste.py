@@ -1,8 +1,8 @@
 #!/usr/bin/env python3
 """Runs the commands of Markdown files as a reader pastes them. Usage: tools/paste.py FILE..
 
-A command is a line of a block fenced as `sh`, or of an indented block whose first word is a program of PROGRAMS or a path under
-target/ or tests/; a line that ends with a backslash goes on in the next. Each runs in a shell of its own in the repository's root. A
+A command is a line of a block fenced as `sh`, or of an indented block whose first word is one of PROGRAMS or a path under one of
+FOLDERS; a line that ends with a backslash goes on in the next. Each runs in a shell of its own in the repository's root. A
 block fenced as `text` directly behind a block of commands is what the last of them prints. A line on standard output tells of each
 command `ok`, `failed`, `other output`, `as before` (the same command was ok) or `skipped` (the gate itself, SKIPPED), and its
 seconds; what a command that is not ok wrote goes to standard error. The exit status is 0 only where every file has a command, and
@@ -10,14 +10,15 @@ none failed or had other output."""
 import os, re, subprocess, sys, time
 
 ROOT = os.path.join(os.path.dirname(os.path.abspath(__file__)), "..")
-PROGRAMS = ("rt", "cargo", "cc", "c++", "bash", "sh", "python3", "make", "printf")
+PROGRAMS = ("rt", "cargo", "cc", "c++", "bash", "sh", "python3", "pkg-config", "printf")
+FOLDERS = ("target/", "tests/", "tools/")
 SKIPPED = ("bash .ci/run",)
 
 
 def language_of(line):
     """What an indented block is, told by its first line."""
     word = line.split()[0]
-    return "sh" if word in PROGRAMS or word.startswith(("target/", "tests/")) else ""
+    return "sh" if word in PROGRAMS or word.startswith(FOLDERS) else ""
 
 
 def fenced(lines, i):
