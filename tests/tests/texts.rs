@@ -4,7 +4,7 @@ use tomchoen_tests::agree::{agree, MOST_INPUT};
 use tomchoen_tests::automaton::Room;
 use tomchoen_tests::pairs::PairRecord;
 use tomchoen_tests::refusal::Refusal;
-use tomchoen_tests::text::{pair_line, read, write};
+use tomchoen_tests::text::{pair_line, read, read_pair_line, write, Reader};
 
 const HEADER: &str = "  2     2     1\n";
 const FIRST: &str = "         0         -\n";
@@ -178,6 +178,18 @@ fn pair_lines() {
         assert_eq!(agree_refuses(&[input, &table]), 2, "{input:?}");
     }
     assert_eq!(agree_refuses(&["999  1  2  0\n", &table]), 1);
+}
+
+#[test]
+fn no_table_begins_with_a_pair_line() {
+    for tapes in 1..=8 {
+        for states in [0, 9, 10, 99, 100, 999, 1_000, 1_024] {
+            for arcs in [0, 9, 10, 99, 100, 999, 1_000, 8_192] {
+                let text = format!("{tapes:3}{states:6}{arcs:6}\n{}", FIRST.repeat(4));
+                assert_eq!(read_pair_line(&mut Reader::new(text.as_bytes())).err(), Some(Refusal::Form), "{text}");
+            }
+        }
+    }
 }
 
 #[test]

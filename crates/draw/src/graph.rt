@@ -1,4 +1,6 @@
 // The graph of a table, as Graphviz reads it.
+use agree_line::line::PairLine;
+use agree_line::line::read_line;
 use table::answer::Counts;
 use table::answer::Refusal;
 use table::answer::TableAnswer;
@@ -154,30 +156,64 @@ fn put_graph(c: Counts, states: &[u8], arcs: &[u8]) {
     put(b"}\n");
 }
 
-// The line of a refusal: the word, and the number in four columns.
-fn put_refusal(why: Refusal) {
-    let n = refusal_number(why);
-    put(b"refused");
-    if n < 10 {
-        put(b"   ");
-    } else {
-        put(b"  ");
+// The word of a refusal.
+fn put_word(why: Refusal) {
+    match why {
+        Refusal::Short => put(b"short"),
+        Refusal::Form => put(b"form"),
+        Refusal::Size => put(b"size"),
+        Refusal::State => put(b"state"),
+        Refusal::Tape => put(b"tape"),
+        Refusal::Pairs => put(b"pairs"),
+        Refusal::Limit => put(b"limit"),
+        Refusal::StatesFull => put(b"states full"),
+        Refusal::ArcsFull => put(b"arcs full"),
+        Refusal::Delay => put(b"delay"),
+        Refusal::Weight => put(b"weight"),
+        Refusal::Width => put(b"width"),
+        Refusal::Space => put(b"space"),
+        Refusal::Path => put(b"path"),
     }
-    put_number(n as u64);
-    put(b"\n");
 }
 
-// The graph of the table that a text describes, or its refusal. A text of at most 65,536 bytes has at most 2,047 arcs; a longer one is 3.
-pub fn draw_text(text: &[u8]) {
-    if 65536 < text.len() {
-        put_refusal(Refusal::Size);
-        return;
-    }
+// The graph of a refusal: one node with its number and its word.
+fn put_refusal(why: Refusal) {
+    put(b"digraph table {\n  refused [shape=box, label=\"refused ");
+    put_number(refusal_number(why) as u64);
+    put(b": ");
+    put_word(why);
+    put(b"\"];\n}\n");
+}
+
+// The graph of the table that a text describes, or of its refusal. A text of at most 65,536 bytes has at most 2,047 arcs.
+fn draw_table(text: &[u8]) {
     let mut states = [0u8; 10240];
     let mut arcs = [0u8; 163840];
     let answer = text::read(text, &mut states, &mut arcs);
     match answer {
         TableAnswer::Table(c) => put_graph(c, &states, &arcs),
         TableAnswer::Refused(why) => put_refusal(why),
+    }
+}
+
+// Where the table of an input begins: behind its pair line, or at the front where there is none. No table begins with a pair line: the byte
+// 10 that ends a header stands behind the end of a line of one pair, and at a column of a tape in a line of more.
+fn table_start(input: &[u8]) -> usize {
+    let line = read_line(input);
+    match line {
+        PairLine::Line(parts) => parts.next,
+        PairLine::Refused(_) => 0,
+    }
+}
+
+// The graph of the table of an input, which may have a pair line before it. An input of more than 65,536 bytes is 3.
+pub fn draw_input(input: &[u8]) {
+    if 65536 < input.len() {
+        put_refusal(Refusal::Size);
+        return;
+    }
+    let start = table_start(input);
+    if start <= input.len() {
+        draw_table(&input[start..]);
     }
 }

@@ -1,8 +1,8 @@
-// The program `draw`: the text of a table from standard input, and to standard output a graph for Graphviz: a node for each state with its
-// weights, an edge for each arc with its labels and its weight. A text that is no table is answered by its refusal.
+// The program `draw`: the text of a table, or an input of `agree`, from standard input, and to standard output a graph for Graphviz: a node
+// for each state with its weights, an edge for each arc with its labels and its weight. A refusal is a graph of one node.
 mod graph;
 
-use crate::graph::draw_text;
+use crate::graph::draw_input;
 
 // Room for an input and for one byte more.
 fn input_space() -> [u8; 65537] {
@@ -14,7 +14,7 @@ fn run(bytes: &[u8], n: usize) {
     if bytes.len() < n {
         return;
     }
-    draw_text(&bytes[0..n]);
+    draw_input(&bytes[0..n]);
 }
 
 // The same of the input.
