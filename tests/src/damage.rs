@@ -8,7 +8,7 @@ use crate::random::Random;
 use crate::text::{pair_line, write};
 
 /// The widths of the fields of each line of an input.
-fn widths(case: &Case) -> Vec<Vec<usize>> {
+pub fn widths(case: &Case) -> Vec<Vec<usize>> {
     let mut lines = vec![vec![3; 1 + 3 * case.pairs.len()], vec![3, 6, 6]];
     lines.extend(case.automaton.states.iter().map(|_| vec![10, 10]));
     let mut arc = vec![6, 6, 10];
@@ -18,7 +18,7 @@ fn widths(case: &Case) -> Vec<Vec<usize>> {
 }
 
 /// The lines of an input without their ends.
-fn lines_of(case: &Case) -> Vec<Vec<u8>> {
+pub fn lines_of(case: &Case) -> Vec<Vec<u8>> {
     let text = input_of(case);
     let mut lines: Vec<Vec<u8>> = text.split(|&byte| byte == 10).map(<[u8]>::to_vec).collect();
     lines.pop();
@@ -89,7 +89,7 @@ fn edge_number(random: &mut Random, line: usize, width: usize, case: &Case) -> u
 }
 
 /// `text` right-justified in `width` columns, cut to them at its right end.
-fn justified(text: &str, width: usize) -> Vec<u8> {
+pub fn justified(text: &str, width: usize) -> Vec<u8> {
     let mut field = format!("{text:>width$}").into_bytes();
     field.drain(..field.len() - width);
     field
@@ -166,7 +166,7 @@ fn damage_lines(random: &mut Random, lines: &mut Vec<Vec<u8>>) {
 }
 
 /// Lines joined, each ended by `end`.
-fn joined(lines: &[Vec<u8>], end: &[u8]) -> Vec<u8> {
+pub fn joined(lines: &[Vec<u8>], end: &[u8]) -> Vec<u8> {
     lines.iter().flat_map(|line| [line, end].concat()).collect()
 }
 

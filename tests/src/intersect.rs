@@ -47,9 +47,14 @@ impl Config {
         Config { state, leftovers: vec![Leftover::default(); pairs] }
     }
 
+    /// The lengths of the leftovers.
+    fn lengths(&self) -> impl Iterator<Item = u64> + '_ {
+        self.leftovers.iter().map(|leftover| leftover.delay().unsigned_abs())
+    }
+
     /// Whether all leftovers are empty.
     fn is_even(&self) -> bool {
-        self.leftovers.iter().all(|leftover| leftover.delay() == 0)
+        self.lengths().all(|length| length == 0)
     }
 }
 
@@ -84,8 +89,7 @@ impl<'a> Problem<'a> {
 
     /// Whether no leftover is longer than its own pair's limit.
     fn is_within_limits(&self, config: &Config) -> bool {
-        let within = |(leftover, pair): (&Leftover, &LimitedPair)| leftover.delay().unsigned_abs() <= pair.1;
-        config.leftovers.iter().zip(self.pairs).all(within)
+        config.lengths().zip(self.pairs).all(|(length, &(_, limit))| length <= limit)
     }
 
     /// The configuration that an arc leads to, if the step is compatible.
@@ -106,13 +110,25 @@ impl<'a> Problem<'a> {
     }
 }
 
-/// The reached configurations, those of them that start, the edges between them (position: the input arc), and whether
-/// some step from them leaves more than a limit.
+/// The reached configurations, those of them that start, the edges between them (position: the input arc) as far as the
+/// space lent holds them, how many there are, and for each pair the longest leftover of the steps from them that leave
+/// more than a limit.
 struct Reached {
     configs: Vec<Config>,
     starts: Vec<usize>,
     edges: Vec<Edge>,
-    exceeded: bool,
+    arcs: u64,
+    beyond: Vec<u64>,
+}
+
+impl Reached {
+    /// Judges the whole by 8, 9, 10.
+    fn judge(&self, problem: &Problem, room: Room) -> Result<(), Refusal> {
+        refuse_if(self.configs.len() as u64 > room.usable_states(), Refusal::StatesFull)?;
+        refuse_if(self.arcs > room.usable_arcs(), Refusal::ArcsFull)?;
+        let exceeded = self.beyond.iter().zip(problem.pairs).any(|(&length, &(_, limit))| length > limit);
+        refuse_if(exceeded, Refusal::Delay)
+    }
 }
 
 /// A hash map that gives each configuration a node number.
@@ -135,22 +151,25 @@ impl Nodes {
     }
 }
 
-/// Collects the reached configurations depth first; 8, 9 are judged of the whole.
-fn collect(problem: &Problem, room: Room) -> Result<Reached, Refusal> {
+/// Raises each of the lengths to that of a configuration's leftover.
+fn raise(lengths: &mut [u64], config: &Config) {
+    lengths.iter_mut().zip(config.lengths()).for_each(|(most, length)| *most = length.max(*most));
+}
+
+/// Collects the reached configurations depth first; it ends where they are more than the space lent.
+fn collect(problem: &Problem, room: Room) -> Reached {
     let mut nodes = Nodes::default();
     let starts: Vec<usize> = problem.starts().into_iter().map(|config| nodes.node(config).0).collect();
     let mut stack = starts.clone();
-    let mut edges = Vec::new();
-    let mut arcs: u64 = 0;
-    let mut exceeded = false;
-    refuse_if(nodes.configs.len() as u64 > room.usable_states(), Refusal::StatesFull)?;
-    while let Some(source) = stack.pop() {
+    let (mut edges, mut arcs, mut beyond) = (Vec::new(), 0, vec![0; problem.pairs.len()]);
+    while nodes.configs.len() as u64 <= room.usable_states() {
+        let Some(source) = stack.pop() else { break };
         let config = nodes.configs[source].clone();
         for &position in &problem.arcs_of[config.state] {
             let step = problem.step(&config, &problem.automaton.arcs[position]);
             let Some(next) = step.filter(|next| problem.is_viable(next)) else { continue };
             if !problem.is_within_limits(&next) {
-                exceeded = true;
+                raise(&mut beyond, &next);
                 continue;
             }
             let (target, new) = nodes.node(next);
@@ -160,12 +179,10 @@ fn collect(problem: &Problem, room: Room) -> Result<Reached, Refusal> {
             }
             if new {
                 stack.push(target);
-                refuse_if(nodes.configs.len() as u64 > room.usable_states(), Refusal::StatesFull)?;
             }
         }
     }
-    refuse_if(arcs > room.usable_arcs(), Refusal::ArcsFull)?;
-    Ok(Reached { configs: nodes.configs, starts, edges, exceeded })
+    Reached { configs: nodes.configs, starts, edges, arcs, beyond }
 }
 
 /// The nodes from which a node of `ends` is reached.
@@ -219,23 +236,57 @@ fn trimmed(automaton: &Automaton, reached: &Reached) -> Automaton {
 /// Keeps the accounts that agree on all (judged) pairs, each held to its own limit; 8, 9, 10.
 pub fn intersect(automaton: &Automaton, pairs: &[LimitedPair], room: Room) -> Result<Automaton, Refusal> {
     let problem = Problem::new(automaton, pairs);
-    let reached = collect(&problem, room)?;
-    refuse_if(reached.exceeded, Refusal::Delay)?;
+    let reached = collect(&problem, room);
+    reached.judge(&problem, room)?;
     Ok(trimmed(automaton, &reached))
+}
+
+/// What a search over configurations met. Where it is refused with 8, it ended before all were reached.
+#[derive(Clone, Debug, PartialEq, Eq)]
+pub struct Survey {
+    /// How many configurations are reached.
+    pub configs: u64,
+    /// How many arcs are between them.
+    pub arcs: u64,
+    /// For each pair the length of its longest leftover among them.
+    pub longest: Vec<u64>,
+    /// For each pair the longest leftover above its limit that a hopeful compatible step from one of them leaves.
+    pub beyond: Vec<Option<u64>>,
+    /// The refusal of keeping, if it is refused.
+    pub refusal: Option<Refusal>,
+}
+
+/// Searches as keeping does, for (judged) pairs with their limits, and tells what was met.
+pub fn survey(automaton: &Automaton, pairs: &[LimitedPair], room: Room) -> Survey {
+    let problem = Problem::new(automaton, pairs);
+    let reached = collect(&problem, room);
+    let mut longest = vec![0; pairs.len()];
+    reached.configs.iter().for_each(|config| raise(&mut longest, config));
+    let above = |(&length, &(_, limit)): (&u64, &LimitedPair)| Some(length).filter(|&length| length > limit);
+    Survey {
+        configs: reached.configs.len() as u64,
+        arcs: reached.arcs,
+        longest,
+        beyond: reached.beyond.iter().zip(pairs).map(above).collect(),
+        refusal: reached.judge(&problem, room).err(),
+    }
+}
+
+/// Pairs with the greatest limits.
+pub fn unlimited(pairs: impl IntoIterator<Item = Pair>) -> Vec<LimitedPair> {
+    pairs.into_iter().map(|pair| (pair, MOST_LIMIT)).collect()
 }
 
 /// For each (judged) pair the length of its longest leftover among the reached configurations, if keeping is not
 /// refused with the greatest limits and ample space.
 pub fn longest_leftovers(automaton: &Automaton, pairs: &[Pair]) -> Option<Vec<u64>> {
-    let pairs: Vec<LimitedPair> = pairs.iter().map(|&pair| (pair, MOST_LIMIT)).collect();
-    let reached = collect(&Problem::new(automaton, &pairs), Room::AMPLE).ok().filter(|reached| !reached.exceeded)?;
-    let lengths = |place: usize| reached.configs.iter().map(move |config| config.leftovers[place].delay().unsigned_abs());
-    Some((0..pairs.len()).map(|place| lengths(place).max().unwrap_or(0)).collect())
+    let survey = survey(automaton, &unlimited(pairs.iter().copied()), Room::AMPLE);
+    survey.refusal.is_none().then_some(survey.longest)
 }
 
 /// How many configurations are reached and how many arcs are between them, refused for delay or not, if all fit ample
 /// space.
 pub fn reached_counts(automaton: &Automaton, pairs: &[LimitedPair]) -> Option<(usize, usize)> {
-    let reached = collect(&Problem::new(automaton, pairs), Room::AMPLE).ok()?;
-    Some((reached.configs.len(), reached.edges.len()))
+    let survey = survey(automaton, pairs, Room::AMPLE);
+    matches!(survey.refusal, None | Some(Refusal::Delay)).then_some((survey.configs as usize, survey.arcs as usize))
 }

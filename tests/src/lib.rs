@@ -3,7 +3,7 @@
 //!
 //! `text`, `memory`: tables as texts and as records; `intersect`, `product`, `join`, `columns`, `lookup`, `path`,
 //! `forecast`: the calls on automata; `reading`: how strings are compared; `calls`: the same calls on lent bytes;
-//! `agree`: the program from text to text.
+//! `agree`: the program from text to text; `explain`: what is wrong with its input, and where.
 //! The rest makes and checks test inputs.
 
 #![forbid(unsafe_code)]
@@ -15,6 +15,8 @@ pub mod calls;
 pub mod closing;
 pub mod columns;
 pub mod damage;
+pub mod explain;
+pub mod fault;
 pub mod forecast;
 pub mod forecast_cases;
 pub mod generate;
@@ -22,6 +24,7 @@ pub mod intersect;
 pub mod join;
 pub mod join_cases;
 pub mod labels;
+pub mod lines;
 pub mod lookup;
 pub mod memory;
 pub mod order;

@@ -42,10 +42,30 @@ impl Refusal {
     pub fn number(self) -> u64 {
         self as u64
     }
+
+    /// The word beside the number.
+    pub fn word(self) -> &'static str {
+        match self {
+            Refusal::Short => "short",
+            Refusal::Form => "form",
+            Refusal::Size => "size",
+            Refusal::State => "state",
+            Refusal::Tape => "tape",
+            Refusal::Pairs => "pairs",
+            Refusal::Limit => "limit",
+            Refusal::StatesFull => "states full",
+            Refusal::ArcsFull => "arcs full",
+            Refusal::Delay => "delay",
+            Refusal::Weight => "weight",
+            Refusal::Width => "width",
+            Refusal::Space => "space",
+            Refusal::PathList => "path",
+        }
+    }
 }
 
-/// Refuses with `refusal` where `wrong` holds.
-pub fn refuse_if(wrong: bool, refusal: Refusal) -> Result<(), Refusal> {
+/// Refuses with `refusal`, or with a fault that has one, where `wrong` holds.
+pub fn refuse_if<R>(wrong: bool, refusal: R) -> Result<(), R> {
     if wrong {
         Err(refusal)
     } else {

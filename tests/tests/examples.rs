@@ -1,5 +1,5 @@
 //! The examples of the source documents under `examples/`: the files are the constructions below, `agree` answers as they say,
-//! and the accounts are those the documents state.
+//! and the accounts are those the documents state. One more has a slip in it.
 
 use std::collections::BTreeSet;
 use std::fs;
@@ -300,4 +300,12 @@ fn examples_1_to_3_of_004() {
     let third = first_to_last(3, 2, &[(0, 0, 1, &["A", "", "X"]), (0, 1, 2, &["A", "A", "Y"]), (1, 1, 3, &["", "A", "Z"])]);
     check("004-example-3", &[(1, 2, 3)], &third);
     assert_eq!(file("004-example-3.out"), b"refused  10\n");
+}
+
+#[test]
+fn a_slip() {
+    // docs/TEXT.md's input, its second arc leading to a state that is not there
+    let slip = table(2, &[(Some(0), Some(5))], &[(0, 0, 2, &["A", "A"]), (0, 1, 3, &["B", "C"])]);
+    check("slip", &[(1, 2, 0)], &slip);
+    assert_eq!(file("slip.out"), b"refused   4\n");
 }

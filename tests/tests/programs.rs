@@ -34,7 +34,7 @@ fn the_second_implementation_does_not_differ_from_itself() {
     let output = differential(env!("CARGO_BIN_EXE_agree_reference"), "300", &keep);
     assert_eq!(output.status.code(), Some(0));
     assert_eq!(lines(&output).first().unwrap(), "seed 7");
-    assert_eq!(lines(&output).last().unwrap(), "300 cases, 0 differences");
+    assert_eq!(lines(&output).iter().rev().take(2).collect::<Vec<_>>(), ["300 cases, 0 differences", "explain: 0 differences"]);
     assert!(!keep.exists());
 }
 
@@ -43,7 +43,8 @@ fn a_wrong_program_differs() {
     let keep = Path::new(env!("CARGO_TARGET_TMPDIR")).join("wrong");
     let output = differential(env!("CARGO_BIN_EXE_differential"), "5", &keep);
     assert_eq!(output.status.code(), Some(1));
-    assert_eq!(lines(&output).last().unwrap(), "5 cases, 5 differences");
+    assert_eq!(lines(&output).iter().rev().take(2).collect::<Vec<_>>(), ["5 cases, 5 differences", "explain: 5 differences"]);
+    assert_eq!(lines(&output).iter().filter(|line| line.starts_with("difference of explain: ")).count(), 5);
     let input = std::fs::read(keep.join("seed-7-case-3.input")).unwrap();
     assert_eq!(input, agree_input(&mut Random::for_case(7, 3)));
     assert_eq!(std::fs::read(keep.join("seed-7-case-3.expected")).unwrap(), agree(&input));

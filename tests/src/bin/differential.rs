@@ -1,9 +1,11 @@
-//! Compares the program `agree` with the second implementation on generated inputs, standard output byte for byte.
+//! Compares the program `agree` with the second implementation on generated inputs, standard output byte for byte; and the
+//! refusal that `explain` tells, or that it tells none, with the program's.
 //!
 //!     differential --program PATH --cases N --seed S --keep DIR [--threads T]
 //!
-//! It prints the seed first, then each difference, then how often each answer was met, and last `N cases, M differences`. Of a
-//! difference DIR keeps the input and both outputs. A program killed by a signal, or by this one after ten seconds, differs.
+//! It prints the seed first, then each difference, then how often each answer was met, how often `explain` differs, and last
+//! `N cases, M differences`, the number of cases with a difference of either kind. Of these DIR keeps the input and both
+//! outputs. A program killed by a signal, or by this one after ten seconds, differs.
 //! Exit status: 0 without a difference, 1 with one, 2 where the comparison could not be made.
 
 use std::collections::BTreeMap;
@@ -16,8 +18,10 @@ use std::sync::{Mutex, PoisonError};
 use std::thread;
 use std::time::{Duration, Instant};
 use tomchoen_tests::agree::agree;
+use tomchoen_tests::explain::judge;
 use tomchoen_tests::generate::agree_input;
 use tomchoen_tests::random::Random;
+use tomchoen_tests::text::refusal_line;
 
 const TIME_LIMIT: Duration = Duration::from_secs(10);
 const USAGE: &str = "usage: differential --program PATH --cases N --seed S --keep DIR [--threads T]";
@@ -112,8 +116,13 @@ fn watch(slots: &[Slot], done: &AtomicBool) {
 struct Findings {
     answers: BTreeMap<String, u64>,
     differences: u64,
+    of_explain: u64,
     failure: Option<String>,
 }
+
+/// What an answer is that is no refusal.
+const TABLE: &str = "a table";
+const EMPTY_TABLE: &str = "an empty table";
 
 /// The first line of an answer if it is a refusal, else what it is.
 fn kind(answer: &[u8]) -> String {
@@ -121,34 +130,70 @@ fn kind(answer: &[u8]) -> String {
     match text.lines().next() {
         None => "nothing".to_string(),
         Some(line) if line.starts_with("refused") => line.to_string(),
-        _ if text.lines().count() == 1 => "an empty table".to_string(),
-        _ => "a table".to_string(),
+        _ if text.lines().count() == 1 => EMPTY_TABLE.to_string(),
+        _ => TABLE.to_string(),
+    }
+}
+
+/// What `explain` tells of an input: the line of a refusal, or a table.
+fn explained(input: &[u8]) -> String {
+    judge(input).refusal().map_or(TABLE.to_string(), |refusal| kind(&refusal_line(refusal)))
+}
+
+/// A case: the input, what the second implementation and the program answer, what `explain` tells, and whether the program
+/// ended by itself.
+struct Case {
+    number: u64,
+    input: Vec<u8>,
+    ours: Vec<u8>,
+    theirs: Vec<u8>,
+    explained: String,
+    by_itself: bool,
+}
+
+impl Case {
+    /// Whether the outputs differ.
+    fn differs(&self) -> bool {
+        self.ours != self.theirs || !self.by_itself
+    }
+
+    /// Whether `explain` tells another answer than the program gave.
+    fn explain_differs(&self) -> bool {
+        let theirs = kind(&self.theirs);
+        theirs != self.explained && !(self.explained == TABLE && theirs == EMPTY_TABLE)
     }
 }
 
 /// Keeps the input and both outputs of a difference, and says where.
-fn keep(options: &Options, case: u64, input: &[u8], ours: &[u8], theirs: &[u8], by_itself: bool) -> io::Result<()> {
-    let file = |ending: &str| options.keep.join(format!("seed-{}-case-{case}.{ending}", options.seed));
+fn keep(options: &Options, case: &Case) -> io::Result<()> {
+    let file = |ending: &str| options.keep.join(format!("seed-{}-case-{}.{ending}", options.seed, case.number));
     fs::create_dir_all(&options.keep)?;
-    fs::write(file("input"), input)?;
-    fs::write(file("expected"), ours)?;
-    fs::write(file("program"), theirs)?;
-    let end = if by_itself { "" } else { " and was killed by a signal" };
-    println!("difference: case {case}: expected {}, program gave {}{end}; {}", kind(ours), kind(theirs), file("input").display());
+    fs::write(file("input"), &case.input)?;
+    fs::write(file("expected"), &case.ours)?;
+    fs::write(file("program"), &case.theirs)?;
+    let (number, theirs, input) = (case.number, kind(&case.theirs), file("input").display().to_string());
+    let end = if case.by_itself { "" } else { " and was killed by a signal" };
+    if case.differs() {
+        println!("difference: case {number}: expected {}, program gave {theirs}{end}; {input}", kind(&case.ours));
+    }
+    if case.explain_differs() {
+        println!("difference of explain: case {number}: it tells {}, program gave {theirs}{end}; {input}", case.explained);
+    }
     Ok(())
 }
 
 /// Makes and compares one case.
-fn compare(options: &Options, case: u64, slot: &Slot, findings: &Mutex<Findings>) -> io::Result<()> {
-    let input = agree_input(&mut Random::for_case(options.seed, case));
-    let ours = agree(&input);
+fn compare(options: &Options, number: u64, slot: &Slot, findings: &Mutex<Findings>) -> io::Result<()> {
+    let input = agree_input(&mut Random::for_case(options.seed, number));
+    let (ours, explained) = (agree(&input), explained(&input));
     let (theirs, by_itself) = run(&options.program, &input, slot)?;
-    let differs = ours != theirs || !by_itself;
+    let case = Case { number, input, ours, theirs, explained, by_itself };
     let mut findings = findings.lock().unwrap_or_else(PoisonError::into_inner);
-    *findings.answers.entry(kind(&ours)).or_insert(0) += 1;
-    if differs {
+    *findings.answers.entry(kind(&case.ours)).or_insert(0) += 1;
+    findings.of_explain += u64::from(case.explain_differs());
+    if case.differs() || case.explain_differs() {
         findings.differences += 1;
-        keep(options, case, &input, &ours, &theirs, by_itself)?;
+        keep(options, &case)?;
     }
     Ok(())
 }
@@ -210,6 +255,7 @@ fn main() -> ExitCode {
     }
     let seconds = start.elapsed().as_secs_f64();
     println!("{:.1} seconds, {:.0} cases a second", seconds, options.cases as f64 / seconds.max(0.001));
+    println!("explain: {} differences", findings.of_explain);
     println!("{} cases, {} differences", options.cases, findings.differences);
     ExitCode::from(u8::from(findings.differences > 0))
 }
