@@ -29,7 +29,7 @@ fn lesser(a: usize, b: usize) -> usize
 }
 
 // No room.
-fn no_room() -> RoomAnswer
+pub fn no_room() -> RoomAnswer
     ensures { λ r. ⌜ r .enough ≡ false ⌝ }
 {
     let room = Room {

@@ -37,7 +37,7 @@ fn build(
     requires { ⌜ Listed (first .tapes) (second .tapes) listed ⌝ }
     ensures { λ r. ⌜ ((ps : List TapePair) → JoinJudged ps (first .tapes) (second .tapes) listed → madeOf (tableAs r) (now («out_states» .exit)) (now («out_arcs» .exit)) ≡ put (joinAnswer (lent first (now («first_states» .entry)) (now («first_arcs» .entry))) (lent second (now («second_states» .entry)) (now («second_arcs» .entry))) ps (spaceOf (slicesOf (now («product_states» .entry)) (now («product_arcs» .entry)))) (spaceOf (slicesOf (now («out_states» .entry)) (now («out_arcs» .entry)))) (now (work .entry))) (slicesOf (now («out_states» .entry)) (now («out_arcs» .entry)))) ⌝ }
 {
-    let judged = judge_join(
+    let prepared = judge_join(
         first,
         first_states,
         first_arcs,
@@ -51,6 +51,8 @@ fn build(
         out_arcs.len() / ARC_SIZE,
         work.len(),
     );
+    let judged = prepared.judged;
+    let room = prepared.room;
     match judged {
         Judged::Refused(why) => TableAnswer::Refused(why),
         Judged::Fine => {
@@ -63,6 +65,7 @@ fn build(
                 second_states,
                 second_arcs,
                 list,
+                room,
                 product_states,
                 product_arcs,
                 out_states,

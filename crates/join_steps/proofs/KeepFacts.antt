@@ -22,6 +22,7 @@ use Rattle.table.specs.declared.answer.TableAnswer.the-variants.{Table, Refused
 use Rattle.table.specs.declared.pair.PairList.{PairList}
 use Rattle.table.specs.Answers.{refusalNumber, countsAs, tableAs, lent}
 use Rattle.table.specs.Pairs.{pairsAs, Named}
+use Rattle.intersect_room.specs.declared.room.Room.{Room}
 use Rattle.join_steps.specs.Steps.{SecondsDroppable, Keepable}
 
 -- ---- a table that a step made
@@ -51,7 +52,7 @@ pub told : (t : TableAnswer) (c : Counts) (states arcs : List ℕ) (o : Made) �
 told t c states arcs o q e = subst (λ (x : TableAnswer). madeOf (tableAs x) states arcs ≡ o) q e
 
 -- ---- after the auto-intersection
-module _ (m : Memory) (pairs : PairList) (forStates forArcs work : ℕ) (x : Keepable m pairs forStates forArcs work) (s : Slices) where
+module _ (m : Memory) (pairs : PairList) (room : Room) (forStates forArcs work : ℕ) (x : Keepable m pairs room forStates forArcs work) (s : Slices) where
   -- the steps that are left
   abbrev next : Memory → Slices → Made
   next K left = dropStep K (seconds (tapesOf (pairsAs pairs))) left

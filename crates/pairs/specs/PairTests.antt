@@ -1,7 +1,7 @@
 -- The tests of a list of pairs in document 01's order: 5 over the whole list, then 6, then 7.
 use Prim.Native.Nat.{ℕ}
 use mathlib.Core.Bool.{Bool, true}
-use mathlib.Core.List.{List}
+use mathlib.Core.List.{List, map}
 use lib.Dec.{leb}
 use lib.ListN.{length}
 use Rattle.automata.specs.Limits.{maxPairs}
@@ -16,6 +16,10 @@ use Rattle.automata.specs.Join.{within, separate}
 -- The tests in their order, whatever they ask.
 abbrev pub tests : Bool → Bool → Bool → Answer (Unit {0})
 tests inside once fit = judge inside Refusal.tape (judge once Refusal.pairs (judge fit Refusal.limit (ok tt)))
+
+-- no tape stands twice on one side
+abbrev pub sidesOnce : List Pair → Bool
+sidesOnce ps = and (distinct (map (λ p. p .first) ps)) (distinct (map (λ p. p .second) ps))
 
 -- For the auto-intersection of a table: a tape that it lacks (5), more than four pairs or a tape named twice (6), a limit
 -- above 64 (7).
