@@ -19,7 +19,7 @@ ghost use Rattle.automata.specs.Memory.{Sound};
 ghost use Rattle.automata.specs.Layout.{delaysSize, pairDelays, reachingPlace};
 ghost use Rattle.automata.specs.Limits.{maxTapes};
 ghost use Rattle.table.specs.Answers.{lent};
-ghost use Rattle.delays_relaxation.specs.Column.{Room};
+ghost use Rattle.delays_relaxation.specs.Vector.{Room};
 ghost use Rattle.delays_relaxation.specs.Edges.{edges, Readable};
 ghost use Rattle.delays_relaxation.specs.Lowered.{FillsLeast};
 ghost use Rattle.table.specs.Pairs.{Named, Within, noPair};

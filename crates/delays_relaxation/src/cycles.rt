@@ -12,7 +12,7 @@ ghost use mathlib.Core.Path.{_≡_};
 ghost use mathlib.Core.Bool.{true};
 ghost use Prim.Native.Nat.{_+_, _*_, _≤_, _<_};
 ghost use lib.ListN.{length};
-ghost use Rattle.delays_relaxation.specs.Column.{Room};
+ghost use Rattle.delays_relaxation.specs.Vector.{Room};
 ghost use Rattle.delays_relaxation.specs.Edges.{edges, ReadableArcs};
 ghost use Rattle.delays_relaxation.specs.Lowered.{Lessens, Lowers};
 ghost use Rattle.automata.specs.Layout.{arcSize};

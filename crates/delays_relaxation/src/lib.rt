@@ -1,4 +1,4 @@
-// Closing delays by relaxation over a table in memory. One column of the work space holds the delays; rounds read and
+// Closing delays by relaxation over a table in memory. One vector of the work space holds the delays; rounds read and
 // write it in place, from the last arc to the first.
 pub mod cycles;
 pub mod listing;
@@ -22,7 +22,7 @@ ghost use lib.ListN.{length};
 ghost use Rattle.automata.specs.Lists.{and};
 ghost use Rattle.automata.specs.InPlace.{Becomes};
 ghost use Rattle.automata.specs.Layout.{arcSize, delaysSize, stateSize, finalPlace};
-ghost use Rattle.delays_relaxation.specs.Column.{column, Room};
+ghost use Rattle.delays_relaxation.specs.Vector.{vector, Room};
 ghost use Rattle.delays_relaxation.specs.Edges.{edgeAt, edges, Readable, ReadableArcs, throughEdge, improve, visited, swept, startOf, flagPlace, started, Filled, roundsOf, bothRounds};
 ghost use Rattle.delays_relaxation.specs.Lowered.{FillsLeast};
 
@@ -194,7 +194,7 @@ fn run_rounds(
     through: &mut [u16],
 )
     requires { ⌜ ReadableArcs states (now arcs) count reversed first second × Room at 2 states (now work) ⌝ }
-    ensures { λ _. ⌜ Filled at states (roundsOf diverging (edges reversed first second 0 count (now (arcs .entry))) states (column at states (now (work .entry)))) (now (work .exit)) (now (work .entry)) ⌝ }
+    ensures { λ _. ⌜ Filled at states (roundsOf diverging (edges reversed first second 0 count (now (arcs .entry))) states (vector at states (now (work .entry)))) (now (work .exit)) (now (work .entry)) ⌝ }
 {
     let mut left = states;
     while 0 < left {
@@ -229,7 +229,7 @@ fn run_both(
     through: &mut [u16],
 )
     requires { ⌜ ReadableArcs states (now arcs) count reversed first second × Room at 2 states (now work) ⌝ }
-    ensures { λ _. ⌜ Filled at states (bothRounds (edges reversed first second 0 count (now (arcs .entry))) states (column at states (now (work .entry)))) (now (work .exit)) (now (work .entry)) ⌝ }
+    ensures { λ _. ⌜ Filled at states (bothRounds (edges reversed first second 0 count (now (arcs .entry))) states (vector at states (now (work .entry)))) (now (work .exit)) (now (work .entry)) ⌝ }
 {
     run_rounds(
         arcs,

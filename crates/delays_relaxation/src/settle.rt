@@ -8,7 +8,7 @@ use crate::round_arcs;
 use crate::visit_edge;
 use table::layout::ARC_SIZE;
 ghost use Prim.Native.Nat.{_<_};
-ghost use Rattle.delays_relaxation.specs.Column.{Room};
+ghost use Rattle.delays_relaxation.specs.Vector.{Room};
 ghost use Rattle.delays_relaxation.specs.Edges.{edges, ReadableArcs};
 ghost use Rattle.delays_relaxation.specs.Lowered.{Lowers, Settles};
 

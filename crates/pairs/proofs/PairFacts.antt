@@ -107,21 +107,21 @@ read-list bs a b c d ea eb ec ed =
     each h (suc (suc (suc zero))) j = ed
     each h (suc (suc (suc (suc k)))) j = absurd (omega arith)
 
--- a column of the pairs that are used: g is the first or the second tape
-pub column : (g : Pair → ℕ) (u : ℕ) (l : List memory.Pair) → length l ≡ 4
+-- one side of the pairs that are used: g is the first or the second tape
+pub side : (g : Pair → ℕ) (u : ℕ) (l : List memory.Pair) → length l ≡ 4
     → take u (g (tapesAs (getD l 0 noPair)) ∷ g (tapesAs (getD l 1 noPair)) ∷ g (tapesAs (getD l 2 noPair)) ∷ g (tapesAs (getD l 3 noPair)) ∷ [])
     ≡ map g (tapesOf (map pairAs (take u l)))
-column g u (a ∷ b ∷ c ∷ d ∷ []) h = go u (a ∷ b ∷ c ∷ d ∷ [])
+side g u (a ∷ b ∷ c ∷ d ∷ []) h = go u (a ∷ b ∷ c ∷ d ∷ [])
   where
     go : (u : ℕ) (l : List memory.Pair) → take u (map (λ p. g (tapesAs p)) l) ≡ map g (tapesOf (map pairAs (take u l)))
     go zero l = refl
     go (suc u) [] = refl
     go (suc u) (p ∷ l) = ap (λ (r : List ℕ). g (tapesAs p) ∷ r) (go u l)
-column g u [] h = absurd (omega arith)
-column g u (a ∷ []) h = absurd (omega arith)
-column g u (a ∷ b ∷ []) h = absurd (omega arith)
-column g u (a ∷ b ∷ c ∷ []) h = absurd (omega arith)
-column g u (a ∷ b ∷ c ∷ d ∷ e ∷ l) h = absurd (omega arith)
+side g u [] h = absurd (omega arith)
+side g u (a ∷ []) h = absurd (omega arith)
+side g u (a ∷ b ∷ []) h = absurd (omega arith)
+side g u (a ∷ b ∷ c ∷ []) h = absurd (omega arith)
+side g u (a ∷ b ∷ c ∷ d ∷ e ∷ l) h = absurd (omega arith)
 
 -- ---- the tapes that pairs by value name
 between : (n m : ℕ) (p : memory.Pair) → and (isTape n (p .first)) (isTape m (p .second)) ≡ true → Between n m p

@@ -1,4 +1,4 @@
-// The call: a refusal before any state is reached, the search, the answer that it settles, and work space cleared.
+// The call: a refusal before any state is reached, the search, the answer by it, and work space cleared.
 use crate::finish::answer_search;
 use crate::prepare::plan_for;
 use crate::prepare::prepare;

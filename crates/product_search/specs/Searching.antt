@@ -17,13 +17,18 @@ use Rattle.automata.specs.Product.{sameVertex, allBoth, allAfterFirst, allAfter
 use Rattle.automata.specs.Layout.{arcSize, stepSize, vertexSize}
 use Rattle.table.specs.declared.answer.Counts.{Counts}
 use Rattle.table.specs.Records.{arcAs, arcAt}
-use Rattle.search_rows.specs.Comes as search
+use Rattle.search_rows.specs.Comes as search-comes
+use Rattle.search_rows.specs.Progress as search
 use Rattle.product_search.specs.declared.vertex.Vertex.{Vertex}
 use Rattle.product_search.specs.declared.plan.Plan.{Plan}
 use Rattle.product_search.specs.declared.head.Head.{Head}
 use Rattle.product_search.specs.Vertices.{placeNumber, vertexOf, HoldsVertices, ChainedVertices, PlaceBelow, VertexBelow}
 use Rattle.product_search.specs.Moves.{noArc, Carries, HoldsMoves}
 use Rattle.product_search.specs.Reading.{StatesLent, ArcsLent, ReadsStates, ReadsArcs, LinkedArcs, Walkable, chainedOnly}
+
+-- how far the search is
+abbrev pub progress : Head → search.Progress
+progress h = record { taken = h .taken; reached = h .reached; arcs = h .arcs }
 
 -- a head with so many states
 abbrev pub withReached : ℕ → Head → Head
@@ -67,7 +72,7 @@ Exceeds p r s = (p .states < length (s .vertices)) ⊎ ((p .limit < r .arcs) × 
 -- the head r and the work space w hold the search s, or it was given up, and s has more than there is room for or than
 -- is looked for
 abbrev pub Comes : Plan → Automaton ℕ → Automaton ℕ → Head → VertexSearch → List ℕ → Type 0
-Comes p A B r s w = search.Comes (r .full) (Holds p A B r s w) (Exceeds p r s)
+Comes p A B r s w = search-comes.Comes (r .full) (Holds p A B r s w) (Exceeds p r s)
 
 -- From the head h and the work space v to r and w the steps xs out of the state c that is taken up were noted, whatever search was held.
 abbrev pub Notes : Plan → Automaton ℕ → Automaton ℕ → automata.Vertex → List Step → Head → List ℕ → Head → List ℕ → Type 0
@@ -84,12 +89,8 @@ pub record Ready (p : Plan) (h : Head) (n size : ℕ) : Type 0 where
   pub few : h .arcs + n ≤ 1000000000000
 
 -- it went on, within the bounds
-pub record Grows (p : Plan) (n : ℕ) (h : Head) (v : List ℕ) (r : Head) (w : List ℕ) : Type 0 where
-  pub taken : r .taken ≡ h .taken
-  pub grown : h .reached ≤ r .reached
-  pub fits : r .reached ≤ p .states
-  pub few : r .arcs ≤ h .arcs + n
-  pub same-length : length w ≡ length v
+abbrev pub Grows : Plan → ℕ → Head → List ℕ → Head → List ℕ → Type 0
+Grows p n h v r w = search.Grows (p .states) n (progress h) v (progress r) w
 
 -- ---- a move to one state of the product
 
