@@ -1,5 +1,5 @@
--- Facts of lowered delays: what an edge, a round and a closed run that lessens the delay make of them, and when they are
--- the least.
+-- Facts of lowered delays: what an edge, a round and a closed run that lessens the delay make of them, and when they
+-- are the least.
 use Prim.Native.Nat.{ℕ, zero, suc, _+_, _*_, _<_, _≤_, min}
 use mathlib.Core.Path.{_≡_, refl, sym, ap, _∙_}
 use mathlib.Core.Logic.{_≢_}

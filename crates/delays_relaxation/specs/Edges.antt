@@ -39,14 +39,16 @@ unfoldable pub Joined : ℕ → List Edge → Type 0
 Joined n [] = Unit {0}
 Joined n (e ∷ es) = (e .source < n) × (e .target < n) × Joined n es
 
--- what a round on two tapes asks of the arc records: they are wholly lent, the tapes are of eight, and the arcs join n states
+-- what a round on two tapes asks of the arc records: they are wholly lent, the tapes are of eight, and the arcs join n
+-- states
 pub record ReadableArcs (n : ℕ) (arcs : List ℕ) (count : ℕ) (reversed : Bool) (first second : ℕ) : Type 0 where
   pub lent : arcSize * count ≤ length arcs
   pub first-tape : first < 8
   pub second-tape : second < 8
   pub joined : Joined n (edges reversed first second 0 count arcs)
 
--- what relaxation asks of a table: the records of n states and of the arcs are wholly lent, and the arcs join these states
+-- what relaxation asks of a table: the records of n states and of the arcs are wholly lent, and the arcs join these
+-- states
 pub record Readable (bytes : List ℕ) (n : ℕ) (arcs : List ℕ) (count : ℕ) : Type 0 where
   pub states-lent : stateSize * n ≤ length bytes
   pub arcs-lent : arcSize * count ≤ length arcs

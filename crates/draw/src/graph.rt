@@ -167,7 +167,8 @@ fn put_refusal(why: Refusal) {
     put(b"\n");
 }
 
-// The graph of the table that a text describes, or its refusal. A text of at most 65,536 bytes has at most 2,047 arcs; a longer one is 3.
+// The graph of the table that a text describes, or its refusal. A text of at most 65,536 bytes has at most 2,047 arcs;
+// a longer one is 3.
 pub fn draw_text(text: &[u8]) {
     if 65536 < text.len() {
         put_refusal(Refusal::Size);

@@ -1,5 +1,6 @@
-// The program `draw`: the text of a table from standard input, and to standard output a graph for Graphviz: a node for each state with its
-// weights, an edge for each arc with its labels and its weight. A text that is no table is answered by its refusal.
+// The program `draw`: the text of a table from standard input, and to standard output a graph for Graphviz: a node for
+// each state with its weights, an edge for each arc with its labels and its weight. A text that is no table is answered
+// by its refusal.
 mod graph;
 
 use crate::graph::draw_text;

@@ -1,4 +1,5 @@
--- The auto-intersection as a step: what it asks for is what the search asks for, and the answer of the search is the step's.
+-- The auto-intersection as a step: what it asks for is what the search asks for, and the answer of the search is the
+-- step's.
 use Prim.Native.Nat.{ℕ, _/_}
 use mathlib.Core.Path.{_≡_, sym, ap, _∙_}
 use mathlib.Core.List.{List}

@@ -25,8 +25,14 @@ pub fn reach(
     out_arcs: &mut [u8],
     work: &mut [u8],
 ) -> TableAnswer
-    requires { ⌜ Explorable plan (now states) (now arcs) (length (now work)) × Divides (length (now «out_states») / stateSize) (length (now «out_arcs») / arcSize) (plan .counts .states) (length (now work)) (plan .room) ⌝ }
-    ensures { λ r. ⌜ madeOf (tableAs r) (now («out_states» .exit)) (now («out_arcs» .exit)) ≡ put (tableBy (lent (plan .counts) (now (states .entry)) (now (arcs .entry))) (pairsIn plan) (viableIn plan (now (states .entry)) (now (arcs .entry))) (spaceOf (slicesOf (now («out_states» .entry)) (now («out_arcs» .entry))))) (slicesOf (now («out_states» .entry)) (now («out_arcs» .entry))) ⌝ }
+    requires { ⌜ Explorable plan (now states) (now arcs) (length (now work))
+        × Divides (length (now «out_states») / stateSize) (length (now «out_arcs») / arcSize) (plan .counts .states)
+        (length (now work)) (plan .room) ⌝ }
+    ensures { λ r. ⌜ madeOf (tableAs r) (now («out_states» .exit)) (now («out_arcs» .exit))
+        ≡ put (tableBy (lent (plan .counts) (now (states .entry)) (now (arcs .entry))) (pairsIn plan)
+        (viableIn plan (now (states .entry)) (now (arcs .entry)))
+        (spaceOf (slicesOf (now («out_states» .entry)) (now («out_arcs» .entry)))))
+        (slicesOf (now («out_states» .entry)) (now («out_arcs» .entry))) ⌝ }
 {
     let head = explore(plan, states, arcs, work);
     answer_search(plan, head, states, arcs, work, out_states, out_arcs)
@@ -42,8 +48,11 @@ pub fn intersect_step(
     out_arcs: &mut [u8],
     work: &mut [u8],
 ) -> TableAnswer
-    requires { ⌜ Intersectable (lent (plan .counts) (now states) (now arcs)) (plan .pairs) (plan .room) (length (now «out_states»)) (length (now «out_arcs»)) (length (now work)) ⌝ }
-    ensures { λ r. ⌜ madeOf (tableAs r) (now («out_states» .exit)) (now («out_arcs» .exit)) ≡ intersectStep (lent (plan .counts) (now (states .entry)) (now (arcs .entry))) (pairsAs (plan .pairs)) (slicesOf (now («out_states» .entry)) (now («out_arcs» .entry))) ⌝ }
+    requires { ⌜ Intersectable (lent (plan .counts) (now states) (now arcs)) (plan .pairs) (plan .room)
+        (length (now «out_states»)) (length (now «out_arcs»)) (length (now work)) ⌝ }
+    ensures { λ r. ⌜ madeOf (tableAs r) (now («out_states» .exit)) (now («out_arcs» .exit))
+        ≡ intersectStep (lent (plan .counts) (now (states .entry)) (now (arcs .entry))) (pairsAs (plan .pairs))
+        (slicesOf (now («out_states» .entry)) (now («out_arcs» .entry))) ⌝ }
 {
     reach(plan, states, arcs, out_states, out_arcs, work)
 }

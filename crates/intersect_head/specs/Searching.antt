@@ -82,7 +82,8 @@ pub record Holds (p : Plan) (states arcs : List ℕ) (h : Head) (s : ConfigSearc
   pub not-full : h .full ≡ false
   pub stored : All (StoredIn p) (s .vertices)
 
--- the head r and the work space w hold the search s, or the configurations are full and s has more of them than there is room for
+-- the head r and the work space w hold the search s, or the configurations are full and s has more of them than there
+-- is room for
 abbrev pub Comes : Plan → List ℕ → List ℕ → Head → ConfigSearch → Bool → List ℕ → Type 0
 Comes p states arcs r s l w = search-comes.Comes (r .full) (Holds p states arcs r s l w) (p .room .states < length (s .vertices))
 

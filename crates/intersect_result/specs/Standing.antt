@@ -36,7 +36,8 @@ pub record Laid (room : Room) (h : Head) (states w : List ℕ) : Type 0 where
   pub within : Within (length states) (rows 0 configSize (h .reached) w)
   pub joined : Joined (h .reached) (edgesAt (room .edges) (h .arcs) w)
 
--- the rows from which a final one is reached are marked, ranks has the number of marked ones before each, and kept is how many they are
+-- the rows from which a final one is reached are marked, ranks has the number of marked ones before each, and kept is
+-- how many they are
 pub record Kept (room : Room) (h : Head) (states w marks ranks : List ℕ) (kept : ℕ) : Type 0 where
   pub marked : bools (take (h .reached) marks)
       ≡ coaccessible (recordGraph (edgesAt (room .edges) (h .arcs) w)) (bools (map (finalByte states) (rows 0 configSize (h .reached) w)))

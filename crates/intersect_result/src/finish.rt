@@ -24,8 +24,11 @@ fn finish(
     out_states: &mut [u8],
     out_arcs: &mut [u8],
 ) -> TableAnswer
-    requires { ⌜ Finishable plan head (now states) (now arcs) (now work) (length (now «out_states»)) (length (now «out_arcs»)) ⌝ }
-    ensures { λ r. ⌜ Finished plan head (now (states .entry)) (now (arcs .entry)) (now (work .entry)) (madeOf (tableAs r) (now («out_states» .exit)) (now («out_arcs» .exit))) (slicesOf (now («out_states» .entry)) (now («out_arcs» .entry))) ⌝ }
+    requires { ⌜ Finishable plan head (now states) (now arcs) (now work) (length (now «out_states»))
+        (length (now «out_arcs»)) ⌝ }
+    ensures { λ r. ⌜ Finished plan head (now (states .entry)) (now (arcs .entry)) (now (work .entry))
+        (madeOf (tableAs r) (now («out_states» .exit)) (now («out_arcs» .exit)))
+        (slicesOf (now («out_states» .entry)) (now («out_arcs» .entry))) ⌝ }
 {
     let mut marks = [0u8; 1024];
     let mut ranks = [0u16; 1024];
@@ -40,7 +43,8 @@ fn finish(
     })
 }
 
-// The answer: more configurations than there is room for (8), more arcs (9), a step that is too long (10), or the result.
+// The answer: more configurations than there is room for (8), more arcs (9), a step that is too long (10), or the
+// result.
 pub fn answer_search(
     plan: Plan,
     head: Head,
@@ -50,8 +54,11 @@ pub fn answer_search(
     out_states: &mut [u8],
     out_arcs: &mut [u8],
 ) -> TableAnswer
-    requires { ⌜ Answerable plan head (now states) (now arcs) (now work) (length (now «out_states»)) (length (now «out_arcs»)) ⌝ }
-    ensures { λ r. ⌜ Answers plan head (now (states .entry)) (now (arcs .entry)) (now (work .entry)) (madeOf (tableAs r) (now («out_states» .exit)) (now («out_arcs» .exit))) (slicesOf (now («out_states» .entry)) (now («out_arcs» .entry))) ⌝ }
+    requires { ⌜ Answerable plan head (now states) (now arcs) (now work) (length (now «out_states»))
+        (length (now «out_arcs»)) ⌝ }
+    ensures { λ r. ⌜ Answers plan head (now (states .entry)) (now (arcs .entry)) (now (work .entry))
+        (madeOf (tableAs r) (now («out_states» .exit)) (now («out_arcs» .exit)))
+        (slicesOf (now («out_states» .entry)) (now («out_arcs» .entry))) ⌝ }
 {
     if head.full {
         return TableAnswer::Refused(Refusal::StatesFull);

@@ -8,7 +8,8 @@ ghost use Prim.Native.Nat.{_≤_};
 ghost use lib.ListN.{length};
 ghost use Rattle.intersect_result.specs.Standing.{Laid, Kept};
 
-// The marks of the rows from which a final one is reached, and the number of marked rows before each. Answers how many are marked.
+// The marks of the rows from which a final one is reached, and the number of marked rows before each. Answers how many
+// are marked.
 pub fn number_kept(
     room: Room,
     head: Head,
@@ -17,8 +18,10 @@ pub fn number_kept(
     marks: &mut [u8],
     ranks: &mut [u16],
 ) -> usize
-    requires { ⌜ Laid room head (now states) (now work) × (head .reached ≤ length (now marks)) × (head .reached ≤ length (now ranks)) ⌝ }
-    ensures { λ r. ⌜ Kept room head (now (states .entry)) (now (work .entry)) (now (marks .exit)) (now (ranks .exit)) r ⌝ }
+    requires { ⌜ Laid room head (now states) (now work) × (head .reached ≤ length (now marks))
+        × (head .reached ≤ length (now ranks)) ⌝ }
+    ensures { λ r. ⌜ Kept room head (now (states .entry)) (now (work .entry)) (now (marks .exit))
+        (now (ranks .exit)) r ⌝ }
 {
     mark_final(work, head.reached, states, marks);
     mark_coaccessible(work, room.edges, head.arcs, head.reached, marks);

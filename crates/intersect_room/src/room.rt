@@ -44,7 +44,8 @@ pub fn no_room() -> RoomAnswer
     }
 }
 
-// The room in `work` bytes for so many states and arcs lent, and so many states of the table read. No product is made before it is known to fit.
+// The room in `work` bytes for so many states and arcs lent, and so many states of the table read. No product is made
+// before it is known to fit.
 pub fn room_for(states: usize, arcs: usize, read: usize, work: usize) -> RoomAnswer
     ensures { λ r. ⌜ RoomFor states arcs read work r ⌝ }
 {

@@ -29,13 +29,14 @@ abbrev pub inTurn : Answer (Unit {0}) → Answer (Unit {0}) → Bool → Answer 
 inTurn first second narrow pairs enough =
     first >>= λ a. second >>= λ b. require narrow Refusal.width >>= λ w. pairs >>= λ p. require enough Refusal.space
 
--- the answer on the work space: whether it is as long as document 01 calls for (else 13), and then the room of the build,
--- for as many states read as the product's space has
+-- the answer on the work space: whether it is as long as document 01 calls for (else 13), and then the room of the
+-- build, for as many states read as the product's space has
 pub record JoinRoom (product result : Space) (work : ℕ) (r : RoomAnswer) : Type 0 where
   pub enough : r .enough ≡ leb (joinWork product result) work
   pub divides : r .enough ≡ true → Divides (result .states) (result .arcs) (product .states) work (r .room)
 
--- The first refusal is the call's, and where there is none the call goes on to its steps; what then is known of its parts.
+-- The first refusal is the call's, and where there is none the call goes on to its steps; what then is known of its
+-- parts.
 pub record Prepares (a b : Memory) (ps : List TapePair) (product result : Space) (work : ℕ) (listed : PairsJudged) (r : Prepared) : Type 0 where
   pub answer : (w : List ℕ) → length w ≡ work → joinAnswer a b ps product result w
       ≡ (judgedAs (r .judged) >>= λ (u : Unit {0}). joinSteps ℕ-sum weightFits (lentTo product result w) ps (tableOf a) (tableOf b))

@@ -53,7 +53,8 @@ pub struct Prepared {
     pub room: Room,
 }
 
-// The tables, the pairs that were judged, and the work space of so many bytes for a product and a result of so many states and arcs.
+// The tables, the pairs that were judged, and the work space of so many bytes for a product and a result of so many
+// states and arcs.
 pub fn judge_join(
     first: Counts,
     first_states: &[u8],
@@ -68,7 +69,9 @@ pub fn judge_join(
     arcs: usize,
     work: usize,
 ) -> Prepared
-    ensures { λ r. ⌜ PreparesFor (lent first (now («first_states» .entry)) (now («first_arcs» .entry))) (lent second (now («second_states» .entry)) (now («second_arcs» .entry))) listed (lentSpace «product_states» «product_arcs») (lentSpace states arcs) work r ⌝ }
+    ensures { λ r. ⌜ PreparesFor (lent first (now («first_states» .entry)) (now («first_arcs» .entry)))
+        (lent second (now («second_states» .entry)) (now («second_arcs» .entry))) listed
+        (lentSpace «product_states» «product_arcs») (lentSpace states arcs) work r ⌝ }
 {
     let one = judge(first, first_states, first_arcs);
     let two = judge(second, second_states, second_arcs);

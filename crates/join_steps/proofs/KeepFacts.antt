@@ -1,4 +1,5 @@
--- The steps of a join after its product: what is kept is a table of which the second tapes can be dropped, and a refusal ends the steps.
+-- The steps of a join after its product: what is kept is a table of which the second tapes can be dropped, and a
+-- refusal ends the steps.
 use Prim.Native.Nat.{ℕ, _≤_}
 use mathlib.Core.Path.{_≡_, refl, sym, ap, subst, _∙_}
 use mathlib.Core.List.{List}

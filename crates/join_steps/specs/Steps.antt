@@ -28,8 +28,8 @@ pub record Keepable (m : Memory) (pairs : PairList) (room : Room) (forStates for
   pub keeps : Intersectable m pairs room forStates forArcs work
   pub left : 1 ≤ placeAfter (seconds (tapesOf (pairsAs pairs))) (m .tapes)
 
--- two tables, pairs of a tape of the first and one of the second with limits in range, and work space for a product and,
--- divided, for a result in slices of so many bytes
+-- two tables, pairs of a tape of the first and one of the second with limits in range, and work space for a product
+-- and, divided, for a result in slices of so many bytes
 pub record Joinable (a b : Memory) (pairs : PairList) (room : Room) (forProductStates forProductArcs forStates forArcs work : ℕ) : Type 0 where
   pub first : Sound a
   pub second : Sound b

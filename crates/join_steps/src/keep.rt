@@ -20,7 +20,9 @@ ghost use Rattle.join_steps.specs.Steps.{SecondsDroppable, Keepable};
 // The table in `states` and `arcs` without the second tapes of the pairs, where it stands.
 fn drop_seconds(counts: Counts, pairs: PairList, states: &[u8], arcs: &mut [u8]) -> Counts
     requires { ⌜ SecondsDroppable (lent counts (now states) (now arcs)) pairs ⌝ }
-    ensures { λ r. ⌜ madeOf (ok (countsAs r)) (now (states .entry)) (now (arcs .exit)) ≡ dropStep (lent counts (now (states .entry)) (now (arcs .entry))) (seconds (tapesOf (pairsAs pairs))) (slicesOf (now (states .entry)) (now (arcs .entry))) ⌝ }
+    ensures { λ r. ⌜ madeOf (ok (countsAs r)) (now (states .entry)) (now (arcs .exit))
+        ≡ dropStep (lent counts (now (states .entry)) (now (arcs .entry))) (seconds (tapesOf (pairsAs pairs)))
+        (slicesOf (now (states .entry)) (now (arcs .entry))) ⌝ }
 {
     let mask = second_tapes(pairs);
     drop_in_place(counts, mask, states, arcs)
@@ -35,8 +37,12 @@ pub fn keep_firsts(
     out_arcs: &mut [u8],
     work: &mut [u8],
 ) -> TableAnswer
-    requires { ⌜ Keepable (lent (plan .counts) (now states) (now arcs)) (plan .pairs) (plan .room) (length (now «out_states»)) (length (now «out_arcs»)) (length (now work)) ⌝ }
-    ensures { λ r. ⌜ madeOf (tableAs r) (now («out_states» .exit)) (now («out_arcs» .exit)) ≡ andThen (intersectStep (lent (plan .counts) (now (states .entry)) (now (arcs .entry))) (pairsAs (plan .pairs)) (slicesOf (now («out_states» .entry)) (now («out_arcs» .entry)))) (λ K left. dropStep K (seconds (tapesOf (pairsAs (plan .pairs)))) left) ⌝ }
+    requires { ⌜ Keepable (lent (plan .counts) (now states) (now arcs)) (plan .pairs) (plan .room)
+        (length (now «out_states»)) (length (now «out_arcs»)) (length (now work)) ⌝ }
+    ensures { λ r. ⌜ madeOf (tableAs r) (now («out_states» .exit)) (now («out_arcs» .exit))
+        ≡ andThen (intersectStep (lent (plan .counts) (now (states .entry)) (now (arcs .entry))) (pairsAs (plan .pairs))
+        (slicesOf (now («out_states» .entry)) (now («out_arcs» .entry))))
+        (λ K left. dropStep K (seconds (tapesOf (pairsAs (plan .pairs)))) left) ⌝ }
 {
     let answer = intersect_step(plan, states, arcs, out_states, out_arcs, work);
     let TableAnswer::Table(kept) = answer else {

@@ -34,8 +34,14 @@ pub fn join_steps(
     out_arcs: &mut [u8],
     work: &mut [u8],
 ) -> TableAnswer
-    requires { ⌜ Joinable (lent first (now «first_states») (now «first_arcs»)) (lent second (now «second_states») (now «second_arcs»)) pairs room (length (now «product_states»)) (length (now «product_arcs»)) (length (now «out_states»)) (length (now «out_arcs»)) (length (now work)) ⌝ }
-    ensures { λ r. ⌜ madeOf (tableAs r) (now («out_states» .exit)) (now («out_arcs» .exit)) ≡ joinByCalls (tableOf (lent first (now («first_states» .entry)) (now («first_arcs» .entry)))) (tableOf (lent second (now («second_states» .entry)) (now («second_arcs» .entry)))) (pairsAs pairs) (slicesOf (now («product_states» .entry)) (now («product_arcs» .entry))) (slicesOf (now («out_states» .entry)) (now («out_arcs» .entry))) ⌝ }
+    requires { ⌜ Joinable (lent first (now «first_states») (now «first_arcs»))
+        (lent second (now «second_states») (now «second_arcs»)) pairs room (length (now «product_states»))
+        (length (now «product_arcs»)) (length (now «out_states»)) (length (now «out_arcs»)) (length (now work)) ⌝ }
+    ensures { λ r. ⌜ madeOf (tableAs r) (now («out_states» .exit)) (now («out_arcs» .exit))
+        ≡ joinByCalls (tableOf (lent first (now («first_states» .entry)) (now («first_arcs» .entry))))
+        (tableOf (lent second (now («second_states» .entry)) (now («second_arcs» .entry)))) (pairsAs pairs)
+        (slicesOf (now («product_states» .entry)) (now («product_arcs» .entry)))
+        (slicesOf (now («out_states» .entry)) (now («out_arcs» .entry))) ⌝ }
 {
     let answer = product_step(
         first,

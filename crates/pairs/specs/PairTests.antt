@@ -21,14 +21,14 @@ tests inside once fit = judge inside Refusal.tape (judge once Refusal.pairs (jud
 abbrev pub sidesOnce : List Pair → Bool
 sidesOnce ps = and (distinct (map (λ p. p .first) ps)) (distinct (map (λ p. p .second) ps))
 
--- For the auto-intersection of a table: a tape that it lacks (5), more than four pairs or a tape named twice (6), a limit
--- above 64 (7).
+-- For the auto-intersection of a table: a tape that it lacks (5), more than four pairs or a tape named twice (6), a
+-- limit above 64 (7).
 unfoldable pub pairsAnswer : ℕ → List TapePair → Answer (Unit {0})
 pairsAnswer tapes ps =
     tests (all (isTape tapes) (named (tapesOf ps))) (and (leb (length ps) maxPairs) (distinct (named (tapesOf ps)))) (limitsFit ps)
 
--- For a join: a first tape that the first table lacks or a second tape that the second lacks (5), more than four pairs or
--- a tape twice on one side (6), a limit above 64 (7).
+-- For a join: a first tape that the first table lacks or a second tape that the second lacks (5), more than four pairs
+-- or a tape twice on one side (6), a limit above 64 (7).
 unfoldable pub joinPairsAnswer : ℕ → ℕ → List TapePair → Answer (Unit {0})
 joinPairsAnswer n m ps = tests (within n m (tapesOf ps)) (separate (tapesOf ps)) (limitsFit ps)
 

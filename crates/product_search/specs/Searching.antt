@@ -74,7 +74,8 @@ Exceeds p r s = (p .states < length (s .vertices)) ⊎ ((p .limit < r .arcs) × 
 abbrev pub Comes : Plan → Automaton ℕ → Automaton ℕ → Head → VertexSearch → List ℕ → Type 0
 Comes p A B r s w = search-comes.Comes (r .full) (Holds p A B r s w) (Exceeds p r s)
 
--- From the head h and the work space v to r and w the steps xs out of the state c that is taken up were noted, whatever search was held.
+-- From the head h and the work space v to r and w the steps xs out of the state c that is taken up were noted, whatever
+-- search was held.
 abbrev pub Notes : Plan → Automaton ℕ → Automaton ℕ → automata.Vertex → List Step → Head → List ℕ → Head → List ℕ → Type 0
 Notes p A B c xs h v r w = (s : VertexSearch) → Comes p A B h s v → getElem? (s .vertices) (h .taken) ≡ some c
     → Comes p A B r (noteAll sameVertex (h .taken) s xs) w
@@ -115,8 +116,8 @@ onSecond F x r = (F (r .0), (x, some (r .1)))
 abbrev pub onFirst : (Content ℕ → Content ℕ) → Content ℕ × ℕ → Step
 onFirst F s = (F (s .0), (some (s .1), none))
 
--- The arcs in these bytes are those of the second side, and with the arc of number i of the first side, which leads to the place x, carry
--- what F tells.
+-- The arcs in these bytes are those of the second side, and with the arc of number i of the first side, which leads to
+-- the place x, carry what F tells.
 pub record BySecond (p : Plan) (arcs : List ℕ) (c : Vertex) (i to : ℕ) (A B : Automaton ℕ) (b : automata.Vertex) (F : Content ℕ → Content ℕ) (x : Option ℕ) : Type 0 where
   pub reads : ReadsArcs (p .second) arcs B
   pub few : length (A .states) ≤ 1024

@@ -1,7 +1,7 @@
--- `pairs_records::judge_records` meets its contract: a walk of its MIR, by hand. `all_records_within` looks at the whole
--- list, `read_records` gives its first four pairs by value, and `decide_keep` decides the tests. All that the proof
--- knows of the three is that they meet their contracts. The slice reference is Copy: what it owns is had twice before
--- each of the first two calls, one copy goes to the callee, beside the lifetime's token, which comes back.
+-- `pairs_records::judge_records` meets its contract: a walk of its MIR, by hand. `all_records_within` looks at the
+-- whole list, `read_records` gives its first four pairs by value, and `decide_keep` decides the tests. All that the
+-- proof knows of the three is that they meet their contracts. The slice reference is Copy: what it owns is had twice
+-- before each of the first two calls, one copy goes to the callee, beside the lifetime's token, which comes back.
 -- Assumes nothing.
 use mathlib.Core.Path.{_≡_, refl}
 use mathlib.Core.Bool.{Bool}
