@@ -1,5 +1,6 @@
-// The program `agree`: the pair line and the table from standard input, the table of the accounts that agree, or the refusal, to standard
-// output. All that matters is `agree_text`; one byte more than the longest input is read, so that a longer one is known.
+// The program `agree`: the pair line and the table from standard input, the table of the accounts that agree, or the
+// refusal, to standard output. All that matters is `agree_text`; one byte more than the longest input is read, so that
+// a longer one is known.
 use agree_text::agree_text;
 
 // Room for an input and for one byte more.

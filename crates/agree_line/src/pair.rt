@@ -78,7 +78,8 @@ fn store_pair(columns: &[u8], pairs: &mut [u8], at: usize)
 // The bytes of so many pairs.
 pub fn store_pairs(columns: &[u8], count: usize, pairs: &mut [u8])
     requires { ⌜ (count * 9 ≤ length (now columns)) × (count * 3 ≤ length (now pairs)) ⌝ }
-    ensures { λ _. ⌜ now (pairs .exit) ≡ splice 0 (recoded bytesOfColumns 9 count (now (columns .entry))) (now (pairs .entry)) ⌝ }
+    ensures { λ _. ⌜ now (pairs .exit) ≡ splice 0 (recoded bytesOfColumns 9 count (now (columns .entry)))
+        (now (pairs .entry)) ⌝ }
 {
     let mut left = count;
     let mut at = 0;

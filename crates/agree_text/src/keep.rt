@@ -18,7 +18,8 @@ ghost use Rattle.agree_text.specs.Wrote.{Wrote};
 // The text of a table in the space that the program lends, or the line of its refusal.
 pub fn print_table(counts: Counts, states: &[u8], arcs: &[u8], output: &mut [u8]) -> usize
     requires { ⌜ ((length (now states) ≤ 640) × (length (now arcs) ≤ 40960)) × (50000 ≤ length (now output)) ⌝ }
-    ensures { λ n. ⌜ Wrote (writeOutput (decodeTable (lent counts (now (states .entry)) (now (arcs .entry))))) (now (output .entry)) (now (output .exit)) n ⌝ }
+    ensures { λ n. ⌜ Wrote (writeOutput (decodeTable (lent counts (now (states .entry)) (now (arcs .entry)))))
+        (now (output .entry)) (now (output .exit)) n ⌝ }
 {
     let written = write(counts, states, arcs, output);
     match written {
@@ -30,7 +31,8 @@ pub fn print_table(counts: Counts, states: &[u8], arcs: &[u8], output: &mut [u8]
 // The text of what is kept of a table in the space that the program lends.
 fn keep_table(counts: Counts, states: &[u8], arcs: &[u8], pairs: &[u8], output: &mut [u8]) -> usize
     requires { ⌜ (length (now states) ≤ 640) × (50000 ≤ length (now output)) ⌝ }
-    ensures { λ n. ⌜ Wrote (writeOutput (keptOf (lent counts (now (states .entry)) (now (arcs .entry))) (pairsOf (now (pairs .entry))))) (now (output .entry)) (now (output .exit)) n ⌝ }
+    ensures { λ n. ⌜ Wrote (writeOutput (keptOf (lent counts (now (states .entry)) (now (arcs .entry)))
+        (pairsOf (now (pairs .entry))))) (now (output .entry)) (now (output .exit)) n ⌝ }
 {
     let mut kept_states = [0u8; 640];
     let mut kept_arcs = [0u8; 40960];
@@ -53,7 +55,8 @@ fn keep_table(counts: Counts, states: &[u8], arcs: &[u8], pairs: &[u8], output: 
 // The text of what is kept of the table that a text describes.
 pub fn keep_text(text: &[u8], pairs: &[u8], output: &mut [u8]) -> usize
     requires { ⌜ 50000 ≤ length (now output) ⌝ }
-    ensures { λ n. ⌜ Wrote (writeOutput (keptText (now (text .entry)) (pairsOf (now (pairs .entry))))) (now (output .entry)) (now (output .exit)) n ⌝ }
+    ensures { λ n. ⌜ Wrote (writeOutput (keptText (now (text .entry)) (pairsOf (now (pairs .entry)))))
+        (now (output .entry)) (now (output .exit)) n ⌝ }
 {
     let mut states = [0u8; 640];
     let mut arcs = [0u8; 40960];

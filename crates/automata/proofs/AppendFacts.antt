@@ -1,4 +1,5 @@
--- Lists joined: what tests, filters and numbers make of them; a list and one element more; a list that begins with another.
+-- Lists joined: what tests, filters and numbers make of them; a list and one element more; a list that begins with
+-- another.
 use mathlib.Core.Path.{_≡_, refl, sym, _∙_, ap}
 use mathlib.Core.Bool.{Bool, true, false}
 use mathlib.Core.Option.{Option, none, some}

@@ -1,4 +1,5 @@
--- The auto-intersection as it is computed: the steps out of a configuration arc by arc, and the result by the marks of the configurations.
+-- The auto-intersection as it is computed: the steps out of a configuration arc by arc, and the result by the marks of
+-- the configurations.
 use mathlib.Core.Path.{_≡_, refl, sym, _∙_, ap}
 use mathlib.Core.Bool.{Bool, true, false, not}
 use mathlib.Core.Option.{Option, none, some, Option·map}

@@ -1,4 +1,5 @@
--- The edges between the vertices that trimming keeps are the edges between marked vertices, by their places among those kept.
+-- The edges between the vertices that trimming keeps are the edges between marked vertices, by their places among those
+-- kept.
 use mathlib.Core.Path.{_≡_, refl, sym, _∙_, ap, subst}
 use mathlib.Core.Bool.{Bool, true, false}
 use mathlib.Core.Option.{none, some}

@@ -1,4 +1,5 @@
--- A table in memory: it is read just where it stands there, the bytes past its records do not matter, and where its fields stand.
+-- A table in memory: it is read just where it stands there, the bytes past its records do not matter, and where its
+-- fields stand.
 use mathlib.Core.Path.{_≡_, refl, sym, ap, subst, _∙_}
 use mathlib.Core.Bool.{Bool, true, false}
 use mathlib.Core.Option.{Option, none, some}

@@ -1,5 +1,5 @@
--- Exploration one step at a time comes to the exploration of Explore: what each step leaves, what is found when all vertices have been taken up, and
--- when there are too many.
+-- Exploration one step at a time comes to the exploration of Explore: what each step leaves, what is found when all
+-- vertices have been taken up, and when there are too many.
 use mathlib.Core.Path.{_≡_, refl, sym, _∙_, ap, subst}
 use mathlib.Core.Logic.{inl, inr}
 use mathlib.Core.Bool.{Bool, true, false}

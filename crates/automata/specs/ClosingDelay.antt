@@ -1,5 +1,5 @@
--- Closing delays as document 01 defines them, the least and the greatest delay over the runs to a final weight, and the viable configurations
--- by its condition d + least ≤ 0 ≤ d + greatest. Closing has the test that computes them.
+-- Closing delays as document 01 defines them, the least and the greatest delay over the runs to a final weight, and the
+-- viable configurations by its condition d + least ≤ 0 ≤ d + greatest. Closing has the test that computes them.
 use mathlib.Core.Path.{_≡_}
 use mathlib.Core.Logic.{_⊎_}
 use mathlib.Core.List.{List}
@@ -18,8 +18,8 @@ module _ {W : Type 0} where
   abbrev pub delay : ℕ → ℕ → List (Arc W) → ℤ
   delay i j es = subℕ (lengthOn i es) (lengthOn j es)
 
-  -- The closing delays of state q on the tapes i and j: m is the least, or the greatest, delay of the runs that close; or there are delays
-  -- below, or above, every bound.
+  -- The closing delays of state q on the tapes i and j: m is the least, or the greatest, delay of the runs that close;
+  -- or there are delays below, or above, every bound.
   module _ (A : Automaton W) (i j q : ℕ) where
     pub record IsLeast (m : ℤ) : Type 0 where
       pub attained : (es : List (Arc W)) × Closes A q es × (delay i j es ≡ m)
@@ -50,7 +50,8 @@ module _ {W : Type 0} where
     pub low : LeastAllows A (p .first - 1) (p .second - 1) q (subℕ (length (l .first)) (length (l .second)))
     pub high : GreatestAllows A (p .first - 1) (p .second - 1) q (subℕ (length (l .first)) (length (l .second)))
 
-  -- The configuration is viable (document 01: hopeful): a path leads to a final weight, and on every pair the closing delays admit its delay.
+  -- The configuration is viable (document 01: hopeful): a path leads to a final weight, and on every pair the closing
+  -- delays admit its delay.
   pub record ViableByDelays (A : Automaton W) (ps : List TapePair) (c : Config) : Type 0 where
     pub closes : (es : List (Arc W)) × Closes A (c .state) es
     pub each : EachPair ps (c .leftovers) (DelaysAdmit A (c .state))

@@ -46,16 +46,16 @@ module _ {W : Type 0} where
       let rest = greatestDelay marks i j es in
       if (and (getD marks (a .source) false) (getD marks (a .target) false)) (max (arcDelay i j a) rest) rest
 
-  -- the delay that a pair can need: (states on successful paths less one, or 0) × the greatest size of an arc's delay on
-  -- them
+  -- the delay that a pair can need: (states on successful paths less one, or 0) × the greatest size of an arc's delay
+  -- on them
   unfoldable pub neededDelay : Automaton W → TapePair → ℕ
   neededDelay A p = (pathStates A - 1) * greatestDelay (onPaths A) (p .first - 1) (p .second - 1) (A .arcs)
 
 -- ---- cycles of both signs
 
 -- Some walk from an initial state comes to state q by a cycle of positive delay, and some walk from q comes to a final
--- state by one of negative delay, or the other way round: of the closing delays of q in the reversal and of those in the
--- automaton, opposite ones are endless.
+-- state by one of negative delay, or the other way round: of the closing delays of q in the reversal and of those in
+-- the automaton, opposite ones are endless.
 abbrev pub meetsBoth : Closing → Closing → ℕ → Bool
 meetsBoth before after q =
     or (and (eqb (getD (before .opposite) q missing) endless) (eqb (getD (after .least) q missing) endless))

@@ -55,8 +55,8 @@ vertexSize = 16
 abbrev pub delaysSize : ℕ
 delaysSize = 64
 
--- of each pair its least delay and, behind it, that of the pair turned round; behind those of four pairs, whether a final
--- state is reached
+-- of each pair its least delay and, behind it, that of the pair turned round; behind those of four pairs, whether a
+-- final state is reached
 abbrev pub pairDelays : ℕ
 pairDelays = 8
 
@@ -102,7 +102,8 @@ stateEnd = 20
 abbrev pub stateWidth : ℕ
 stateWidth = 21
 
--- the line of an arc: source, target, weight, the labels, and the line's end, which is counted with what is before the labels
+-- the line of an arc: source, target, weight, the labels, and the line's end, which is counted with what is before the
+-- labels
 abbrev pub weightColumn : ℕ
 weightColumn = 12
 

@@ -1,5 +1,5 @@
--- The steps out of a configuration arc by arc: what each arc of the source offers it, and what the first arcs offer together. What all of them
--- offer is Intersect's `out`, and its steps that are too long (proofs/IntersectSteps).
+-- The steps out of a configuration arc by arc: what each arc of the source offers it, and what the first arcs offer
+-- together. What all of them offer is Intersect's `out`, and its steps that are too long (proofs/IntersectSteps).
 use mathlib.Core.Bool.{Bool, true, false}
 use mathlib.Core.Option.{Option, none, some, Option·map}
 use mathlib.Core.List.{List}

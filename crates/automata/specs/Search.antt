@@ -1,5 +1,5 @@
--- Exploration one step at a time: the vertices found so far, and the edges out of those that were taken up. What it comes to is the
--- exploration of Explore and the edges between its vertices (proofs/SearchFacts).
+-- Exploration one step at a time: the vertices found so far, and the edges out of those that were taken up. What it
+-- comes to is the exploration of Explore and the edges between its vertices (proofs/SearchFacts).
 use mathlib.Core.Bool.{Bool}
 use mathlib.Core.Option.{none, some}
 use mathlib.Core.List.{List, [], _∷_, _++_}

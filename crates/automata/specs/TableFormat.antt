@@ -1,5 +1,5 @@
--- How the parts of a table are put together, in text and in memory alike. Each format is given how a number, a weight or the labels of an
--- arc are written.
+-- How the parts of a table are put together, in text and in memory alike. Each format is given how a number, a weight
+-- or the labels of an arc are written.
 use mathlib.Core.Option.{Option}
 use mathlib.Core.List.{List}
 use Prim.Native.Nat.{ℕ}

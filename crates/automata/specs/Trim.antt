@@ -1,4 +1,5 @@
--- Trimming: of the explored vertices those from which a final one is reached within them; and the edges that are left between them.
+-- Trimming: of the explored vertices those from which a final one is reached within them; and the edges that are left
+-- between them.
 use mathlib.Core.Path.{_≡_}
 use mathlib.Core.Bool.{Bool, true, false}
 use mathlib.Core.List.{List, [], _∷_, map}

@@ -1,5 +1,5 @@
-// The closing delays of two large tables, 1,024 states and some 8,190 arcs each, on four pairs in both directions: a program to time.
-// It prints the delays of state 0 on the first pair, and on it turned round.
+// The closing delays of two large tables, 1,024 states and some 8,190 arcs each, on four pairs in both directions: a
+// program to time. It prints the delays of state 0 on the first pair, and on it turned round.
 use delays_relaxation::edge_at;
 use delays_relaxation::least_delays;
 use delays_relaxation::listing::list_arcs;

@@ -1,5 +1,5 @@
-// A build of 1,000 configurations and 7,992 arcs, or, where standard input begins with h, of half the size: a program to time. It prints the
-// counts of the table that was built.
+// A build of 1,000 configurations and 7,992 arcs, or, where standard input begins with h, of half the size: a program
+// to time. It prints the counts of the table that was built.
 use intersect::call::intersect;
 use table::answer::Counts;
 use table::answer::TableAnswer;

@@ -1,7 +1,8 @@
-// The form of an input. A case is a line that begins with the byte >, and holds numbers; a capital letter on it counts as a number too, that
-// of its byte; all other bytes of the line are for the reader alone. A string stands between {, with the byte 10 behind it, and }. The string of a
-// table has a capital letter for a name, which stands before the {, with a blank between. Anything else is a comment: a line of one begins with the
-// byte #. No string and no comment holds one of the bytes >, { and }.
+// The form of an input. A case is a line that begins with the byte >, and holds numbers; a capital letter on it counts
+// as a number too, that of its byte; all other bytes of the line are for the reader alone. A string stands between {,
+// with the byte 10 behind it, and }. The string of a table has a capital letter for a name, which stands before the {,
+// with a blank between. Anything else is a comment: a line of one begins with the byte #. No string and no comment
+// holds one of the bytes >, { and }.
 use table::answer::Counts;
 use table::answer::TableAnswer;
 use table::layout::ARC_SIZE;
@@ -179,8 +180,8 @@ pub fn least(a: usize, b: usize) -> usize
     if a < b { a } else { b }
 }
 
-// How many bytes so many records of states or of arcs take, by their size; where `size` is neither, the number itself. A
-// million and more stay as they are.
+// How many bytes so many records of states or of arcs take, by their size; where `size` is neither, the number itself.
+// A million and more stay as they are.
 pub fn bytes_of(n: usize, size: usize) -> usize {
     if 1000000 <= n {
         return n;
@@ -208,7 +209,8 @@ pub fn read_string(input: &[u8], from: usize, states: &mut [u8], arcs: &mut [u8]
     text::read(&input[start..end], states, arcs)
 }
 
-// The counts of the table whose name stands at a place of a line, in lent space; no states and no tapes where its string is not a table.
+// The counts of the table whose name stands at a place of a line, in lent space; no states and no tapes where its
+// string is not a table.
 pub fn table(input: &[u8], at: usize, place: usize, states: &mut [u8], arcs: &mut [u8]) -> Counts {
     let from = named(input, number(input, at, place));
     match read_string(input, from, states, arcs) {

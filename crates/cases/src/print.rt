@@ -107,7 +107,8 @@ pub fn print_made(answer: TableAnswer, states: &[u8], arcs: &[u8]) {
     }
 }
 
-// The answer, of a refusal whether the result space kept its bytes, whether so many bytes of work are clear, and the table that was made.
+// The answer, of a refusal whether the result space kept its bytes, whether so many bytes of work are clear, and the
+// table that was made.
 pub fn print_result(answer: TableAnswer, states: &[u8], arcs: &[u8], work: &[u8], n: usize) {
     print_answer(answer);
     print_refused_kept(answer, states, arcs);

@@ -1,6 +1,6 @@
-// Prints the closing delays of small tables: of each state the least delay, the least of the pair turned round (which is the greatest,
-// negated), and whether a final state is reached. Each is worked out by hand beside its table; a delay is the number of symbols that a
-// path to a final state spells on the pair's first tape, less that on its second.
+// Prints the closing delays of small tables: of each state the least delay, the least of the pair turned round (which
+// is the greatest, negated), and whether a final state is reached. Each is worked out by hand beside its table; a delay
+// is the number of symbols that a path to a final state spells on the pair's first tape, less that on its second.
 use delays::closing_tables;
 use table::answer::Counts;
 use table::bytes::copy_into;
@@ -117,8 +117,8 @@ fn print_states(work: &[u8], states: usize)
     }
 }
 
-// The closing delays of a table of at most four states and four arcs: its tapes, states and arcs, which states are final, its arcs
-// (zeros past their number), and the two tapes.
+// The closing delays of a table of at most four states and four arcs: its tapes, states and arcs, which states are
+// final, its arcs (zeros past their number), and the two tapes.
 fn show(
     name: &[u8],
     size: [usize; 3],
@@ -129,7 +129,8 @@ fn show(
     d: [u8; 5],
     tapes: [u8; 2],
 )
-    requires { ⌜ (countsOf size .states ≤ 4) × Sound (lent (countsOf size) (stateBytes finals) (arcsBytes a b c d)) × Named (countsOf size .tapes) (only tapes) ⌝ }
+    requires { ⌜ (countsOf size .states ≤ 4) × Sound (lent (countsOf size) (stateBytes finals) (arcsBytes a b c d))
+        × Named (countsOf size .tapes) (only tapes) ⌝ }
 {
     let states = state_records(finals);
     let mut arcs = [0u8; FOUR_ARCS];
@@ -159,8 +160,8 @@ fn show(
 
 // The tables P and Q of document 01.
 fn tables_p_q() {
-    // P: from 2 nothing is left to spell. From 1 the loop adds 1 - 1 and the last arc 0 - 1, so -1 on every path. From 0 the first arc
-    // adds 1.
+    // P: from 2 nothing is left to spell. From 1 the loop adds 1 - 1 and the last arc 0 - 1, so -1 on every path. From
+    // 0 the first arc adds 1.
     show(
         b"P\n",
         [3, 3, 3],
@@ -186,7 +187,8 @@ fn tables_p_q() {
 
 // The tables R and S of document 01.
 fn tables_r_s() {
-    // R: from 1 the loop takes 1 off each time: no least, and 0 is the greatest. From 0 its own loop adds 1 each time: neither.
+    // R: from 1 the loop takes 1 off each time: no least, and 0 is the greatest. From 0 its own loop adds 1 each time:
+    // neither.
     show(
         b"R\n",
         [2, 2, 3],

@@ -53,8 +53,8 @@ fn nine_where(holds: bool) -> usize {
     if holds { 9 } else { 1 }
 }
 
-// The table of the name X, damaged in one of four ways, or not (0): 1 has its last state record cut by a byte, 2 has a presence mark 2, 3 has nine
-// tapes, 4 has an arc to a state that is not there.
+// The table of the name X, damaged in one of four ways, or not (0): 1 has its last state record cut by a byte, 2 has a
+// presence mark 2, 3 has nine tapes, 4 has an arc to a state that is not there.
 fn damaged(input: &[u8], damage: usize, states: &mut [u8], arcs: &mut [u8]) -> Counts {
     read_string(input, named(input, b'X' as usize), states, arcs);
     put(states, 0, two_where(damage == 2));

@@ -62,7 +62,8 @@ fn weigh_steps(input: &[u8], at: usize) {
     look(input, at, drop_of(input, at, kept), true);
 }
 
-// Of a union of two parts joined to another table: in the join of the union, in the joins of its parts, and in the union of these.
+// Of a union of two parts joined to another table: in the join of the union, in the joins of its parts, and in the
+// union of these.
 fn weigh_parts(input: &[u8], at: usize) {
     let one = join_parts(input, at, 0);
     let other = join_parts(input, at, 1);

@@ -226,7 +226,8 @@ pub fn drop_of(input: &[u8], at: usize, t: Table) -> Table {
     }
 }
 
-// The table at a place of the first line: itself (`part` is 0), or, where it is the first part of a union, the other part (1) or the union (2).
+// The table at a place of the first line: itself (`part` is 0), or, where it is the first part of a union, the other
+// part (1) or the union (2).
 fn operand(input: &[u8], at: usize, place: usize, part: u8) -> Table {
     let line = line_after(input, at);
     if part == 0 || number(input, line, 1) != place {

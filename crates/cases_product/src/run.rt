@@ -24,8 +24,8 @@ struct Made {
     work: [u8; 640],
 }
 
-// The counts of a table: of one that the line names, which is read into lent space; or, where the letter that comes first on the line is D, of one
-// state and no arc in the bytes as they are, with the tapes that the line says.
+// The counts of a table: of one that the line names, which is read into lent space; or, where the letter that comes
+// first on the line is D, of one state and no arc in the bytes as they are, with the tapes that the line says.
 fn read_operand(
     input: &[u8],
     at: usize,

@@ -1,5 +1,5 @@
-// Judges tables in memory, one of each kind of fault, and prints a line for each: the number of the case and of the answer, 0 where
-// the table is accepted. What is expected, worked out from document 01, stands beside each case.
+// Judges tables in memory, one of each kind of fault, and prints a line for each: the number of the case and of the
+// answer, 0 where the table is accepted. What is expected, worked out from document 01, stands beside each case.
 mod sample;
 
 use sample::changed_arcs;

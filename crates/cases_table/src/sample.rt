@@ -1,7 +1,7 @@
 // A small table in memory, as it stands and with bytes changed.
 
-// Two states: initial weight 5 and no final one; no initial one and final weight 999,999,999. Behind them stand bytes that are no part
-// of the table.
+// Two states: initial weight 5 and no final one; no initial one and final weight 999,999,999. Behind them stand bytes
+// that are no part of the table.
 const STATES: [u8; 30] = [
     1,
     5,
@@ -35,8 +35,8 @@ const STATES: [u8; 30] = [
     255,
 ];
 
-// Two arcs on two tapes: 0 to 1 with weight 7 and the labels AZ and none; 1 to 1 with weight 0 and the labels ABCDEF09 and 9. Behind
-// them stand bytes that are no part of the table.
+// Two arcs on two tapes: 0 to 1 with weight 7 and the labels AZ and none; 1 to 1 with weight 0 and the labels ABCDEF09
+// and 9. Behind them stand bytes that are no part of the table.
 const ARCS: [u8; 170] = [
     0,
     0,

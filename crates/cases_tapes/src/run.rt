@@ -15,8 +15,8 @@ use tapes::drop::drop_tapes;
 use tapes::project::project;
 use tapes::union::union;
 
-// Damage to the first byte of records, where the number at a place of the line is 1: of a state the flag of a weight, of an arc the number of its
-// source.
+// Damage to the first byte of records, where the number at a place of the line is 1: of a state the flag of a weight,
+// of an arc the number of its source.
 fn damage(input: &[u8], at: usize, place: usize, bytes: &mut [u8], b: u8) {
     if number(input, at, place) != 1 {
         return;
@@ -27,7 +27,8 @@ fn damage(input: &[u8], at: usize, place: usize, bytes: &mut [u8], b: u8) {
     bytes[0] = b;
 }
 
-// The union of two tables that the line names; the first state of the first table or the first arc of the second may be damaged.
+// The union of two tables that the line names; the first state of the first table or the first arc of the second may be
+// damaged.
 fn union_of(input: &[u8], at: usize, states: &mut [u8], arcs: &mut [u8]) -> TableAnswer {
     let mut one_states = [0u8; 60];
     let mut one_arcs = [0u8; 480];
@@ -49,7 +50,8 @@ fn union_of(input: &[u8], at: usize, states: &mut [u8], arcs: &mut [u8]) -> Tabl
     )
 }
 
-// Tapes of a table chosen or dropped: by a list where the letter that comes first on the line is P, else by a mask. Its first state may be damaged.
+// Tapes of a table chosen or dropped: by a list where the letter that comes first on the line is P, else by a mask. Its
+// first state may be damaged.
 fn tapes_of(input: &[u8], at: usize, states: &mut [u8], arcs: &mut [u8]) -> TableAnswer {
     let mut table_states = [0u8; 60];
     let mut table_arcs = [0u8; 480];
@@ -97,7 +99,8 @@ fn states_alone(states: usize) -> Counts {
     }
 }
 
-// A table of 1,024 states without weights, and behind it so many such states more, with room for 1,026: the answer alone.
+// A table of 1,024 states without weights, and behind it so many such states more, with room for 1,026: the answer
+// alone.
 fn union_of_many(more: usize) {
     let many = [0u8; 10240];
     let mut states = [170u8; 10260];

@@ -19,10 +19,10 @@ use Rattle.automata.proofs.WellFormedFacts.{well-formed}
 use Rattle.automata.proofs.SoundFacts.{sound-well-formed, sound-holds, sound-states-lent, sound-arcs-lent}
 use Rattle.automata.specs.Layout.{arcSize, delaysSize, stateSize, pairDelays, oppositePlace, reachingPlace}
 use Rattle.automata.specs.Limits.{maxTapes}
-use Rattle.delays_relaxation.specs.Column.{column, Frame}
+use Rattle.delays_relaxation.specs.Vector.{vector, Frame}
 use Rattle.delays_relaxation.specs.Edges.{edges, Joined, Readable}
 use Rattle.delays_relaxation.specs.Lowered.{Least, FillsLeast}
-use Rattle.delays_relaxation.proofs.SweepFacts.{frame-column, outside-in}
+use Rattle.delays_relaxation.proofs.SweepFacts.{frame-vector, outside-in}
 use Rattle.delays_relaxation.proofs.TableFacts.{edgeOf, edges-are, joined-are, least-are}
 use Rattle.table.specs.declared.pair.Pair.{Pair}
 use Rattle.table.specs.declared.pair.PairList.{PairList}
@@ -103,10 +103,10 @@ module _ (m : Memory) (s : Sound m) where
       let w = sound-well-formed m s in
       least-of r 0 0 (w .counts .someTape) (w .counts .someTape) zs l ∙ least-held (directed r t) (directed-formed r t (well-formed t w)) 0
 
-  -- the two columns of a pair hold its least delays, and those of it turned round
+  -- the two vectors of a pair hold its least delays, and those of it turned round
   pub pair-closed : (r : Bool) (p : Pair) → Within (m .tapes) p → (at : ℕ) (w : List ℕ) → PairClosed r (m .stateBytes) (m .states) (m .arcBytes) (m .arcs) p at w
-      → (column at (m .states) w ≡ leastDelays (directed r t) (p .first - 1) (p .second - 1))
-      × (column (at + oppositePlace) (m .states) w ≡ leastDelays (directed r t) (p .second - 1) (p .first - 1))
+      → (vector at (m .states) w ≡ leastDelays (directed r t) (p .first - 1) (p .second - 1))
+      × (vector (at + oppositePlace) (m .states) w ≡ leastDelays (directed r t) (p .second - 1) (p .first - 1))
   pair-closed r p i at w c =
       let first : p .first - 1 < t .tapes = omega (arith, i .first-from, i .first-to, tapes-are) in
       let second : p .second - 1 < t .tapes = omega (arith, i .second-from, i .second-to, tapes-are) in
@@ -120,12 +120,12 @@ module _ (m : Memory) (s : Sound m) where
   writes-closing ps base v u w l n room a b =
       let e = a .frame .same-length in
       let k = n .used-fit in
-      let r : column (base + reachingPlace) (m .states) w ≡ column (base + reachingPlace) (m .states) u
-      = frame-column (base + reachingPlace) base reachingPlace (m .states) w u (pairs-frame (m .stateBytes) (m .states) (m .arcBytes) (m .arcs) (ps .pairs) (ps .used) base w u k b)
+      let r : vector (base + reachingPlace) (m .states) w ≡ vector (base + reachingPlace) (m .states) u
+      = frame-vector (base + reachingPlace) base reachingPlace (m .states) w u (pairs-frame (m .stateBytes) (m .states) (m .arcBytes) (m .arcs) (ps .pairs) (ps .used) base w u k b)
       (omega arith) (inl (omega arith, omega arith)) in
       record {
         tables = record {
-          reaching = r ∙ reaching-are false (column (base + reachingPlace) (m .states) u) (a .least);
+          reaching = r ∙ reaching-are false (vector (base + reachingPlace) (m .states) u) (a .least);
           least = λ h c q. let f = closing-of t ps h c q in pair-closed false _ (n .each h (f .0)) _ _ (b .closed h (f .0)) .0 ∙ ap (λ (z : Closing). z .least) (f .1);
           opposite = λ h c q. let f = closing-of t ps h c q in pair-closed false _ (n .each h (f .0)) _ _ (b .closed h (f .0)) .1 ∙ ap (λ (z : Closing). z .opposite) (f .1);
         };

@@ -15,12 +15,12 @@ use Rattle.automata.specs.Closing.{withDelay≤}
 use Rattle.automata.proofs.TestFacts.{eqb-false}
 use Rattle.automata.specs.Layout.{pairDelays, oppositePlace, reachingPlace}
 use Rattle.table.specs.declared.pair.Pair.{Pair}
-use Rattle.delays_relaxation.specs.Column.{column, Room, Frame}
+use Rattle.delays_relaxation.specs.Vector.{vector, Room, Frame}
 use Rattle.delays_relaxation.specs.Edges.{edges}
 use Rattle.delays_relaxation.specs.Lowered.{FillsLeast}
 use Rattle.table.specs.Pairs.{noPair}
 use Rattle.delays.specs.ClosingRegion.{PairClosed, ClosesPair, ClosesPairs, closableAt, closableFrom, viableAt}
-use Rattle.delays_relaxation.proofs.SweepFacts.{frame-column, outside-in}
+use Rattle.delays_relaxation.proofs.SweepFacts.{frame-vector, outside-in}
 
 -- the bytes of a pair are all that a pair changes
 pub pair-frame : (reversed : Bool) (bytes : List ℕ) (n : ℕ) (arcs : List ℕ) (count : ℕ) (p : Pair) (at : ℕ) (w v : List ℕ) → ClosesPair reversed bytes n arcs count p at w v → Frame at pairDelays n w v
@@ -35,7 +35,7 @@ pub closes-pair : (reversed : Bool) (bytes : List ℕ) (n : ℕ) (arcs : List �
     → FillsLeast reversed (edges reversed (p .second - 1) (p .first - 1) 0 count arcs) (at + oppositePlace) n bytes w u → ClosesPair reversed bytes n arcs count p at w v
 closes-pair reversed bytes n arcs count p at v u w l a b = record {
   closed = record {
-    least = rw (frame-column at (at + oppositePlace) 2 n w u (b .frame) (omega arith) (inr (omega arith, omega arith))) (a .least);
+    least = rw (frame-vector at (at + oppositePlace) 2 n w u (b .frame) (omega arith) (inr (omega arith, omega arith))) (a .least);
     opposite = b .least;
   };
   same-length = b .frame .same-length ∙ a .frame .same-length;
@@ -52,10 +52,10 @@ pairs-turn bytes n arcs count ps p base h v u w b l f e c = record {
   same = λ i o. c .same i (o h (omega arith)) ∙ f .same i (λ k s. o k (omega arith));
 }
   where
-    -- a column of an earlier pair
-    kept : (k o : ℕ) → k < h → o ≤ 6 → column (base + pairDelays * k + o) n w ≡ column (base + pairDelays * k + o) n u
+    -- a vector of an earlier pair
+    kept : (k o : ℕ) → k < h → o ≤ 6 → vector (base + pairDelays * k + o) n w ≡ vector (base + pairDelays * k + o) n u
     kept k o r i =
-        frame-column (base + pairDelays * k + o) (base + pairDelays * h) pairDelays n w u (pair-frame false bytes n arcs count p (base + pairDelays * h) w u c) (omega arith) (inr (omega arith, omega arith))
+        frame-vector (base + pairDelays * k + o) (base + pairDelays * h) pairDelays n w u (pair-frame false bytes n arcs count p (base + pairDelays * h) w u c) (omega arith) (inr (omega arith, omega arith))
 
     go : (k : ℕ) → k < h + 1 → Dec (k ≡ h) → PairClosed false bytes n arcs count (getD ps k noPair) (base + pairDelays * k) w
     go k s (yes q) = rw (q, ← e) (c .closed)
@@ -63,7 +63,7 @@ pairs-turn bytes n arcs count ps p base h v u w b l f e c = record {
         let r : k < h = omega arith in
         let o = f .closed k r in
         let z : base + pairDelays * k + 0 ≡ base + pairDelays * k = omega arith in
-        let l : column (base + pairDelays * k) n w ≡ column (base + pairDelays * k) n u = rw z at (kept k 0 r (omega arith)) in
+        let l : vector (base + pairDelays * k) n w ≡ vector (base + pairDelays * k) n u = rw z at (kept k 0 r (omega arith)) in
         record { least = rw l (o .least); opposite = rw (kept k oppositePlace r (omega arith)) (o .opposite) }
 
 -- no pair yet

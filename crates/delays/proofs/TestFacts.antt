@@ -15,7 +15,7 @@ use Rattle.automata.specs.Memory.{Memory, tableOf}
 use Rattle.automata.specs.Closing.{missing, Closing, closing, closingTables, canClose, canCloseAll, viable}
 use Rattle.automata.proofs.ReachingDelays.{held, held-at}
 use Rattle.automata.specs.Layout.{delaysSize, pairDelays, oppositePlace, reachingPlace}
-use Rattle.delays_relaxation.proofs.ColumnFacts.{column-at}
+use Rattle.delays_relaxation.proofs.VectorFacts.{vector-at}
 use Rattle.table.specs.declared.pair.PairList.{PairList}
 use Rattle.table.specs.Pairs.{pairAs, pairsAs}
 use Rattle.delays.specs.ClosingRegion.{closableAt, closableFrom, viableAt, Tests}
@@ -47,12 +47,12 @@ module _ (q : ℕ) (firsts seconds w : List ℕ) where
   unfolding viable
   tests base k r e T n c o b l f g s =
       let x : le (part (base + delaysSize * q + reachingPlace) 2 w) ≡ held (getD (T .reaching) q false)
-      = ap (λ (p : ℕ). le (part p 2 w)) (omega arith) ∙ sym (column-at (base + reachingPlace) n w q missing l) ∙ ap (λ (z : List ℕ). getD z q missing) (o .reaching) ∙ held-at (T .reaching) q in
+      = ap (λ (p : ℕ). le (part p 2 w)) (omega arith) ∙ sym (vector-at (base + reachingPlace) n w q missing l) ∙ ap (λ (z : List ℕ). getD z q missing) (o .reaching) ∙ held-at (T .reaching) q in
       let y : closableFrom (base + delaysSize * q) 0 k firsts seconds w ≡ canCloseAll q (T .closings) (c .leftovers)
       = closable-all (base + delaysSize * q) 0 k (T .closings) (c .leftovers) f (s .count)
       (λ h d z. (
-        ap (λ (p : ℕ). le (part p 2 w)) (omega arith) ∙ sym (column-at (base + pairDelays * h) n w q missing l) ∙ ap (λ (a : List ℕ). getD a q missing) (o .least h d z),
-        ap (λ (p : ℕ). le (part p 2 w)) (omega arith) ∙ sym (column-at (base + pairDelays * h + oppositePlace) n w q missing l) ∙ ap (λ (a : List ℕ). getD a q missing) (o .opposite h d z),
+        ap (λ (p : ℕ). le (part p 2 w)) (omega arith) ∙ sym (vector-at (base + pairDelays * h) n w q missing l) ∙ ap (λ (a : List ℕ). getD a q missing) (o .least h d z),
+        ap (λ (p : ℕ). le (part p 2 w)) (omega arith) ∙ sym (vector-at (base + pairDelays * h + oppositePlace) n w q missing l) ∙ ap (λ (a : List ℕ). getD a q missing) (o .opposite h d z),
       ))
       (λ h d z. (
         ap (λ (p : ℕ). getD firsts p 0) (omega arith) ∙ s .first h d z,

@@ -16,20 +16,20 @@ use Rattle.automata.specs.Leftover.{Leftover}
 use Rattle.automata.specs.Config.{Config}
 use Rattle.automata.specs.Memory.{Memory, tableOf}
 use Rattle.automata.specs.Layout.{delaysSize, pairDelays, oppositePlace, reachingPlace}
-use Rattle.delays_relaxation.specs.Column.{column, Outside}
+use Rattle.delays_relaxation.specs.Vector.{vector, Outside}
 use Rattle.delays_relaxation.specs.Edges.{edges}
 use Rattle.delays_relaxation.specs.Lowered.{Least}
 use Rattle.table.specs.declared.pair.Pair.{Pair}
 use Rattle.table.specs.declared.pair.PairList.{PairList}
 use Rattle.table.specs.Pairs.{pairsAs, noPair}
 
--- the closing delays of a pair, of the table or where reversed of its reversal, stand in the columns at place at and
+-- the closing delays of a pair, of the table or where reversed of its reversal, stand in the vectors at place at and
 -- four bytes behind
 pub record PairClosed (reversed : Bool) (bytes : List ℕ) (n : ℕ) (arcs : List ℕ) (count : ℕ) (p : Pair) (at : ℕ) (w : List ℕ) : Type 0 where
-  pub least : Least reversed (edges reversed (p .first - 1) (p .second - 1) 0 count arcs) n bytes (column at n w)
-  pub opposite : Least reversed (edges reversed (p .second - 1) (p .first - 1) 0 count arcs) n bytes (column (at + oppositePlace) n w)
+  pub least : Least reversed (edges reversed (p .first - 1) (p .second - 1) 0 count arcs) n bytes (vector at n w)
+  pub opposite : Least reversed (edges reversed (p .second - 1) (p .first - 1) 0 count arcs) n bytes (vector (at + oppositePlace) n w)
 
--- place i lies outside the two columns of a pair, and outside those of the first k of several
+-- place i lies outside the two vectors of a pair, and outside those of the first k of several
 abbrev pub OutsidePair : ℕ → ℕ → ℕ → Type 0
 OutsidePair at n i = Outside at 2 n i × Outside (at + oppositePlace) 2 n i
 
@@ -50,9 +50,9 @@ pub record ClosesPairs (bytes : List ℕ) (n : ℕ) (arcs : List ℕ) (count : �
 
 -- the region from place base holds the closing tables T of n states
 pub record HoldsClosing (T : ClosingTables) (base n : ℕ) (w : List ℕ) : Type 0 where
-  pub reaching : column (base + reachingPlace) n w ≡ map (λ b. if b origin missing) (T .reaching)
-  pub least : (h : ℕ) (c : Closing) → getElem? (T .closings) h ≡ some c → column (base + pairDelays * h) n w ≡ c .least
-  pub opposite : (h : ℕ) (c : Closing) → getElem? (T .closings) h ≡ some c → column (base + pairDelays * h + oppositePlace) n w ≡ c .opposite
+  pub reaching : vector (base + reachingPlace) n w ≡ map (λ b. if b origin missing) (T .reaching)
+  pub least : (h : ℕ) (c : Closing) → getElem? (T .closings) h ≡ some c → vector (base + pairDelays * h) n w ≡ c .least
+  pub opposite : (h : ℕ) (c : Closing) → getElem? (T .closings) h ≡ some c → vector (base + pairDelays * h + oppositePlace) n w ≡ c .opposite
 
 -- the test of one pair, by the delays at place at and the lengths of the leftovers
 abbrev pub closableAt : ℕ → ℕ → ℕ → List ℕ → Bool

@@ -1,4 +1,5 @@
-// The closing delays of all pairs in a region of the work space, and the test for viable configurations that reads them.
+// The closing delays of all pairs in a region of the work space, and the test for viable configurations that reads
+// them.
 
 use delays_relaxation::least_delays;
 use delays_relaxation::listing::list_arcs;
@@ -19,7 +20,7 @@ ghost use Rattle.automata.specs.Memory.{Sound};
 ghost use Rattle.automata.specs.Layout.{delaysSize, pairDelays, reachingPlace};
 ghost use Rattle.automata.specs.Limits.{maxTapes};
 ghost use Rattle.table.specs.Answers.{lent};
-ghost use Rattle.delays_relaxation.specs.Column.{Room};
+ghost use Rattle.delays_relaxation.specs.Vector.{Room};
 ghost use Rattle.delays_relaxation.specs.Edges.{edges, Readable};
 ghost use Rattle.delays_relaxation.specs.Lowered.{FillsLeast};
 ghost use Rattle.table.specs.Pairs.{Named, Within, noPair};
@@ -38,8 +39,10 @@ pub fn close_pair(
     work: &mut [u8],
     at: usize,
 )
-    requires { ⌜ Readable (now bytes) states (now arcs) count × Within maxTapes p × Room at pairDelays states (now work) ⌝ }
-    ensures { λ _. ⌜ ClosesPair reversed (now (bytes .entry)) states (now (arcs .entry)) count p at (now (work .exit)) (now (work .entry)) ⌝ }
+    requires { ⌜ Readable (now bytes) states (now arcs) count × Within maxTapes p
+        × Room at pairDelays states (now work) ⌝ }
+    ensures { λ _. ⌜ ClosesPair reversed (now (bytes .entry)) states (now (arcs .entry)) count p at (now (work .exit))
+        (now (work .entry)) ⌝ }
 {
     let first = p.first as usize - 1;
     let second = p.second as usize - 1;
@@ -81,8 +84,10 @@ fn close_pairs(
     work: &mut [u8],
     base: usize,
 )
-    requires { ⌜ Readable (now bytes) states (now arcs) count × (used ≤ 4) × ((h : _) → h < used → Within maxTapes (getD pairs h noPair)) × Room base reachingPlace states (now work) ⌝ }
-    ensures { λ _. ⌜ ClosesPairs (now (bytes .entry)) states (now (arcs .entry)) count pairs used base (now (work .exit)) (now (work .entry)) ⌝ }
+    requires { ⌜ Readable (now bytes) states (now arcs) count × (used ≤ 4)
+        × ((h : _) → h < used → Within maxTapes (getD pairs h noPair)) × Room base reachingPlace states (now work) ⌝ }
+    ensures { λ _. ⌜ ClosesPairs (now (bytes .entry)) states (now (arcs .entry)) count pairs used base
+        (now (work .exit)) (now (work .entry)) ⌝ }
 {
     let mut h: usize = 0;
     while h < used {
@@ -115,7 +120,8 @@ pub fn mark_reaching(
     at: usize,
 )
     requires { ⌜ Readable (now bytes) states (now arcs) count × Room at 2 states (now work) ⌝ }
-    ensures { λ _. ⌜ FillsLeast reversed (edges reversed 0 0 0 count (now (arcs .entry))) at states (now (bytes .entry)) (now (work .exit)) (now (work .entry)) ⌝ }
+    ensures { λ _. ⌜ FillsLeast reversed (edges reversed 0 0 0 count (now (arcs .entry))) at states (now (bytes .entry))
+        (now (work .exit)) (now (work .entry)) ⌝ }
 {
     least_delays(bytes, states, arcs, count, reversed, 0, 0, order, work, at);
 }
@@ -171,8 +177,10 @@ fn write_tables(
     work: &mut [u8],
     base: usize,
 )
-    requires { ⌜ Sound (lent counts (now states) (now arcs)) × (base + delaysSize * counts .states ≤ length (now work)) × Named (counts .tapes) pairs ⌝ }
-    ensures { λ _. ⌜ WritesClosing (lent counts (now (states .entry)) (now (arcs .entry))) pairs base (now (work .exit)) (now (work .entry)) ⌝ }
+    requires { ⌜ Sound (lent counts (now states) (now arcs)) × (base + delaysSize * counts .states ≤ length (now work))
+        × Named (counts .tapes) pairs ⌝ }
+    ensures { λ _. ⌜ WritesClosing (lent counts (now (states .entry)) (now (arcs .entry))) pairs base (now (work .exit))
+        (now (work .entry)) ⌝ }
 {
     mark_reaching(
         states,
@@ -207,15 +215,18 @@ pub fn closing_tables(
     work: &mut [u8],
     base: usize,
 )
-    requires { ⌜ Sound (lent counts (now states) (now arcs)) × (base + delaysSize * counts .states ≤ length (now work)) × Named (counts .tapes) pairs ⌝ }
-    ensures { λ _. ⌜ WritesClosing (lent counts (now (states .entry)) (now (arcs .entry))) pairs base (now (work .exit)) (now (work .entry)) ⌝ }
+    requires { ⌜ Sound (lent counts (now states) (now arcs)) × (base + delaysSize * counts .states ≤ length (now work))
+        × Named (counts .tapes) pairs ⌝ }
+    ensures { λ _. ⌜ WritesClosing (lent counts (now (states .entry)) (now (arcs .entry))) pairs base (now (work .exit))
+        (now (work .entry)) ⌝ }
 {
     let mut order = [65535u16; 8192];
     list_arcs(states, counts.states, arcs, counts.arcs, false, &mut order);
     write_tables(counts, states, arcs, &order, pairs, work, base);
 }
 
-// Whether a configuration with this state and leftovers of these lengths is viable, by the closing tables in the region from `base`.
+// Whether a configuration with this state and leftovers of these lengths is viable, by the closing tables in the region
+// from `base`.
 pub fn viable(
     work: &[u8],
     base: usize,

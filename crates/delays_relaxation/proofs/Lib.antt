@@ -1,5 +1,5 @@
--- Facts of the columns and of the edges.
-pub mod ColumnFacts
+-- Facts of the vectors and of the edges.
+pub mod VectorFacts
 pub mod EdgeFacts
 pub mod RunFacts
 pub mod SweepFacts

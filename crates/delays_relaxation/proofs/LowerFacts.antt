@@ -1,5 +1,5 @@
--- Facts of lowered delays: what an edge, a round and a closed run that lessens the delay make of them, and when they are
--- the least.
+-- Facts of lowered delays: what an edge, a round and a closed run that lessens the delay make of them, and when they
+-- are the least.
 use Prim.Native.Nat.{ℕ, zero, suc, _+_, _*_, _<_, _≤_, min}
 use mathlib.Core.Path.{_≡_, refl, sym, ap, _∙_}
 use mathlib.Core.Logic.{_≢_}
@@ -22,11 +22,11 @@ use Rattle.automata.proofs.RoundFacts.{iterate-still}
 use Rattle.automata.proofs.InPlaceFacts.{length-in-place}
 use Rattle.automata.specs.Layout.{arcSize, delaysSize}
 use Rattle.delays_relaxation.specs.declared.Edge.{Edge}
-use Rattle.delays_relaxation.specs.Column.{Room, column}
+use Rattle.delays_relaxation.specs.Vector.{Room, vector}
 use Rattle.delays_relaxation.specs.Edges.{edgeAt, edges, edgeGraph, Joined, ReadableArcs, throughEdge, improveEdge, visited, swept, roundOf, roundsOf, bothRounds, Filled, starts}
 use Rattle.delays_relaxation.specs.Lowered.{own, along, around, Lessens, Stands, Lowered, Lowers, Settles, FillsLeast}
-use Rattle.delays_relaxation.proofs.ColumnFacts.{length-column, column-at, column-store, frame-refl, frame-store, frame-trans}
-use Rattle.delays_relaxation.proofs.SweepFacts.{Bytes, le-fits, visited-frame, visited-column, swept-frame, swept-bytes}
+use Rattle.delays_relaxation.proofs.VectorFacts.{length-vector, vector-at, vector-store, frame-refl, frame-store, frame-trans}
+use Rattle.delays_relaxation.proofs.SweepFacts.{Bytes, le-fits, visited-frame, visited-vector, swept-frame, swept-bytes}
 use Rattle.delays_relaxation.proofs.RunFacts.{joined-at, edges-place}
 use Rattle.delays_relaxation.proofs.RoundFacts.{rounded}
 
@@ -66,22 +66,22 @@ module _ (es : List Edge) (at n : ℕ) where
       → Lowers es at n (visited false at e w) w
   visited-lowers k e w place s t room b = record {
     frame = visited-frame false at n e w s room;
-    lowered = λ xs l. rw (visited-column false at n es e w s t room b)
-        (lowered-set es n xs (column at n w) (e .source) (min x y) (length-column at n w) s (stands xs l (decLe x y)) (omega arith) l);
+    lowered = λ xs l. rw (visited-vector false at n es e w s t room b)
+        (lowered-set es n xs (vector at n w) (e .source) (min x y) (length-vector at n w) s (stands xs l (decLe x y)) (omega arith) l);
   }
     where
       x : ℕ
-      x = getD (column at n w) (e .source) missing
+      x = getD (vector at n w) (e .source) missing
 
       y : ℕ
-      y = throughEdge (e .up) (e .down) (getD (column at n w) (e .target) missing)
+      y = throughEdge (e .up) (e .down) (getD (vector at n w) (e .target) missing)
 
       fits : x < 65536
-      fits = rw (column-at at n w (e .source) missing s) (le-fits (at + delaysSize * e .source) w b (omega arith))
+      fits = rw (vector-at at n w (e .source) missing s) (le-fits (at + delaysSize * e .source) w b (omega arith))
 
-      stands : (xs : List ℕ) → Lowered es n xs (column at n w) → Dec (x ≤ y) → Stands es xs (e .source) (min x y)
+      stands : (xs : List ℕ) → Lowered es n xs (vector at n w) → Dec (x ≤ y) → Stands es xs (e .source) (min x y)
       stands xs l (yes h) = let z : min x y ≡ x = omega arith in rw z (l .stands (e .source) s)
-      stands xs l (no h) = let z : min x y ≡ y = omega arith in rw z (along {v = getD (column at n w) (e .target) missing} k e place (omega (arith, fits)) (l .stands (e .target) t))
+      stands xs l (no h) = let z : min x y ≡ y = omega arith in rw z (along {v = getD (vector at n w) (e .target) missing} k e place (omega (arith, fits)) (l .stands (e .target) t))
 
   -- some edges of all
   swept-lowers : (rest : List Edge) (w : List ℕ) → ((k : ℕ) (e : Edge) → getElem? rest k ≡ some e → (m : ℕ) × (getElem? es m ≡ some e)) → Joined n rest → Room at 2 n w → Bytes w
@@ -115,9 +115,9 @@ module _ (es : List Edge) (at n : ℕ) where
   endless-lowers q x w2 w lt room c e ne g = rw g (record {
     frame = frame-store at n q 0 w lt room;
     lowered = λ xs l.
-        let is : getD (column at n w) q missing ≡ x = column-at at n w q missing lt ∙ sym e in
-        rw (column-store at n q 0 w lt room (omega arith))
-        (lowered-set es n xs (column at n w) q endless (length-column at n w) lt (around c ne (rw is at (l .stands q lt))) (omega arith) l);
+        let is : getD (vector at n w) q missing ≡ x = vector-at at n w q missing lt ∙ sym e in
+        rw (vector-store at n q 0 w lt room (omega arith))
+        (lowered-set es n xs (vector at n w) q endless (length-vector at n w) lt (around c ne (rw is at (l .stands q lt))) (omega arith) l);
   })
 
 -- the arc with number k, which tells where it changed nothing
@@ -183,14 +183,14 @@ module _ (n : ℕ) (gs : List Edge) (xs : List ℕ) (len : length xs ≡ n) wher
 -- ---- the least delays
 
 module _ (reversed : Bool) (es : List Edge) (at n : ℕ) (bytes v u : List ℕ) (start : Filled at n (starts reversed 0 n bytes) u v) where
-  started-lowered : (still : Bool) (w : List ℕ) → Settles es at n still w u → Lowered es n (starts reversed 0 n bytes) (column at n w)
+  started-lowered : (still : Bool) (w : List ℕ) → Settles es at n still w u → Lowered es n (starts reversed 0 n bytes) (vector at n w)
   started-lowered still w s = s .lowers .lowered (starts reversed 0 n bytes) (rw (start .holds) (lowered-self es n (starts reversed 0 n bytes)))
 
   -- delays that no edge makes less
   pub settled-least : (still : Bool) (w : List ℕ) → still ≡ true → Joined n es → Settles es at n still w u → FillsLeast reversed es at n bytes w v
   settled-least still w t j s =
-      let xs = column at n w in
-      let l = length-column at n w in
+      let xs = vector at n w in
+      let l = length-vector at n w in
       let a : roundOf false es xs ≡ xs = s .stable t in
       let b : roundOf true es xs ≡ xs = still-diverges n es xs l es j a in
       record {
@@ -204,11 +204,11 @@ module _ (reversed : Bool) (es : List Edge) (at n : ℕ) (bytes v u : List ℕ) 
       }
 
   -- and else both kinds of rounds after the lowered ones
-  pub rounds-least : (still : Bool) (w y : List ℕ) → Settles es at n still w u → Filled at n (bothRounds es n (column at n w)) y w → FillsLeast reversed es at n bytes y v
+  pub rounds-least : (still : Bool) (w y : List ℕ) → Settles es at n still w u → Filled at n (bothRounds es n (vector at n w)) y w → FillsLeast reversed es at n bytes y v
   rounds-least still w y s a = record {
     least = record {
-      delays = column at n w;
-      all = length-column at n w;
+      delays = vector at n w;
+      all = length-vector at n w;
       lowered = started-lowered still w s;
       rounds = a .holds;
     };

@@ -1,4 +1,4 @@
--- What a round leaves in the column of the work space.
+-- What a round leaves in the vector of the work space.
 use Prim.Native.Nat.{ℕ, zero, suc, _+_, _-_, _*_, _%_, _<_, _≤_}
 use mathlib.Core.Path.{_≡_, refl, sym, ap, ap₂, _∙_}
 use mathlib.Core.Logic.{_⊎_, inl, inr}
@@ -20,9 +20,9 @@ use Rattle.automata.specs.Closing.{origin, missing, endless}
 use Rattle.automata.proofs.TestFacts.{ltb-false}
 use Rattle.automata.specs.Layout.{delaysSize, stateSize}
 use Rattle.delays_relaxation.specs.declared.Edge.{Edge}
-use Rattle.delays_relaxation.specs.Column.{Room, Outside, column, Frame}
+use Rattle.delays_relaxation.specs.Vector.{Room, Outside, vector, Frame}
 use Rattle.delays_relaxation.specs.Edges.{edgeGraph, Joined, throughEdge, improve, improveEdge, visited, swept, startOf, flagPlace, starts, started}
-use Rattle.delays_relaxation.proofs.ColumnFacts.{column-at, column-ext, column-store, frame-store, frame-refl, frame-trans, frame-keeps}
+use Rattle.delays_relaxation.proofs.VectorFacts.{vector-at, vector-ext, vector-store, frame-store, frame-refl, frame-trans, frame-keeps}
 
 -- the elements of a list are bytes
 abbrev pub Bytes : List ℕ → Type 0
@@ -60,14 +60,14 @@ improve-fits true x t h = go (ltb t x)
     go true = omega arith
     go false = h
 
--- ---- frames and columns
+-- ---- frames and vectors
 
--- a column that lies outside is kept
-pub frame-column : (c b m n : ℕ) (w v : List ℕ) → Frame b m n w v → Room c 2 n v → ((b + m ≤ c) × (c + 2 ≤ b + delaysSize)) ⊎ ((c + 2 ≤ b) × (b + m ≤ c + delaysSize))
-    → column c n w ≡ column c n v
-frame-column c b m n w v f l (inl h) =
-    column-ext c n c w v (λ q k. frame-keeps b m n w v f (c + delaysSize * q) (omega arith) (inr (inr (omega arith))) (inr (inr (omega arith))))
-frame-column c b m n w v f l (inr h) = column-ext c n c w v (λ q k. go q k)
+-- a vector that lies outside is kept
+pub frame-vector : (c b m n : ℕ) (w v : List ℕ) → Frame b m n w v → Room c 2 n v → ((b + m ≤ c) × (c + 2 ≤ b + delaysSize)) ⊎ ((c + 2 ≤ b) × (b + m ≤ c + delaysSize))
+    → vector c n w ≡ vector c n v
+frame-vector c b m n w v f l (inl h) =
+    vector-ext c n c w v (λ q k. frame-keeps b m n w v f (c + delaysSize * q) (omega arith) (inr (inr (omega arith))) (inr (inr (omega arith))))
+frame-vector c b m n w v f l (inr h) = vector-ext c n c w v (λ q k. go q k)
   where
     go : (q : ℕ) → q < n → le (part (c + delaysSize * q) 2 w) ≡ le (part (c + delaysSize * q) 2 v)
     go zero k = frame-keeps b m n w v f (c + delaysSize * 0) (omega arith) (inl (omega arith)) (inl (omega arith))
@@ -122,10 +122,10 @@ module _ (d : Bool) (at n : ℕ) where
       go true = frame-refl at 2 n w
       go false = frame-store at n (e .source) r w h l
 
-  pub visited-column : (gs : List Edge) (e : Edge) (w : List ℕ) → e .source < n → e .target < n → Room at 2 n w → Bytes w
-      → column at n (visited d at e w) ≡ visit (edgeGraph gs) missing (improveEdge d) (column at n w) (column at n w) e
+  pub visited-vector : (gs : List Edge) (e : Edge) (w : List ℕ) → e .source < n → e .target < n → Room at 2 n w → Bytes w
+      → vector at n (visited d at e w) ≡ visit (edgeGraph gs) missing (improveEdge d) (vector at n w) (vector at n w) e
   unfolding visited
-  visited-column gs e w h k l b = go (eqb r x) refl ∙ (rw (column-at at n w (e .source) missing h, column-at at n w (e .target) missing k) refl)
+  visited-vector gs e w h k l b = go (eqb r x) refl ∙ (rw (vector-at at n w (e .source) missing h, vector-at at n w (e .target) missing k) refl)
     where
       x : ℕ
       x = le (part (at + delaysSize * e .source) 2 w)
@@ -133,11 +133,11 @@ module _ (d : Bool) (at n : ℕ) where
       r : ℕ
       r = improve d x (throughEdge (e .up) (e .down) (le (part (at + delaysSize * e .target) 2 w)))
 
-      go : (s : Bool) → eqb r x ≡ s → column at n (if s w (splice (at + delaysSize * e .source) (toLe 2 r) w)) ≡ set (column at n w) (e .source) r
+      go : (s : Bool) → eqb r x ≡ s → vector at n (if s w (splice (at + delaysSize * e .source) (toLe 2 r) w)) ≡ set (vector at n w) (e .source) r
       go true t =
-          sym (set-getD (column at n w) (e .source) missing)
-          ∙ ap (set (column at n w) (e .source)) (column-at at n w (e .source) missing h ∙ sym (eqb-true r x t))
-      go false t = column-store at n (e .source) r w h l (improve-fits d x _ (le-fits (at + delaysSize * e .source) w b (omega arith)))
+          sym (set-getD (vector at n w) (e .source) missing)
+          ∙ ap (set (vector at n w) (e .source)) (vector-at at n w (e .source) missing h ∙ sym (eqb-true r x t))
+      go false t = vector-store at n (e .source) r w h l (improve-fits d x _ (le-fits (at + delaysSize * e .source) w b (omega arith)))
 
   pub swept-frame : (es : List Edge) (w : List ℕ) → Joined n es → Room at 2 n w → Frame at 2 n (swept d at es w) w
   unfolding swept Joined
@@ -154,14 +154,14 @@ module _ (d : Bool) (at n : ℕ) where
       let g : length (swept d at es w) ≡ length w = swept-frame es w (j .2) l .same-length in
       visited-bytes e (swept d at es w) (j .0) (omega arith) (swept-bytes es w (j .2) l b)
 
-  pub swept-column : (gs es : List Edge) (w : List ℕ) → Joined n es → Room at 2 n w → Bytes w
-      → column at n (swept d at es w) ≡ sweepInPlace (edgeGraph gs) missing (improveEdge d) (column at n w) es
+  pub swept-vector : (gs es : List Edge) (w : List ℕ) → Joined n es → Room at 2 n w → Bytes w
+      → vector at n (swept d at es w) ≡ sweepInPlace (edgeGraph gs) missing (improveEdge d) (vector at n w) es
   unfolding swept Joined
-  swept-column gs [] w j l b = refl
-  swept-column gs (e ∷ es) w j l b =
+  swept-vector gs [] w j l b = refl
+  swept-vector gs (e ∷ es) w j l b =
       let g : length (swept d at es w) ≡ length w = swept-frame es w (j .2) l .same-length in
-      visited-column gs e (swept d at es w) (j .0) (j .1) (omega arith) (swept-bytes es w (j .2) l b)
-      ∙ ap (λ (xs : List ℕ). visit (edgeGraph gs) missing (improveEdge d) xs xs e) (swept-column gs es w (j .2) l b)
+      visited-vector gs e (swept d at es w) (j .0) (j .1) (omega arith) (swept-bytes es w (j .2) l b)
+      ∙ ap (λ (xs : List ℕ). visit (edgeGraph gs) missing (improveEdge d) xs xs e) (swept-vector gs es w (j .2) l b)
 
 -- ---- the delays that the states start with
 
@@ -198,11 +198,11 @@ start-fits b = go (eqb b 0)
     go true = omega arith
     go false = omega arith
 
--- the column holds them
-pub started-column : (reversed : Bool) (at from n : ℕ) (bytes w : List ℕ) → Room at 2 n w → column at n (started reversed at from n bytes w) ≡ starts reversed from n bytes
-unfolding started starts column
-started-column reversed at from zero bytes w l = refl
-started-column reversed at from (suc n) bytes w l =
+-- the vector holds them
+pub started-vector : (reversed : Bool) (at from n : ℕ) (bytes w : List ℕ) → Room at 2 n w → vector at n (started reversed at from n bytes w) ≡ starts reversed from n bytes
+unfolding started starts vector
+started-vector reversed at from zero bytes w l = refl
+started-vector reversed at from (suc n) bytes w l =
     let x = startOf (getD bytes (from + flagPlace reversed) 0) in
     let w2 = splice at (toLe 2 x) w in
     let e : length w2 ≡ length w = frame-first at n x w l .same-length in
@@ -211,4 +211,4 @@ started-column reversed at from (suc n) bytes w l =
     let w3 = started reversed (at + delaysSize) (from + stateSize) n bytes w2 in
     let h : le (part at 2 w3) ≡ x
     = frame-keeps (at + delaysSize) 2 n w3 w2 g at (omega arith) (inl (omega arith)) (inl (omega arith)) ∙ le-splice 2 x at w u (omega arith) in
-    ap₂ (λ (y : ℕ) (ys : List ℕ). y ∷ ys) h (started-column reversed (at + delaysSize) (from + stateSize) n bytes w2 (omega arith))
+    ap₂ (λ (y : ℕ) (ys : List ℕ). y ∷ ys) h (started-vector reversed (at + delaysSize) (from + stateSize) n bytes w2 (omega arith))

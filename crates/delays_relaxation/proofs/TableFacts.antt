@@ -1,4 +1,5 @@
--- The edges and the starting delays that the code reads are those of the table in memory, so its rounds are those of the definition.
+-- The edges and the starting delays that the code reads are those of the table in memory, so its rounds are those of
+-- the definition.
 use Prim.Native.Nat.{ℕ, zero, suc, _+_, _-_, _*_, _%_, _/_, _<_}
 use mathlib.Core.Path.{_≡_, refl, sym, ap, subst, _∙_}
 use mathlib.Core.Bool.{Bool, true, false}

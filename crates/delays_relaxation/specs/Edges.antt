@@ -15,7 +15,7 @@ use Rattle.automata.specs.InPlace.{roundInPlace}
 use Rattle.automata.specs.Closing.{origin, endless, missing}
 use Rattle.automata.specs.Layout.{arcSize, delaysSize, stateSize, finalPlace}
 use Rattle.delays_relaxation.specs.declared.Edge.{Edge}
-use Rattle.delays_relaxation.specs.Column.{column, Frame}
+use Rattle.delays_relaxation.specs.Vector.{vector, Frame}
 
 -- the arc record at place at, read on the tapes first and second, counted from 0, and backwards where reversed
 abbrev pub edgeAt : Bool → ℕ → ℕ → ℕ → List ℕ → Edge
@@ -39,14 +39,16 @@ unfoldable pub Joined : ℕ → List Edge → Type 0
 Joined n [] = Unit {0}
 Joined n (e ∷ es) = (e .source < n) × (e .target < n) × Joined n es
 
--- what a round on two tapes asks of the arc records: they are wholly lent, the tapes are of eight, and the arcs join n states
+-- what a round on two tapes asks of the arc records: they are wholly lent, the tapes are of eight, and the arcs join n
+-- states
 pub record ReadableArcs (n : ℕ) (arcs : List ℕ) (count : ℕ) (reversed : Bool) (first second : ℕ) : Type 0 where
   pub lent : arcSize * count ≤ length arcs
   pub first-tape : first < 8
   pub second-tape : second < 8
   pub joined : Joined n (edges reversed first second 0 count arcs)
 
--- what relaxation asks of a table: the records of n states and of the arcs are wholly lent, and the arcs join these states
+-- what relaxation asks of a table: the records of n states and of the arcs are wholly lent, and the arcs join these
+-- states
 pub record Readable (bytes : List ℕ) (n : ℕ) (arcs : List ℕ) (count : ℕ) : Type 0 where
   pub states-lent : stateSize * n ≤ length bytes
   pub arcs-lent : arcSize * count ≤ length arcs
@@ -68,7 +70,7 @@ improveEdge diverging e old x = improve diverging x (throughEdge (e .up) (e .dow
 abbrev pub roundOf : Bool → List Edge → List ℕ → List ℕ
 roundOf diverging es = roundInPlace (edgeGraph es) missing (improveEdge diverging)
 
--- the work space after one edge: in the column at place at the delay of its source is improved by that of its target
+-- the work space after one edge: in the vector at place at the delay of its source is improved by that of its target
 unfoldable pub visited : Bool → ℕ → Edge → List ℕ → List ℕ
 visited diverging at e w =
     let x : ℕ = le (part (at + delaysSize * e .source) 2 w) in
@@ -93,15 +95,15 @@ unfoldable pub starts : Bool → ℕ → ℕ → List ℕ → List ℕ
 starts reversed from zero bytes = []
 starts reversed from (suc n) bytes = startOf (getD bytes (from + flagPlace reversed) 0) ∷ starts reversed (from + stateSize) n bytes
 
--- the work space with these delays in the column at place at
+-- the work space with these delays in the vector at place at
 unfoldable pub started : Bool → ℕ → ℕ → ℕ → List ℕ → List ℕ → List ℕ
 started reversed at from zero bytes w = w
 started reversed at from (suc n) bytes w =
     started reversed (at + delaysSize) (from + stateSize) n bytes (splice at (toLe 2 (startOf (getD bytes (from + flagPlace reversed) 0))) w)
 
--- the column at place at holds the delays xs, and nothing else changed from v to w
+-- the vector at place at holds the delays xs, and nothing else changed from v to w
 pub record Filled (at n : ℕ) (xs w v : List ℕ) : Type 0 where
-  pub holds : column at n w ≡ xs
+  pub holds : vector at n w ≡ xs
   pub frame : Frame at 2 n w v
 
 -- the delays after as many rounds as there are states

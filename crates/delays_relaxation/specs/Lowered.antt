@@ -9,7 +9,7 @@ use mathlib.Core.List.{List}
 use lib.ListN.{length, getD, getElem?}
 use Rattle.automata.specs.Closing.{endless, missing}
 use Rattle.delays_relaxation.specs.declared.Edge.{Edge}
-use Rattle.delays_relaxation.specs.Column.{column, Frame}
+use Rattle.delays_relaxation.specs.Vector.{vector, Frame}
 use Rattle.delays_relaxation.specs.Edges.{throughEdge, roundOf, bothRounds, starts}
 
 -- a run of edges from q to p, with so many symbols on the first tape and on the second
@@ -37,15 +37,15 @@ pub record Lowered (es : List Edge) (n : ℕ) (xs ys : List ℕ) : Type 0 where
   pub stands : (q : ℕ) → q < n → Stands es xs q (getD ys q missing)
   pub less : (q : ℕ) → q < n → getD ys q missing ≤ getD xs q missing
 
--- from v to w the delays in the column at place at went down so, and nothing else changed
+-- from v to w the delays in the vector at place at went down so, and nothing else changed
 pub record Lowers (es : List Edge) (at n : ℕ) (w v : List ℕ) : Type 0 where
   pub frame : Frame at 2 n w v
-  pub lowered : (xs : List ℕ) → Lowered es n xs (column at n v) → Lowered es n xs (column at n w)
+  pub lowered : (xs : List ℕ) → Lowered es n xs (vector at n v) → Lowered es n xs (vector at n w)
 
 -- the same, and where still is told no edge makes a delay less
 pub record Settles (es : List Edge) (at n : ℕ) (still : Bool) (w v : List ℕ) : Type 0 where
   pub lowers : Lowers es at n w v
-  pub stable : still ≡ true → roundOf false es (column at n w) ≡ column at n w
+  pub stable : still ≡ true → roundOf false es (vector at n w) ≡ vector at n w
 
 -- zs are the least delays of n states, by their records, read backwards where reversed, and the edges: what relaxation
 -- and divergence leave of lowered delays
@@ -55,7 +55,7 @@ pub record Least (reversed : Bool) (es : List Edge) (n : ℕ) (bytes zs : List �
   pub lowered : Lowered es n (starts reversed 0 n bytes) delays
   pub rounds : zs ≡ bothRounds es n delays
 
--- the column at place at holds the least delays, and nothing else changed from v to w
+-- the vector at place at holds the least delays, and nothing else changed from v to w
 pub record FillsLeast (reversed : Bool) (es : List Edge) (at n : ℕ) (bytes w v : List ℕ) : Type 0 where
-  pub least : Least reversed es n bytes (column at n w)
+  pub least : Least reversed es n bytes (vector at n w)
   pub frame : Frame at 2 n w v

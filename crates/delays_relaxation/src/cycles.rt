@@ -12,7 +12,7 @@ ghost use mathlib.Core.Path.{_≡_};
 ghost use mathlib.Core.Bool.{true};
 ghost use Prim.Native.Nat.{_+_, _*_, _≤_, _<_};
 ghost use lib.ListN.{length};
-ghost use Rattle.delays_relaxation.specs.Column.{Room};
+ghost use Rattle.delays_relaxation.specs.Vector.{Room};
 ghost use Rattle.delays_relaxation.specs.Edges.{edges, ReadableArcs};
 ghost use Rattle.delays_relaxation.specs.Lowered.{Lessens, Lowers};
 ghost use Rattle.automata.specs.Layout.{arcSize};
@@ -112,7 +112,8 @@ fn mark_from(
     q: u16,
 )
     requires { ⌜ ReadableArcs states (now arcs) count reversed first second × Room at 2 states (now work) ⌝ }
-    ensures { λ _. ⌜ Lowers (edges reversed first second 0 count (now (arcs .entry))) at states (now (work .exit)) (now (work .entry)) ⌝ }
+    ensures { λ _. ⌜ Lowers (edges reversed first second 0 count (now (arcs .entry))) at states (now (work .exit))
+        (now (work .entry)) ⌝ }
 {
     let c = closes_at(arcs, count, reversed, through, seen, q);
     if states <= c as usize {
@@ -142,7 +143,8 @@ fn mark_ways(
     states: usize,
 )
     requires { ⌜ ReadableArcs states (now arcs) count reversed first second × Room at 2 states (now work) ⌝ }
-    ensures { λ _. ⌜ Lowers (edges reversed first second 0 count (now (arcs .entry))) at states (now (work .exit)) (now (work .entry)) ⌝ }
+    ensures { λ _. ⌜ Lowers (edges reversed first second 0 count (now (arcs .entry))) at states (now (work .exit))
+        (now (work .entry)) ⌝ }
 {
     let mut q: u16 = 1024;
     while 0 < q {
@@ -176,7 +178,8 @@ pub fn mark_endless(
     states: usize,
 )
     requires { ⌜ ReadableArcs states (now arcs) count reversed first second × Room at 2 states (now work) ⌝ }
-    ensures { λ _. ⌜ Lowers (edges reversed first second 0 count (now (arcs .entry))) at states (now (work .exit)) (now (work .entry)) ⌝ }
+    ensures { λ _. ⌜ Lowers (edges reversed first second 0 count (now (arcs .entry))) at states (now (work .exit))
+        (now (work .entry)) ⌝ }
 {
     let mut seen = [65535u16; 1024];
     mark_ways(

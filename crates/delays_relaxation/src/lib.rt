@@ -1,4 +1,4 @@
-// Closing delays by relaxation over a table in memory. One column of the work space holds the delays; rounds read and
+// Closing delays by relaxation over a table in memory. One vector of the work space holds the delays; rounds read and
 // write it in place, from the last arc to the first.
 pub mod cycles;
 pub mod listing;
@@ -22,7 +22,7 @@ ghost use lib.ListN.{length};
 ghost use Rattle.automata.specs.Lists.{and};
 ghost use Rattle.automata.specs.InPlace.{Becomes};
 ghost use Rattle.automata.specs.Layout.{arcSize, delaysSize, stateSize, finalPlace};
-ghost use Rattle.delays_relaxation.specs.Column.{column, Room};
+ghost use Rattle.delays_relaxation.specs.Vector.{vector, Room};
 ghost use Rattle.delays_relaxation.specs.Edges.{edgeAt, edges, Readable, ReadableArcs, throughEdge, improve, visited, swept, startOf, flagPlace, started, Filled, roundsOf, bothRounds};
 ghost use Rattle.delays_relaxation.specs.Lowered.{FillsLeast};
 
@@ -77,7 +77,8 @@ fn through_edge(up: u8, down: u8, v: u16) -> u32
     sum - less
 }
 
-// What a round makes of the delay `x` where `t` is the one through an arc: the lesser, or endless if it can be improved.
+// What a round makes of the delay `x` where `t` is the one through an arc: the lesser, or endless if it can be
+// improved.
 fn improved(diverging: bool, x: u16, t: u32) -> u16
     ensures { λ r. ⌜ r ≡ improve diverging x t ⌝ }
 {
@@ -92,7 +93,8 @@ fn improved(diverging: bool, x: u16, t: u32) -> u16
 
 // One arc of a round: the delay of its source is improved by that of its target. Tells whether it stayed as it was.
 fn visit_edge(work: &mut [u8], at: usize, e: Edge, diverging: bool) -> bool
-    requires { ⌜ (at + delaysSize * e .source + 2 ≤ length (now work)) × (at + delaysSize * e .target + 2 ≤ length (now work)) ⌝ }
+    requires { ⌜ (at + delaysSize * e .source + 2 ≤ length (now work))
+        × (at + delaysSize * e .target + 2 ≤ length (now work)) ⌝ }
     ensures { λ r. ⌜ Becomes (visited diverging at e (now (work .entry))) r (now (work .exit)) (now (work .entry)) ⌝ }
 {
     let v = get16(work, at + DELAYS_SIZE * e.target as usize);
@@ -132,7 +134,8 @@ fn round_arcs(
     through: &mut [u16],
 ) -> bool
     requires { ⌜ ReadableArcs states (now arcs) count reversed first second × Room at 2 states (now work) ⌝ }
-    ensures { λ r. ⌜ Becomes (swept diverging at (edges reversed first second 0 count (now (arcs .entry))) (now (work .entry))) r (now (work .exit)) (now (work .entry)) ⌝ }
+    ensures { λ r. ⌜ Becomes (swept diverging at (edges reversed first second 0 count (now (arcs .entry)))
+        (now (work .entry))) r (now (work .exit)) (now (work .entry)) ⌝ }
 {
     let mut left = count;
     let mut from = ARC_SIZE * count;
@@ -194,7 +197,9 @@ fn run_rounds(
     through: &mut [u16],
 )
     requires { ⌜ ReadableArcs states (now arcs) count reversed first second × Room at 2 states (now work) ⌝ }
-    ensures { λ _. ⌜ Filled at states (roundsOf diverging (edges reversed first second 0 count (now (arcs .entry))) states (column at states (now (work .entry)))) (now (work .exit)) (now (work .entry)) ⌝ }
+    ensures { λ _. ⌜ Filled at states (roundsOf diverging
+        (edges reversed first second 0 count (now (arcs .entry))) states (vector at states (now (work .entry))))
+        (now (work .exit)) (now (work .entry)) ⌝ }
 {
     let mut left = states;
     while 0 < left {
@@ -229,7 +234,8 @@ fn run_both(
     through: &mut [u16],
 )
     requires { ⌜ ReadableArcs states (now arcs) count reversed first second × Room at 2 states (now work) ⌝ }
-    ensures { λ _. ⌜ Filled at states (bothRounds (edges reversed first second 0 count (now (arcs .entry))) states (column at states (now (work .entry)))) (now (work .exit)) (now (work .entry)) ⌝ }
+    ensures { λ _. ⌜ Filled at states (bothRounds (edges reversed first second 0 count (now (arcs .entry))) states
+        (vector at states (now (work .entry)))) (now (work .exit)) (now (work .entry)) ⌝ }
 {
     run_rounds(
         arcs,
@@ -272,8 +278,10 @@ pub fn least_delays(
     work: &mut [u8],
     at: usize,
 )
-    requires { ⌜ Readable (now bytes) states (now arcs) count × (first < 8) × (second < 8) × Room at 2 states (now work) ⌝ }
-    ensures { λ _. ⌜ FillsLeast reversed (edges reversed first second 0 count (now (arcs .entry))) at states (now (bytes .entry)) (now (work .exit)) (now (work .entry)) ⌝ }
+    requires { ⌜ Readable (now bytes) states (now arcs) count × (first < 8) × (second < 8)
+        × Room at 2 states (now work) ⌝ }
+    ensures { λ _. ⌜ FillsLeast reversed (edges reversed first second 0 count (now (arcs .entry))) at states
+        (now (bytes .entry)) (now (work .exit)) (now (work .entry)) ⌝ }
 {
     start_delays(bytes, states, reversed, work, at);
     let mut through = [65535u16; 1024];

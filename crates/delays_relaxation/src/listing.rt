@@ -117,8 +117,8 @@ fn begins_at(bytes: &[u8], root: usize, any: bool) -> bool
     bytes[STATE_SIZE * root + FINAL_PLACE] != 0
 }
 
-// The arcs on ways to the state `root`, if the search begins there and it was not seen, in the last free places. Each of
-// at most 8,192 arcs takes a step, and each of at most 1,024 states two.
+// The arcs on ways to the state `root`, if the search begins there and it was not seen, in the last free places. Each
+// of at most 8,192 arcs takes a step, and each of at most 1,024 states two.
 fn list_from(
     bytes: &[u8],
     root: usize,
@@ -133,7 +133,8 @@ fn list_from(
     order: &mut [u16],
     free: usize,
 ) -> usize
-    requires { ⌜ (stateSize * root + stateSize ≤ length (now bytes)) × (root < 1024) × (arcSize * count ≤ length (now arcs)) ⌝ }
+    requires { ⌜ (stateSize * root + stateSize ≤ length (now bytes)) × (root < 1024)
+        × (arcSize * count ≤ length (now arcs)) ⌝ }
 {
     if !begins_at(bytes, root, any) {
         return free;
@@ -184,7 +185,8 @@ fn list_roots(
     stack: &mut [u16],
     order: &mut [u16],
 )
-    requires { ⌜ (stateSize * states ≤ length (now bytes)) × (states ≤ 1024) × (turns ≤ 2 * states) × (arcSize * count ≤ length (now arcs)) ⌝ }
+    requires { ⌜ (stateSize * states ≤ length (now bytes)) × (states ≤ 1024) × (turns ≤ 2 * states)
+        × (arcSize * count ≤ length (now arcs)) ⌝ }
 {
     let mut free = count;
     let mut q: usize = 0;
@@ -217,7 +219,8 @@ pub fn list_arcs(
     whole: bool,
     order: &mut [u16],
 )
-    requires { ⌜ (stateSize * states ≤ length (now bytes)) × (states ≤ 1024) × (arcSize * count ≤ length (now arcs)) × (count ≤ 8192) ⌝ }
+    requires { ⌜ (stateSize * states ≤ length (now bytes)) × (states ≤ 1024) × (arcSize * count ≤ length (now arcs))
+        × (count ≤ 8192) ⌝ }
 {
     let mut heads = [65535u16; 1024];
     let mut next = [65535u16; 8192];

@@ -8,7 +8,7 @@ use crate::round_arcs;
 use crate::visit_edge;
 use table::layout::ARC_SIZE;
 ghost use Prim.Native.Nat.{_<_};
-ghost use Rattle.delays_relaxation.specs.Column.{Room};
+ghost use Rattle.delays_relaxation.specs.Vector.{Room};
 ghost use Rattle.delays_relaxation.specs.Edges.{edges, ReadableArcs};
 ghost use Rattle.delays_relaxation.specs.Lowered.{Lowers, Settles};
 
@@ -26,7 +26,8 @@ fn lower_by(
     through: &mut [u16],
 )
     requires { ⌜ ReadableArcs states (now arcs) count reversed first second × Room at 2 states (now work) ⌝ }
-    ensures { λ _. ⌜ Lowers (edges reversed first second 0 count (now (arcs .entry))) at states (now (work .exit)) (now (work .entry)) ⌝ }
+    ensures { λ _. ⌜ Lowers (edges reversed first second 0 count (now (arcs .entry))) at states (now (work .exit))
+        (now (work .entry)) ⌝ }
 {
     if count <= k as usize {
         return;
@@ -62,7 +63,8 @@ fn lower_listed(
     through: &mut [u16],
 )
     requires { ⌜ ReadableArcs states (now arcs) count reversed first second × Room at 2 states (now work) ⌝ }
-    ensures { λ _. ⌜ Lowers (edges reversed first second 0 count (now (arcs .entry))) at states (now (work .exit)) (now (work .entry)) ⌝ }
+    ensures { λ _. ⌜ Lowers (edges reversed first second 0 count (now (arcs .entry))) at states (now (work .exit))
+        (now (work .entry)) ⌝ }
 {
     let mut i: usize = 0;
     while i < count {
@@ -97,7 +99,8 @@ fn lower_all(
     through: &mut [u16],
 ) -> bool
     requires { ⌜ ReadableArcs states (now arcs) count reversed first second × Room at 2 states (now work) ⌝ }
-    ensures { λ r. ⌜ Settles (edges reversed first second 0 count (now (arcs .entry))) at states r (now (work .exit)) (now (work .entry)) ⌝ }
+    ensures { λ r. ⌜ Settles (edges reversed first second 0 count (now (arcs .entry))) at states r (now (work .exit))
+        (now (work .entry)) ⌝ }
 {
     lower_listed(
         arcs,
@@ -140,7 +143,8 @@ fn lower_turned(
     through: &mut [u16],
 )
     requires { ⌜ ReadableArcs states (now arcs) count reversed first second × Room at 2 states (now work) ⌝ }
-    ensures { λ _. ⌜ Lowers (edges reversed first second 0 count (now (arcs .entry))) at states (now (work .exit)) (now (work .entry)) ⌝ }
+    ensures { λ _. ⌜ Lowers (edges reversed first second 0 count (now (arcs .entry))) at states (now (work .exit))
+        (now (work .entry)) ⌝ }
 {
     mark_endless(
         arcs,
@@ -182,7 +186,8 @@ pub fn settle(
     through: &mut [u16],
 ) -> bool
     requires { ⌜ ReadableArcs states (now arcs) count reversed first second × Room at 2 states (now work) ⌝ }
-    ensures { λ r. ⌜ Settles (edges reversed first second 0 count (now (arcs .entry))) at states r (now (work .exit)) (now (work .entry)) ⌝ }
+    ensures { λ r. ⌜ Settles (edges reversed first second 0 count (now (arcs .entry))) at states r (now (work .exit))
+        (now (work .entry)) ⌝ }
 {
     let mut left = states;
     while 0 < left {

@@ -185,7 +185,8 @@ fn put_refusal(why: Refusal) {
     put(b"\"];\n}\n");
 }
 
-// The graph of the table that a text describes, or of its refusal. A text of at most 65,536 bytes has at most 2,047 arcs.
+// The graph of the table that a text describes, or of its refusal. A text of at most 65,536 bytes has at most 2,047
+// arcs.
 fn draw_table(text: &[u8]) {
     let mut states = [0u8; 10240];
     let mut arcs = [0u8; 163840];
@@ -196,8 +197,9 @@ fn draw_table(text: &[u8]) {
     }
 }
 
-// Where the table of an input begins: behind its pair line, or at the front where there is none. No table begins with a pair line: the byte
-// 10 that ends a header stands behind the end of a line of one pair, and at a column of a tape in a line of more.
+// Where the table of an input begins: behind its pair line, or at the front where there is none. No table begins with a
+// pair line: the byte 10 that ends a header stands behind the end of a line of one pair, and at a column of a tape in a
+// line of more.
 fn table_start(input: &[u8]) -> usize {
     let line = read_line(input);
     match line {

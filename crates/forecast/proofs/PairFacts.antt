@@ -35,11 +35,11 @@ use Rattle.table.specs.Endian.{le}
 use Rattle.table.specs.declared.pair.Pair.{Pair}
 use Rattle.table.specs.Pairs.{Within, tapesAs}
 use Rattle.intersect_config.proofs.SoundFacts.{reads-arc}
-use Rattle.delays_relaxation.specs.Column.{column}
+use Rattle.delays_relaxation.specs.Vector.{vector}
 use Rattle.delays_relaxation.specs.Edges.{edges, ReadableArcs}
 use Rattle.delays_relaxation.specs.Lowered.{FillsLeast}
-use Rattle.delays_relaxation.proofs.ColumnFacts.{column-at}
-use Rattle.delays_relaxation.proofs.SweepFacts.{frame-column}
+use Rattle.delays_relaxation.proofs.VectorFacts.{vector-at}
+use Rattle.delays_relaxation.proofs.SweepFacts.{frame-vector}
 use Rattle.delays_relaxation.proofs.RoundFacts.{readable-arcs}
 use Rattle.delays_relaxation.proofs.TableFacts.{edges-are}
 use Rattle.delays.specs.ClosingRegion.{ClosesPair}
@@ -83,9 +83,9 @@ module _ (m : Memory) (s : Sound m) where
       → FillsLeast true (edges true 0 0 0 (m .arcs) (m .arcBytes)) fromInitial n (m .stateBytes) w u → Marked m w
   marked w u v room a b = record {
     to-final =
-        frame-column toFinal fromInitial 2 n w u (b .frame) (omega (arith, room, a .frame .same-length)) (inr (omega arith, omega arith))
-        ∙ reaching-are m s false (column toFinal n u) (a .least);
-    from-initial = reaching-are m s true (column fromInitial n w) (b .least);
+        frame-vector toFinal fromInitial 2 n w u (b .frame) (omega (arith, room, a .frame .same-length)) (inr (omega arith, omega arith))
+        ∙ reaching-are m s false (vector toFinal n u) (a .least);
+    from-initial = reaching-are m s true (vector fromInitial n w) (b .least);
   }
 
   -- the closing delays of a pair leave the marks
@@ -94,20 +94,20 @@ module _ (m : Memory) (s : Sound m) where
   marks-kept r p at w v low room c k =
       let f = pair-frame r (m .stateBytes) n (m .arcBytes) (m .arcs) p at w v c in
       record {
-        to-final = frame-column toFinal at 8 n w v f (omega (arith, room)) (inl (omega arith, omega arith)) ∙ k .to-final;
-        from-initial = frame-column fromInitial at 8 n w v f (omega (arith, room)) (inl (omega arith, omega arith)) ∙ k .from-initial;
+        to-final = frame-vector toFinal at 8 n w v f (omega (arith, room)) (inl (omega arith, omega arith)) ∙ k .to-final;
+        from-initial = frame-vector fromInitial at 8 n w v f (omega (arith, room)) (inl (omega arith, omega arith)) ∙ k .from-initial;
       }
 
-  -- the number that a column holds for state q
-  held-in : (c : ℕ) (w : List ℕ) (xs : List Bool) → column c n w ≡ map held xs → (q : ℕ) → q < n → le (part (c + delaysSize * q) 2 w) ≡ held (getD xs q false)
-  held-in c w xs e q h = sym (column-at c n w q missing h) ∙ ap (λ (ys : List ℕ). getD ys q missing) e ∙ held-at xs q
+  -- the number that a vector holds for state q
+  held-in : (c : ℕ) (w : List ℕ) (xs : List Bool) → vector c n w ≡ map held xs → (q : ℕ) → q < n → le (part (c + delaysSize * q) 2 w) ≡ held (getD xs q false)
+  held-in c w xs e q h = sym (vector-at c n w q missing h) ∙ ap (λ (ys : List ℕ). getD ys q missing) e ∙ held-at xs q
 
   -- the states marked are those on successful paths
   on-paths : (w : List ℕ) → Marked m w → marksFrom 0 n w ≡ onPaths A
   unfolding onPaths
   on-paths w k = marks-are 0 n w (onPaths A) (length-onPaths A (well-formed A (sound-well-formed m s)) ∙ sym (sound-holds m s .states)) (λ q h. both-marked (reaching (reversal A)) (reaching A) q ∙ sym (at-state q h))
     where
-      mark-in : (c : ℕ) (xs : List Bool) → column c n w ≡ map held xs → (q : ℕ) → q < n → not (eqb (le (part (0 + delaysSize * q + c) 2 w)) missing) ≡ getD xs q false
+      mark-in : (c : ℕ) (xs : List Bool) → vector c n w ≡ map held xs → (q : ℕ) → q < n → not (eqb (le (part (0 + delaysSize * q + c) 2 w)) missing) ≡ getD xs q false
       mark-in c xs e q h =
           let i : 0 + delaysSize * q + c ≡ c + delaysSize * q = omega arith in
           ap (λ (j : ℕ). not (eqb (le (part j 2 w)) missing)) i ∙ ap (λ (x : ℕ). not (eqb x missing)) (held-in c w xs e q h) ∙ mark-held (getD xs q false)
@@ -135,14 +135,14 @@ module _ (m : Memory) (s : Sound m) where
     abbrev after : Closing
     after = closing A (onTapes p)
 
-    -- the columns before the second call
-    kept : (c : ℕ) → c + 2 ≤ 8 → column c n w ≡ column c n u
+    -- the vectors before the second call
+    kept : (c : ℕ) → c + 2 ≤ 8 → vector c n w ≡ vector c n u
     kept c l =
-        frame-column c 8 8 n w u (pair-frame true (m .stateBytes) n (m .arcBytes) (m .arcs) p 8 w u b) (omega (arith, room, a .same-length)) (inr (omega arith, omega arith))
+        frame-vector c 8 8 n w u (pair-frame true (m .stateBytes) n (m .arcBytes) (m .arcs) p 8 w u b) (omega (arith, room, a .same-length)) (inr (omega arith, omega arith))
 
-    -- the number of state q in a column
-    number-in : (c : ℕ) (zs : List ℕ) → column c n w ≡ zs → (q : ℕ) → q < n → (j : ℕ) → j ≡ c + delaysSize * q → le (part j 2 w) ≡ getD zs q missing
-    number-in c zs e q h j f = ap (λ (k : ℕ). le (part k 2 w)) f ∙ sym (column-at c n w q missing h) ∙ ap (λ (ys : List ℕ). getD ys q missing) e
+    -- the number of state q in a vector
+    number-in : (c : ℕ) (zs : List ℕ) → vector c n w ≡ zs → (q : ℕ) → q < n → (j : ℕ) → j ≡ c + delaysSize * q → le (part j 2 w) ≡ getD zs q missing
+    number-in c zs e q h j f = ap (λ (k : ℕ). le (part k 2 w)) f ∙ sym (vector-at c n w q missing h) ∙ ap (λ (ys : List ℕ). getD ys q missing) e
 
     both-is : (q : ℕ) → q < n → bothAt (0 + delaysSize * q) w ≡ meetsBoth before after (0 + q)
     both-is q h =

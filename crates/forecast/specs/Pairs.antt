@@ -1,4 +1,4 @@
--- What the forecast of a pair is counted from: the columns of the work space that mark the states on successful paths,
+-- What the forecast of a pair is counted from: the vectors of the work space that mark the states on successful paths,
 -- and the arc records.
 use Prim.Native.Nat.{ℕ, _-_, _*_}
 use mathlib.Core.Path.{_≡_}
@@ -12,15 +12,15 @@ use Rattle.automata.specs.Closing.{origin, missing}
 use Rattle.automata.specs.Reversal.{reversal}
 use Rattle.automata.specs.Memory.{Memory, tableOf}
 use Rattle.automata.specs.Forecast.{Forecast, needs, reaching, toldCapped}
-use Rattle.delays_relaxation.specs.Column.{column}
+use Rattle.delays_relaxation.specs.Vector.{vector}
 use Rattle.delays_relaxation.specs.Edges.{edges}
 use Rattle.forecast_counts.specs.Counts.{toFinal, fromInitial, marksFrom, greatestOf}
 use Rattle.forecast_counts.specs.Symbols.{symbolsFrom}
 
 -- the work space marks which states of the table reach a final state, and which an initial state leads to
 pub record Marked (m : Memory) (w : List ℕ) : Type 0 where
-  pub to-final : column toFinal (m .states) w ≡ map (λ b. if b origin missing) (reaching (tableOf m))
-  pub from-initial : column fromInitial (m .states) w ≡ map (λ b. if b origin missing) (reaching (reversal (tableOf m)))
+  pub to-final : vector toFinal (m .states) w ≡ map (λ b. if b origin missing) (reaching (tableOf m))
+  pub from-initial : vector fromInitial (m .states) w ≡ map (λ b. if b origin missing) (reaching (reversal (tableOf m)))
 
 -- the delay that a pair can need, with so many states on successful paths
 abbrev pub delayBy : ℕ → ℕ → ℕ → List ℕ → ℕ → List ℕ → ℕ → ℕ

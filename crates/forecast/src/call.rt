@@ -54,7 +54,8 @@ fn first_refusal(
     room: bool,
     work: usize,
 ) -> Judged
-    ensures { λ r. ⌜ judgedAs r ≡ inTurn (forget (decodeTable (lent counts (now (states .entry)) (now (arcs .entry))))) (judgedAs pairs) (and room (leb (forecastWork (counts .states)) work)) ⌝ }
+    ensures { λ r. ⌜ judgedAs r ≡ inTurn (forget (decodeTable (lent counts (now (states .entry)) (now (arcs .entry)))))
+        (judgedAs pairs) (and room (leb (forecastWork (counts .states)) work)) ⌝ }
 {
     let table = judge(counts, states, arcs);
     in_turn(table, pairs, has_space(room, counts.states, work))
@@ -70,7 +71,8 @@ fn tell(
     work: &mut [u8],
 ) -> ForecastAnswer
     requires { ⌜ TapesListed (counts .tapes) listed ⌝ }
-    ensures { λ r. ⌜ (r .told .used ≤ 4) × ((ps : List Pair) → TapesJudged ps (counts .tapes) listed → answerAs r ≡ forecastAnswer (lent counts (now (states .entry)) (now (arcs .entry))) ps room (now (work .entry))) ⌝ }
+    ensures { λ r. ⌜ (r .told .used ≤ 4) × ((ps : List Pair) → TapesJudged ps (counts .tapes) listed → answerAs r
+        ≡ forecastAnswer (lent counts (now (states .entry)) (now (arcs .entry))) ps room (now (work .entry))) ⌝ }
 {
     let fit = listed.judged;
     let list = listed.pairs;
@@ -96,7 +98,10 @@ pub fn forecast_judged(
     work: &mut [u8],
 ) -> ForecastAnswer
     requires { ⌜ TapesListed (counts .tapes) listed ⌝ }
-    ensures { λ r. ⌜ (r .told .used ≤ 4) × ((ps : List Pair) → TapesJudged ps (counts .tapes) listed → foretoldOf (answerAs r) (now (work .exit)) ≡ foretoldOf (forecastAnswer (lent counts (now (states .entry)) (now (arcs .entry))) ps room (now (work .entry))) (cleared (now (work .entry)))) ⌝ }
+    ensures { λ r. ⌜ (r .told .used ≤ 4) × ((ps : List Pair) → TapesJudged ps (counts .tapes) listed
+        → foretoldOf (answerAs r) (now (work .exit))
+        ≡ foretoldOf (forecastAnswer (lent counts (now (states .entry)) (now (arcs .entry))) ps room
+        (now (work .entry))) (cleared (now (work .entry)))) ⌝ }
 {
     let answer = tell(counts, states, arcs, listed, room, work);
     zero(work);
@@ -127,7 +132,9 @@ pub fn forecast_into(
     result: &mut [u8],
     work: &mut [u8],
 ) -> ForecastAnswer
-    ensures { λ r. ⌜ (r .told .used ≤ 4) × (recordedOf (recordBytes (answerAs r)) (now (result .exit)) (now (work .exit)) ≡ forecastRecorded (lent counts (now (states .entry)) (now (arcs .entry))) (tapesOf (pairsOf (now (pairs .entry)))) (now (result .entry)) (now (work .entry))) ⌝ }
+    ensures { λ r. ⌜ (r .told .used ≤ 4) × (recordedOf (recordBytes (answerAs r)) (now (result .exit))
+        (now (work .exit)) ≡ forecastRecorded (lent counts (now (states .entry)) (now (arcs .entry)))
+        (tapesOf (pairsOf (now (pairs .entry)))) (now (result .entry)) (now (work .entry))) ⌝ }
 {
     let listed = judge_tapes(pairs, counts.tapes);
     let room = pairs.len() / PAIR <= result.len() / RECORD;

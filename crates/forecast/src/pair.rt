@@ -89,7 +89,9 @@ fn needed(
     states: usize,
     found: usize,
 ) -> Forecast
-    requires { ⌜ ReadableArcs states (now arcs) count false first second × ShortLabels (now arcs) count first second × (delaysSize * states ≤ length (now work)) × (states ≤ 1024) × (found ≤ 1024) × (delayBy first second count (now arcs) states (now work) found < 65536) ⌝ }
+    requires { ⌜ ReadableArcs states (now arcs) count false first second × ShortLabels (now arcs) count first second
+        × (delaysSize * states ≤ length (now work)) × (states ≤ 1024) × (found ≤ 1024)
+        × (delayBy first second count (now arcs) states (now work) found < 65536) ⌝ }
     ensures { λ r. ⌜ forecastAs r ≡ neededBy first second count (now (arcs .entry)) states (now (work .entry)) found ⌝ }
 {
     let greatest = greatest_delay(arcs, count, first, second, work, states);
@@ -108,8 +110,11 @@ fn forecast_pair(
     found: usize,
     work: &mut [u8],
 ) -> Forecast
-    requires { ⌜ Sound (lent counts (now states) (now arcs)) × Within (counts .tapes) p × (forecastWork (counts .states) ≤ length (now work)) × Marked (lent counts (now states) (now arcs)) (now work) × (found ≡ pathStates (tableOf (lent counts (now states) (now arcs)))) ⌝ }
-    ensures { λ r. ⌜ (forecastAs r ≡ forecastOf (tableOf (lent counts (now (states .entry)) (now (arcs .entry)))) (tapesAs p)) × Marked (lent counts (now (states .entry)) (now (arcs .entry))) (now (work .exit)) ⌝ }
+    requires { ⌜ Sound (lent counts (now states) (now arcs)) × Within (counts .tapes) p
+        × (forecastWork (counts .states) ≤ length (now work)) × Marked (lent counts (now states) (now arcs)) (now work)
+        × (found ≡ pathStates (tableOf (lent counts (now states) (now arcs)))) ⌝ }
+    ensures { λ r. ⌜ (forecastAs r ≡ forecastOf (tableOf (lent counts (now (states .entry)) (now (arcs .entry))))
+        (tapesAs p)) × Marked (lent counts (now (states .entry)) (now (arcs .entry))) (now (work .exit)) ⌝ }
 {
     let n = counts.states;
     let count = counts.arcs;
@@ -138,8 +143,12 @@ fn forecast_pairs(
     found: usize,
     work: &mut [u8],
 ) -> ForecastList
-    requires { ⌜ Sound (lent counts (now states) (now arcs)) × Named (counts .tapes) pairs × (forecastWork (counts .states) ≤ length (now work)) × Marked (lent counts (now states) (now arcs)) (now work) × (found ≡ pathStates (tableOf (lent counts (now states) (now arcs)))) ⌝ }
-    ensures { λ r. ⌜ (r .used ≤ 4) × (forecastsAs r ≡ map (forecastOf (tableOf (lent counts (now (states .entry)) (now (arcs .entry))))) (tapesOf (pairsAs pairs))) ⌝ }
+    requires { ⌜ Sound (lent counts (now states) (now arcs)) × Named (counts .tapes) pairs
+        × (forecastWork (counts .states) ≤ length (now work)) × Marked (lent counts (now states) (now arcs)) (now work)
+        × (found ≡ pathStates (tableOf (lent counts (now states) (now arcs)))) ⌝ }
+    ensures { λ r. ⌜ (r .used ≤ 4) × (forecastsAs r
+        ≡ map (forecastOf (tableOf (lent counts (now (states .entry)) (now (arcs .entry)))))
+        (tapesOf (pairsAs pairs))) ⌝ }
 {
     let used = pairs.used;
     let list = pairs.pairs;
@@ -162,8 +171,11 @@ pub fn forecasts_of(
     pairs: PairList,
     work: &mut [u8],
 ) -> ForecastList
-    requires { ⌜ Sound (lent counts (now states) (now arcs)) × Named (counts .tapes) pairs × (forecastWork (counts .states) ≤ length (now work)) ⌝ }
-    ensures { λ r. ⌜ (r .used ≤ 4) × (forecastsAs r ≡ map (forecastOf (tableOf (lent counts (now (states .entry)) (now (arcs .entry))))) (tapesOf (pairsAs pairs))) ⌝ }
+    requires { ⌜ Sound (lent counts (now states) (now arcs)) × Named (counts .tapes) pairs
+        × (forecastWork (counts .states) ≤ length (now work)) ⌝ }
+    ensures { λ r. ⌜ (r .used ≤ 4) × (forecastsAs r
+        ≡ map (forecastOf (tableOf (lent counts (now (states .entry)) (now (arcs .entry)))))
+        (tapesOf (pairsAs pairs))) ⌝ }
 {
     let n = counts.states;
     let count = counts.arcs;

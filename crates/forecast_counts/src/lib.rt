@@ -129,7 +129,8 @@ fn delay_size(up: u8, down: u8) -> u8
 
 // Whether both states of an arc lie on successful paths.
 fn arc_on_path(work: &[u8], e: Edge) -> bool
-    requires { ⌜ (delaysSize * e .source + delaysSize ≤ length (now work)) × (delaysSize * e .target + delaysSize ≤ length (now work)) ⌝ }
+    requires { ⌜ (delaysSize * e .source + delaysSize ≤ length (now work))
+        × (delaysSize * e .target + delaysSize ≤ length (now work)) ⌝ }
     ensures { λ r. ⌜ r ≡ arcOnPath (e .source) (e .target) (now (work .entry)) ⌝ }
 {
     if !on_path(work, DELAYS_SIZE * e.source as usize) {
@@ -140,8 +141,10 @@ fn arc_on_path(work: &[u8], e: Edge) -> bool
 
 // The greater of a number and the size of an arc's delay, where the arc lies on a successful path; else the number.
 fn raise(work: &[u8], e: Edge, best: u8) -> u8
-    requires { ⌜ (delaysSize * e .source + delaysSize ≤ length (now work)) × (delaysSize * e .target + delaysSize ≤ length (now work)) ⌝ }
-    ensures { λ r. ⌜ r ≡ raised (arcOnPath (e .source) (e .target) (now (work .entry))) (delaySize (e .up) (e .down)) best ⌝ }
+    requires { ⌜ (delaysSize * e .source + delaysSize ≤ length (now work))
+        × (delaysSize * e .target + delaysSize ≤ length (now work)) ⌝ }
+    ensures { λ r. ⌜ r ≡ raised (arcOnPath (e .source) (e .target) (now (work .entry)))
+        (delaySize (e .up) (e .down)) best ⌝ }
 {
     let size = delay_size(e.up, e.down);
     if size <= best {
@@ -161,7 +164,8 @@ pub fn greatest_delay(
     states: usize,
 ) -> u8
     requires { ⌜ ReadableArcs states (now arcs) count false first second × (delaysSize * states ≤ length (now work)) ⌝ }
-    ensures { λ r. ⌜ r ≡ greatestOf (marksFrom 0 states (now (work .entry))) (edges false first second 0 count (now (arcs .entry))) ⌝ }
+    ensures { λ r. ⌜ r ≡ greatestOf (marksFrom 0 states (now (work .entry)))
+        (edges false first second 0 count (now (arcs .entry))) ⌝ }
 {
     let mut best: u8 = 0;
     let mut from: usize = 0;
@@ -193,7 +197,8 @@ fn note_bytes(seen: &mut [u8], bytes: &[u8], at: usize, count: usize)
 
 // The symbols of an arc's label on one tape are noted.
 fn note_label(seen: &mut [u8], arcs: &[u8], at: usize, tape: usize)
-    requires { ⌜ (length (now seen) ≡ 256) × (at + arcSize ≤ length (now arcs)) × (tape < 8) × (getD (now arcs) (labelPlace at tape) 0 ≤ 8) ⌝ }
+    requires { ⌜ (length (now seen) ≡ 256) × (at + arcSize ≤ length (now arcs)) × (tape < 8)
+        × (getD (now arcs) (labelPlace at tape) 0 ≤ 8) ⌝ }
     ensures { λ _. ⌜ now (seen .exit) ≡ noted (now (seen .entry)) (labelAt tape at (now (arcs .entry))) ⌝ }
 {
     let count = label_length_at(arcs, at, tape) as usize;
@@ -203,7 +208,8 @@ fn note_label(seen: &mut [u8], arcs: &[u8], at: usize, tape: usize)
 // Those of all labels on two tapes.
 fn note_arcs(seen: &mut [u8], arcs: &[u8], count: usize, first: usize, second: usize)
     requires { ⌜ (length (now seen) ≡ 256) × ShortLabels (now arcs) count first second ⌝ }
-    ensures { λ _. ⌜ now (seen .exit) ≡ noted (now (seen .entry)) (symbolsFrom first second 0 count (now (arcs .entry))) ⌝ }
+    ensures { λ _. ⌜ now (seen .exit) ≡ noted (now (seen .entry))
+        (symbolsFrom first second 0 count (now (arcs .entry))) ⌝ }
 {
     let mut from: usize = 0;
     let mut left = count;
@@ -229,7 +235,8 @@ fn count_marks(seen: &[u8]) -> usize
 // How many different symbols stand on two tapes of the arcs, as they are compared.
 pub fn symbols_used(arcs: &[u8], count: usize, first: usize, second: usize) -> usize
     requires { ⌜ ShortLabels (now arcs) count first second ⌝ }
-    ensures { λ r. ⌜ (r ≡ length (insertAll eqb [] (symbolsFrom first second 0 count (now (arcs .entry))))) × (r ≤ 256) ⌝ }
+    ensures { λ r. ⌜ (r ≡ length (insertAll eqb [] (symbolsFrom first second 0 count (now (arcs .entry)))))
+        × (r ≤ 256) ⌝ }
 {
     let mut seen = [0u8; 256];
     note_arcs(&mut seen, arcs, count, first, second);

@@ -39,12 +39,12 @@ module _ (m : Memory) (listed : List TapePair) (oldStates oldArcs work : List �
       ∙ ap (λ (a : Answer (Automaton ℕ)). put a slices)
       (sym (p .answer work refl ∙ ap (λ (j : Judged). judgedAs j >>= λ (u : Unit {0}). intersectOn (spaceOf slices) listed (tableOf m)) e))
 
-  -- what the search settles is the call's
-  pub call-settled : r .judged ≡ Fine → (a : Answer TableCounts) (states arcBytes : List ℕ)
+  -- the answer of the search is the call's
+  pub call-answered : r .judged ≡ Fine → (a : Answer TableCounts) (states arcBytes : List ℕ)
       → madeOf a states arcBytes ≡ put (tableBy m (pairsAs (r .pairs)) (viable (closingTables (tableOf m) (pairsAs (r .pairs)))) (spaceOf slices)) slices
       → madeOf a states arcBytes ≡ put answer slices
   unfolding intersectOn intersect
-  call-settled e a states arcBytes z =
+  call-answered e a states arcBytes z =
       z ∙ ap (λ (ps : List TapePair). put (tableBy m ps (viable (closingTables (tableOf m) ps)) (spaceOf slices)) slices) (p .pairs-are e)
       ∙ ap (λ (x : Answer (Automaton ℕ)). put x slices)
       (sym (p .answer work refl ∙ ap (λ (j : Judged). judgedAs j >>= λ (u : Unit {0}). intersectOn (spaceOf slices) listed (tableOf m)) e))

@@ -1,4 +1,4 @@
--- The search of a plan, as the answer is settled by it.
+-- The search of a plan, as it is answered.
 use Prim.Native.Nat.{ℕ, _+_, _/_, _≤_}
 use mathlib.Core.Path.{_≡_, sym, ap, _∙_, subst}
 use mathlib.Core.Bool.{true}
@@ -30,7 +30,7 @@ use Rattle.intersect_head.specs.declared.head.Head.{Head}
 use Rattle.intersect_search.specs.Exploring.{reachedIn, Explored}
 use Rattle.intersect.specs.declared.prepare.Prepared.{Prepared}
 use Rattle.intersect.specs.Prepared.{Prepares}
-use Rattle.intersect_result.specs.Searched.{Searched, Settleable}
+use Rattle.intersect_result.specs.Searched.{Searched, Answerable}
 use Rattle.intersect.proofs.ConfigRows.{row-of}
 
 -- a row that begins with the record of a configuration that is stored holds it
@@ -52,7 +52,7 @@ stored-rows used n k (c ∷ cs) a w h e s q =
 
 module _ (p : Plan) (states arcs : List ℕ) (size : ℕ) (x : Explorable p states arcs size) (h : Head) (v w : List ℕ) (e : Explored p states arcs v h w) where
   -- what the search tells
-  pub searched : Searched (lent (p .counts) states arcs) (pairsIn p) (viableIn p states arcs) (p .room) (h .full) (h .late) (h .reached) (h .arcs) w
+  pub searched : Searched (lent (p .counts) states arcs) (pairsIn p) (viableIn p states arcs) (p .room) h w
   searched = record {
     over = e .comes .over;
     within = λ f. let d = e .comes .held f in record {
@@ -67,10 +67,10 @@ module _ (p : Plan) (states arcs : List ℕ) (size : ℕ) (x : Explorable p stat
     };
   }
 
-  -- so that the answer can be settled
-  pub settleable : (forStates forArcs : ℕ) → Divides (forStates / stateSize) (forArcs / arcSize) (p .counts .states) (length v) (p .room)
-      → Settleable (lent (p .counts) states arcs) (p .room) (h .full) (h .late) (h .reached) (h .arcs) w forStates forArcs
-  settleable forStates forArcs d = record {
+  -- so that it can be answered
+  pub answerable : (forStates forArcs : ℕ) → Divides (forStates / stateSize) (forArcs / arcSize) (p .counts .states) (length v) (p .room)
+      → Answerable p h states arcs w forStates forArcs
+  answerable forStates forArcs d = record {
     sound = x .sound;
     divides = subst (λ (k : ℕ). Divides (forStates / stateSize) (forArcs / arcSize) (p .counts .states) k (p .room)) (sym (e .same-length)) d;
     pairs = pairsIn p;

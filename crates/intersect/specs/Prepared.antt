@@ -17,7 +17,8 @@ use Rattle.pairs.specs.Judgement.{KeepJudged}
 use Rattle.intersect_room.specs.Room.{lentSpace, Divides}
 use Rattle.intersect.specs.declared.prepare.Prepared.{Prepared}
 
--- The first refusal is the call's, and where there is none the call goes on to reach configurations; what then is known of its parts.
+-- The first refusal is the call's, and where there is none the call goes on to reach configurations; what then is known
+-- of its parts.
 pub record Prepares (m : Memory) (ps : List TapePair) (states arcs work : ℕ) (r : Prepared) : Type 0 where
   pub answer : (w : List ℕ) → length w ≡ work → intersectAnswer m ps (lentSpace states arcs) w
       ≡ (judgedAs (r .judged) >>= λ (u : Unit {0}). intersectOn (lentSpace states arcs) ps (tableOf m))

@@ -30,7 +30,11 @@ fn build(
     work: &mut [u8],
 ) -> TableAnswer
     requires { ⌜ Listed (counts .tapes) listed ⌝ }
-    ensures { λ r. ⌜ ((ps : List TapePair) → KeepJudged ps (counts .tapes) listed → madeOf (tableAs r) (now («out_states» .exit)) (now («out_arcs» .exit)) ≡ put (intersectAnswer (lent counts (now (states .entry)) (now (arcs .entry))) ps (spaceOf (slicesOf (now («out_states» .entry)) (now («out_arcs» .entry)))) (now (work .entry))) (slicesOf (now («out_states» .entry)) (now («out_arcs» .entry)))) ⌝ }
+    ensures { λ r. ⌜ ((ps : List TapePair) → KeepJudged ps (counts .tapes) listed
+        → madeOf (tableAs r) (now («out_states» .exit)) (now («out_arcs» .exit))
+        ≡ put (intersectAnswer (lent counts (now (states .entry)) (now (arcs .entry))) ps
+        (spaceOf (slicesOf (now («out_states» .entry)) (now («out_arcs» .entry)))) (now (work .entry)))
+        (slicesOf (now («out_states» .entry)) (now («out_arcs» .entry)))) ⌝ }
 {
     let prepared = prepare(
         counts,
@@ -68,7 +72,10 @@ pub fn intersect_judged(
     work: &mut [u8],
 ) -> TableAnswer
     requires { ⌜ Listed (counts .tapes) listed ⌝ }
-    ensures { λ r. ⌜ ((ps : List TapePair) → KeepJudged ps (counts .tapes) listed → builtOf (tableAs r) (now («out_states» .exit)) (now («out_arcs» .exit)) (now (work .exit)) ≡ intersectOutcome (lent counts (now (states .entry)) (now (arcs .entry))) ps (slicesOf (now («out_states» .entry)) (now («out_arcs» .entry))) (now (work .entry))) ⌝ }
+    ensures { λ r. ⌜ ((ps : List TapePair) → KeepJudged ps (counts .tapes) listed
+        → builtOf (tableAs r) (now («out_states» .exit)) (now («out_arcs» .exit)) (now (work .exit))
+        ≡ intersectOutcome (lent counts (now (states .entry)) (now (arcs .entry))) ps
+        (slicesOf (now («out_states» .entry)) (now («out_arcs» .entry))) (now (work .entry))) ⌝ }
 {
     let answer = build(counts, states, arcs, listed, out_states, out_arcs, work);
     zero(work);
@@ -86,7 +93,9 @@ pub fn intersect(
     out_arcs: &mut [u8],
     work: &mut [u8],
 ) -> TableAnswer
-    ensures { λ r. ⌜ builtOf (tableAs r) (now («out_states» .exit)) (now («out_arcs» .exit)) (now (work .exit)) ≡ intersectOutcome (lent counts (now (states .entry)) (now (arcs .entry))) (pairsOf (now (pairs .entry))) (slicesOf (now («out_states» .entry)) (now («out_arcs» .entry))) (now (work .entry)) ⌝ }
+    ensures { λ r. ⌜ builtOf (tableAs r) (now («out_states» .exit)) (now («out_arcs» .exit)) (now (work .exit))
+        ≡ intersectOutcome (lent counts (now (states .entry)) (now (arcs .entry))) (pairsOf (now (pairs .entry)))
+        (slicesOf (now («out_states» .entry)) (now («out_arcs» .entry))) (now (work .entry)) ⌝ }
 {
     let listed = judge_pairs(pairs, counts.tapes);
     intersect_judged(counts, states, arcs, listed, out_states, out_arcs, work)

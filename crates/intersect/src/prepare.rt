@@ -17,7 +17,8 @@ pub struct Prepared {
     pub room: Room,
 }
 
-// The table, the pairs that were judged and the work space of so many bytes for a result of so many states and arcs, in this order.
+// The table, the pairs that were judged and the work space of so many bytes for a result of so many states and arcs, in
+// this order.
 pub fn prepare(
     counts: Counts,
     states: &[u8],
@@ -27,7 +28,8 @@ pub fn prepare(
     lent_arcs: usize,
     work: usize,
 ) -> Prepared
-    ensures { λ r. ⌜ PreparesFor (lent counts (now (states .entry)) (now (arcs .entry))) listed «lent_states» «lent_arcs» work r ⌝ }
+    ensures { λ r. ⌜ PreparesFor (lent counts (now (states .entry)) (now (arcs .entry))) listed «lent_states»
+        «lent_arcs» work r ⌝ }
 {
     let table = judge(counts, states, arcs);
     let answer = room_for(lent_states, lent_arcs, counts.states, work);

@@ -1,13 +1,8 @@
 // The auto-intersection behind its tests: the search over the configurations, and the answer by it.
 use intersect_offers::plan::Plan;
 use intersect_result::finish::answer_search;
-use intersect_room::room::room_for;
 use intersect_search::explore::explore;
-use table::answer::Counts;
 use table::answer::TableAnswer;
-use table::layout::ARC_SIZE;
-use table::layout::STATE_SIZE;
-use table::pair::PairList;
 ghost use mathlib.Core.Path.{_≡_};
 ghost use Prim.Native.Nat.{_/_};
 ghost use lib.ListN.{length};
@@ -30,38 +25,34 @@ pub fn reach(
     out_arcs: &mut [u8],
     work: &mut [u8],
 ) -> TableAnswer
-    requires { ⌜ Explorable plan (now states) (now arcs) (length (now work)) × Divides (length (now «out_states») / stateSize) (length (now «out_arcs») / arcSize) (plan .counts .states) (length (now work)) (plan .room) ⌝ }
-    ensures { λ r. ⌜ madeOf (tableAs r) (now («out_states» .exit)) (now («out_arcs» .exit)) ≡ put (tableBy (lent (plan .counts) (now (states .entry)) (now (arcs .entry))) (pairsIn plan) (viableIn plan (now (states .entry)) (now (arcs .entry))) (spaceOf (slicesOf (now («out_states» .entry)) (now («out_arcs» .entry))))) (slicesOf (now («out_states» .entry)) (now («out_arcs» .entry))) ⌝ }
+    requires { ⌜ Explorable plan (now states) (now arcs) (length (now work))
+        × Divides (length (now «out_states») / stateSize) (length (now «out_arcs») / arcSize) (plan .counts .states)
+        (length (now work)) (plan .room) ⌝ }
+    ensures { λ r. ⌜ madeOf (tableAs r) (now («out_states» .exit)) (now («out_arcs» .exit))
+        ≡ put (tableBy (lent (plan .counts) (now (states .entry)) (now (arcs .entry))) (pairsIn plan)
+        (viableIn plan (now (states .entry)) (now (arcs .entry)))
+        (spaceOf (slicesOf (now («out_states» .entry)) (now («out_arcs» .entry)))))
+        (slicesOf (now («out_states» .entry)) (now («out_arcs» .entry))) ⌝ }
 {
     let head = explore(plan, states, arcs, work);
     answer_search(plan, head, states, arcs, work, out_states, out_arcs)
 }
 
-// The auto-intersection as a step: of a table that is known to be one, on pairs of its tapes, with work space that is
-// enough. Work space is not cleared.
+// The auto-intersection as a step: of a table that is known to be one, on pairs of its tapes, in work space that is
+// divided. Work space is not cleared.
 pub fn intersect_step(
-    counts: Counts,
+    plan: Plan,
     states: &[u8],
     arcs: &[u8],
-    pairs: PairList,
     out_states: &mut [u8],
     out_arcs: &mut [u8],
     work: &mut [u8],
 ) -> TableAnswer
-    requires { ⌜ Intersectable (lent counts (now states) (now arcs)) pairs (length (now «out_states»)) (length (now «out_arcs»)) (length (now work)) ⌝ }
-    ensures { λ r. ⌜ madeOf (tableAs r) (now («out_states» .exit)) (now («out_arcs» .exit)) ≡ intersectStep (lent counts (now (states .entry)) (now (arcs .entry))) (pairsAs pairs) (slicesOf (now («out_states» .entry)) (now («out_arcs» .entry))) ⌝ }
+    requires { ⌜ Intersectable (lent (plan .counts) (now states) (now arcs)) (plan .pairs) (plan .room)
+        (length (now «out_states»)) (length (now «out_arcs»)) (length (now work)) ⌝ }
+    ensures { λ r. ⌜ madeOf (tableAs r) (now («out_states» .exit)) (now («out_arcs» .exit))
+        ≡ intersectStep (lent (plan .counts) (now (states .entry)) (now (arcs .entry))) (pairsAs (plan .pairs))
+        (slicesOf (now («out_states» .entry)) (now («out_arcs» .entry))) ⌝ }
 {
-    let answer = room_for(
-        out_states.len() / STATE_SIZE,
-        out_arcs.len() / ARC_SIZE,
-        counts.states,
-        work.len(),
-    );
-    let room = answer.room;
-    let plan = Plan {
-        counts,
-        pairs,
-        room,
-    };
     reach(plan, states, arcs, out_states, out_arcs, work)
 }

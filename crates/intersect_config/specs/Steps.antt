@@ -49,7 +49,8 @@ pub record Reads (arcs : List ℕ) (at tapes : ℕ) (a : Arc ℕ) : Type 0 where
   pub label : (i : ℕ) → i < tapes → labelOn i a ≡ take (getD arcs (labelPlace at i) 0) (part (labelPlace at i + 1) 8 arcs)
   pub label-fits : (i : ℕ) → i < tapes → getD arcs (labelPlace at i) 0 ≤ 8
 
--- what following an arc asks: its record is whole, the pairs name tapes, their labels and the leftovers are no longer than allowed
+-- what following an arc asks: its record is whole, the pairs name tapes, their labels and the leftovers are no longer
+-- than allowed
 pub record Followable (c : Config) (arcs : List ℕ) (at : ℕ) (ps : PairList) : Type 0 where
   pub whole : at + arcSize ≤ length arcs
   pub named : Named 8 ps

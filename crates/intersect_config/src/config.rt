@@ -49,7 +49,8 @@ pub fn load_row(work: &[u8], at: usize) -> [u8; ROW_SIZE]
 
 // Whether some leftover is longer than the limit of its pair.
 pub fn too_long(row: &[u8], pairs: PairList) -> bool
-    requires { ⌜ (GoodConfig (pairs .used) (configAt 0 (now row))) × (pairs .used ≤ 4) × (length (pairs .pairs) ≡ 4) × (length (now row) ≡ rowSize) ⌝ }
+    requires { ⌜ (GoodConfig (pairs .used) (configAt 0 (now row))) × (pairs .used ≤ 4) × (length (pairs .pairs) ≡ 4)
+        × (length (now row) ≡ rowSize) ⌝ }
     ensures { λ r. ⌜ r ≡ tooLong (pairsAs pairs) (configAs (pairs .used) (configAt 0 (now (row .entry))) .leftovers) ⌝ }
 {
     let mut i = 0;

@@ -158,7 +158,8 @@ fn byte_of(b: bool) -> u8
 // The bytes of a leftover written at `at`.
 pub fn store_leftover(work: &mut [u8], at: usize, l: Leftover)
     requires { ⌜ at + leftoverSize ≤ length (now work) ⌝ }
-    ensures { λ _. ⌜ (now (work .exit) ≡ splice at (leftoverBytes l) (now (work .entry))) × (length (leftoverBytes l) ≡ leftoverSize) ⌝ }
+    ensures { λ _. ⌜ (now (work .exit) ≡ splice at (leftoverBytes l) (now (work .entry)))
+        × (length (leftoverBytes l) ≡ leftoverSize) ⌝ }
 {
     work[at] = byte_of(l.second);
     work[at + 1] = l.len;

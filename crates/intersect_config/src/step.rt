@@ -65,7 +65,10 @@ fn read_label(x: Label) -> Label
 
 // What is left of one pair after the arc.
 fn advance_pair(l: Leftover, arcs: &[u8], at: usize, p: Pair) -> Advanced
-    requires { ⌜ (at + arcSize ≤ length (now arcs)) × ((Within 8 p) × ((l .len ≤ maxDelay) × ((getD (now arcs) (labelPlace at (p .first - 1)) 0 ≤ 8) × (getD (now arcs) (labelPlace at (p .second - 1)) 0 ≤ 8)))) ⌝ }
+    requires { ⌜ (at + arcSize ≤ length (now arcs))
+        × ((Within 8 p) × ((l .len ≤ maxDelay)
+        × ((getD (now arcs) (labelPlace at (p .first - 1)) 0 ≤ 8)
+        × (getD (now arcs) (labelPlace at (p .second - 1)) 0 ≤ 8)))) ⌝ }
     ensures { λ r. ⌜ Advances (pairAfter at (now (arcs .entry)) p l) r ⌝ }
 {
     let x = read_label(label_at(arcs, at, p.first));
@@ -77,7 +80,8 @@ fn advance_pair(l: Leftover, arcs: &[u8], at: usize, p: Pair) -> Advanced
 // its tapes are compatible.
 fn advance_slot(own: &[u8], arcs: &[u8], at: usize, p: Pair, i: usize, row: &mut [u8]) -> bool
     requires { ⌜ Advanceable (now own) (now arcs) at p i (now row) ⌝ }
-    ensures { λ r. ⌜ AdvancesAt (pairAfter at (now (arcs .entry)) p (leftoverAt (slot i) (now (own .entry)))) (slot i) (now (row .entry)) r (now (row .exit)) ⌝ }
+    ensures { λ r. ⌜ AdvancesAt (pairAfter at (now (arcs .entry)) p (leftoverAt (slot i) (now (own .entry)))) (slot i)
+        (now (row .entry)) r (now (row .exit)) ⌝ }
 {
     let l = load_leftover(own, 2 + LEFTOVER_SIZE * i);
     let a = advance_pair(l, arcs, at, p);
@@ -92,7 +96,8 @@ fn advance_slot(own: &[u8], arcs: &[u8], at: usize, p: Pair, i: usize, row: &mut
 // The configuration after the arc whose record stands at `at`, written over the row. Tells whether the tapes of every
 // pair are compatible.
 pub fn follow(own: &[u8], arcs: &[u8], at: usize, pairs: PairList, row: &mut [u8]) -> bool
-    requires { ⌜ Followable (configAt 0 (now own)) (now arcs) at pairs × (length (now own) ≡ rowSize) × Row (pairs .used) (now row) ⌝ }
+    requires { ⌜ Followable (configAt 0 (now own)) (now arcs) at pairs × (length (now own) ≡ rowSize)
+        × Row (pairs .used) (now row) ⌝ }
     ensures { λ r. ⌜ FollowsIn (now (own .entry)) (now (arcs .entry)) at pairs r (now (row .exit)) ⌝ }
 {
     let target = target_at(arcs, at).0;

@@ -1,4 +1,5 @@
--- The edges between configurations as records of 6 bytes, each at the front of 16: the source, the arc of the input table, the target, 2 bytes each.
+-- The edges between configurations as records of 6 bytes, each at the front of 16: the source, the arc of the input
+-- table, the target, 2 bytes each.
 use Prim.Native.Nat.{ℕ, zero, suc, _+_, _*_, _<_}
 use mathlib.Core.Path.{_≡_}
 use mathlib.Core.Option.{some}

@@ -40,8 +40,10 @@ fn both(a: bool, b: bool) -> bool
 
 // A round over all edges, the last one first. Tells whether it left every mark as it was.
 fn round_marks(work: &[u8], base: usize, arcs: usize, count: usize, marks: &mut [u8]) -> bool
-    requires { ⌜ (base + stepSize * arcs ≤ length (now work)) × (count ≤ length (now marks)) × Joined count (edgesAt base arcs (now work)) ⌝ }
-    ensures { λ r. ⌜ Becomes (sweptMarks (edgesAt base arcs (now (work .entry))) (now (marks .entry))) r (now (marks .exit)) (now (marks .entry)) ⌝ }
+    requires { ⌜ (base + stepSize * arcs ≤ length (now work)) × (count ≤ length (now marks))
+        × Joined count (edgesAt base arcs (now work)) ⌝ }
+    ensures { λ r. ⌜ Becomes (sweptMarks (edgesAt base arcs (now (work .entry))) (now (marks .entry))) r
+        (now (marks .exit)) (now (marks .entry)) ⌝ }
 {
     let mut left = arcs;
     let mut from = base + STEP_SIZE * arcs;
@@ -56,11 +58,13 @@ fn round_marks(work: &[u8], base: usize, arcs: usize, count: usize, marks: &mut 
     same
 }
 
-// The marks of the configurations from which a final one can be reached, from those of the final ones: as many rounds as there are
-// configurations, or until one changes nothing.
+// The marks of the configurations from which a final one can be reached, from those of the final ones: as many rounds
+// as there are configurations, or until one changes nothing.
 pub fn mark_coaccessible(work: &[u8], base: usize, arcs: usize, count: usize, marks: &mut [u8])
-    requires { ⌜ (base + stepSize * arcs ≤ length (now work)) × (count ≤ length (now marks)) × Joined count (edgesAt base arcs (now work)) × Bits (take count (now marks)) ⌝ }
-    ensures { λ _. ⌜ now (marks .exit) ≡ bits (coaccessible (recordGraph (edgesAt base arcs (now (work .entry)))) (bools (take count (now (marks .entry))))) ++ drop count (now (marks .entry)) ⌝ }
+    requires { ⌜ (base + stepSize * arcs ≤ length (now work)) × (count ≤ length (now marks))
+        × Joined count (edgesAt base arcs (now work)) × Bits (take count (now marks)) ⌝ }
+    ensures { λ _. ⌜ now (marks .exit) ≡ bits (coaccessible (recordGraph (edgesAt base arcs (now (work .entry))))
+        (bools (take count (now (marks .entry))))) ++ drop count (now (marks .entry)) ⌝ }
 {
     let mut rounds: usize = count;
     while 0 < rounds {

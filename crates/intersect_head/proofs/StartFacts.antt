@@ -27,6 +27,7 @@ use Rattle.table.specs.Pairs.{pairAs, pairsAs}
 use Rattle.search_rows.specs.declared.Reached.{Reached}
 use Rattle.search_rows.specs.declared.Entered.{Entered}
 use Rattle.search_rows.specs.declared.Entered.the-variants as E
+use Rattle.search_rows.proofs.ProgressFacts.{widens-none}
 use Rattle.intersect_config.specs.Configs.{Config, configAs, GoodConfig, Starts}
 use Rattle.delays.specs.ClosingRegion.{HoldsClosing}
 use Rattle.delays.proofs.TestFacts.{length-closings}
@@ -34,7 +35,7 @@ use Rattle.intersect_offers.specs.declared.plan.Plan.{Plan}
 use Rattle.intersect_head.specs.declared.head.Head.{Head}
 use Rattle.intersect_offers.specs.Plans.{Explorable, tableIn, pairsIn, tablesIn, viableIn}
 use Rattle.intersect_offers.specs.Offers.{TellsViable}
-use Rattle.intersect_head.specs.Searching.{EntersConfig, Comes}
+use Rattle.intersect_head.specs.Searching.{EntersConfig, progress, Comes}
 use Rattle.intersect_head.specs.Starting.{withConfigs, Admittable, Admits, startBy, Startable, Enters}
 use Rattle.intersect_offers.proofs.FormFacts.{stored-form, not-long}
 use Rattle.intersect_head.proofs.HeldFacts.{was-at, was-new, was-full, inserted-held}
@@ -44,13 +45,15 @@ use Rattle.intersect_head.proofs.VisitFacts.{withReached}
 
 module _ (p : Plan) (h : Head) (d : Config) (v : List ℕ) (q : Admittable p h d v) (r : Entered) (w : List ℕ)
     (t : EntersConfig (h .reached) (p .room .states) (p .pairs .used) d v r w) where
+  -- what is reached is within the room
+  reached-fits : h .reached ≤ p .room .states
+  reached-fits = omega (arith, q .holds .reached, q .holds .fits)
+
   pub admits-at : (n : Reached) → r ≡ E.At n → Admits p h d v h w
   admits-at n z =
       let t2 = subst (λ (y : Entered). EntersConfig (h .reached) (p .room .states) (p .pairs .used) d v y w) z t in
       record {
-        taken = refl;
-        arcs = refl;
-        same-length = was-at p h d v (q .good) (q .stored) (q .states) (q .arcs) (q .search) (q .late) (q .explorable) (q .holds) n w t2 .0 .same-length;
+        widens = record { taken = refl; arcs = refl; fits = reached-fits; same-length = was-at p h d v (q .good) (q .stored) (q .states) (q .arcs) (q .search) (q .late) (q .explorable) (q .holds) n w t2 .0 .same-length };
         meaning = λ states arcs s l x o. record {
           held = λ f. inserted-held p h d v (q .good) (q .stored) states arcs s l x o n w (h .reached) (was-at p h d v (q .good) (q .stored) states arcs s l x o n w t2);
           over = λ f. TestFacts.false-not-true (o .not-full) f;
@@ -61,9 +64,7 @@ module _ (p : Plan) (h : Head) (d : Config) (v : List ℕ) (q : Admittable p h d
   admits-new n z =
       let t2 = subst (λ (y : Entered). EntersConfig (h .reached) (p .room .states) (p .pairs .used) d v y w) z t in
       record {
-        taken = refl;
-        arcs = refl;
-        same-length = was-new p h d v (q .good) (q .stored) (q .states) (q .arcs) (q .search) (q .late) (q .explorable) (q .holds) n w t2 .0 .same-length;
+        widens = record { taken = refl; arcs = refl; fits = let b = t2 .fits in omega (arith, b); same-length = was-new p h d v (q .good) (q .stored) (q .states) (q .arcs) (q .search) (q .late) (q .explorable) (q .holds) n w t2 .0 .same-length };
         meaning = λ states arcs s l x o. record {
           held = λ f. inserted-held p h d v (q .good) (q .stored) states arcs s l x o n w (h .reached + 1) (was-new p h d v (q .good) (q .stored) states arcs s l x o n w t2);
           over = λ f. TestFacts.false-not-true (o .not-full) f;
@@ -74,9 +75,7 @@ module _ (p : Plan) (h : Head) (d : Config) (v : List ℕ) (q : Admittable p h d
   admits-full z =
       let t2 = subst (λ (y : Entered). EntersConfig (h .reached) (p .room .states) (p .pairs .used) d v y w) z t in
       record {
-        taken = refl;
-        arcs = refl;
-        same-length = t2 .same-length;
+        widens = record { taken = refl; arcs = refl; fits = reached-fits; same-length = t2 .same-length };
         meaning = λ states arcs s l x o. record {
           held = λ f. TestFacts.false-not-true f refl;
           over = λ f. was-full p h d v (q .good) (q .stored) states arcs s l x o w t2;
@@ -133,9 +132,7 @@ module _ (p : Plan) (h : Head) (states : List ℕ) (q : ℕ) (v : List ℕ) (k :
   starts-none : ((arcs : List ℕ) (a : State ℕ) → Explorable p states arcs (length v) → HoldsClosing (tablesIn p states arcs) (p .room .delays) (p .counts .states) v
       → getElem? (tableIn p states arcs .states) q ≡ some a → startBy (pairsIn p) (viableIn p states arcs) (q, a) ≡ none) → Enters p h states q v h v
   starts-none f = record {
-    taken = refl;
-    arcs = refl;
-    same-length = refl;
+    widens = widens-none (p .room .states) (progress h) v (omega (arith, k .holds .reached, k .holds .fits));
     meaning = λ arcs s l a x o e.
         subst (λ (z : Option automata.Config). Comes p states arcs h (withConfigs s (consMaybe z [])) l v) (sym (f arcs a x (o .closing) e))
         (record { held = λ n. o; over = λ n. TestFacts.false-not-true (o .not-full) n });
@@ -206,9 +203,7 @@ module _ (p : Plan) (h : Head) (states : List ℕ) (q : ℕ) (v : List ℕ) (k :
       -- it is entered
       pub starts-there : not b ≡ false → (r : Head) (w : List ℕ) → Admits p h d v r w → Enters p h states q v r w
       starts-there n r w y = record {
-        taken = y .taken;
-        arcs = y .arcs;
-        same-length = y .same-length;
+        widens = y .widens;
         meaning = λ arcs s l a x o e.
             subst (λ (z : Option automata.Config). Comes p states arcs r (withConfigs s (consMaybe z [])) l w) (sym (start-by arcs a x (o .closing) e ∙ go b n))
             (subst (λ (z : automata.Config). Comes p states arcs r (record { vertices = insert sameConfig (s .vertices) z; edges = s .edges }) l w) start-is (y .meaning states arcs s l x o));

@@ -26,6 +26,7 @@ use Rattle.automata.specs.Layout.{configSize}
 use Rattle.table.specs.Region.{part}
 use Rattle.table.specs.Answers.{lent}
 use Rattle.search_chains.proofs.Meaning.{code-at}
+use Rattle.search_rows.proofs.ProgressFacts.{grows-none, grows-then}
 use Rattle.search_rows.proofs.SearchFacts.{noted-longer}
 use Rattle.table.proofs.RegionFacts.{length-part}
 use Rattle.table.specs.Arcs.{sourceOf}
@@ -38,7 +39,7 @@ use Rattle.intersect_offers.specs.declared.plan.Plan.{Plan}
 use Rattle.intersect_head.specs.declared.head.Head.{Head}
 use Rattle.intersect_offers.specs.Held.{configOf, rowOf}
 use Rattle.intersect_offers.specs.Plans.{Explorable, tableIn, pairsIn, viableIn, StoredIn}
-use Rattle.intersect_head.specs.Searching.{ConfigSearch, Holds, Comes, noteOffer, Visitable, Visits, Takable, TakesUp}
+use Rattle.intersect_head.specs.Searching.{progress, ConfigSearch, Grows, Holds, Comes, noteOffer, Visitable, Visits, Takable, TakesUp}
 use Rattle.intersect_offers.specs.Offers.{Offerable}
 use Rattle.intersect_offers.proofs.OfferFacts.{arc-count, arc-exists, offers-away}
 use Rattle.intersect_head.proofs.VisitFacts.{visits-nothing}
@@ -93,10 +94,7 @@ none-noted k s xs e = sym (ap (noteAll sameConfig k s) e)
 -- the first j arcs were looked at, from the head h and the work space v to g and w
 pub record Turning (p : Plan) (h : Head) (arcs : List ℕ) (v : List ℕ) (g : Head) (w : List ℕ) (j : ℕ) : Type 0 where
   pub within : j ≤ p .counts .arcs
-  pub taken : g .taken ≡ h .taken
-  pub grown : h .reached ≤ g .reached
-  pub few : g .arcs ≤ 8192 * h .taken + j
-  pub same-length : length w ≡ length v
+  pub grows : Grows p j h v g w
   pub meaning : (states : List ℕ) (s : ConfigSearch) (l : Bool) (c : automata.Config) → Explorable p states arcs (length v) → Holds p states arcs h s l v
       → getElem? (s .vertices) (h .taken) ≡ some c
       → Holds p states arcs g (noteAll sameConfig (h .taken) s (outUpTo (tableIn p states arcs) (pairsIn p) (viableIn p states arcs) j c))
@@ -124,10 +122,7 @@ module _ (p : Plan) (h : Head) (arcs : List ℕ) (v : List ℕ) (q : Takable p h
   pub turn-start : Turning p h arcs v h v 0
   turn-start = record {
     within = omega arith;
-    taken = refl;
-    grown = omega arith;
-    few = omega (arith, q .few);
-    same-length = refl;
+    grows = grows-none (p .room .states) 0 (progress h) v (omega (arith, q .holds .reached, q .holds .fits));
     meaning = λ states s l c x o e.
         let A = tableIn p states arcs in
         let test = viableIn p states arcs in
@@ -151,7 +146,7 @@ module _ (p : Plan) (h : Head) (arcs : List ℕ) (v : List ℕ) (q : Takable p h
 
     module _ (g : Head) (w : List ℕ) (j : ℕ) (t : Turning p h arcs v g w j) where
       more-room : (states : List ℕ) → Explorable p states arcs (length v) → Explorable p states arcs (length w)
-      more-room states x = subst (Explorable p states arcs) (sym (t .same-length)) x
+      more-room states x = subst (Explorable p states arcs) (sym (t .grows .same-length)) x
 
       pub turn-requires : j < p .counts .arcs → Visitable p g d arcs j w
       turn-requires b =
@@ -168,8 +163,8 @@ module _ (p : Plan) (h : Head) (arcs : List ℕ) (v : List ℕ) (q : Takable p h
             good = subst (GoodConfig (p .pairs .used)) (sym f) (m .form);
             short = subst (λ (z : Config). (i : ℕ) → i < p .pairs .used → getD (z .leftovers) i outside .len ≤ maxDelay) (sym f) (m .short);
             arc-fits = b;
-            taken-fits = omega (arith, t .taken, t .grown, q .taken-fits);
-            few = omega (arith, t .taken, t .few);
+            taken-fits = omega (arith, t .grows .taken, t .grows .grown, q .taken-fits);
+            few = omega (arith, t .grows .taken, t .grows .few, q .few);
           }
 
       module _ (b : j < p .counts .arcs) (r : Head) (u : List ℕ) (z : Visits p g d arcs j w r u) where
@@ -188,7 +183,7 @@ module _ (p : Plan) (h : Head) (arcs : List ℕ) (v : List ℕ) (q : Takable p h
             let n : suc j ≡ j + 1 = omega arith in
             let c0 = z .meaning states sj lj a (more-room states x) (t .meaning states s l c x o e) (y .1) in
             let c1 = subst (λ (k : automata.Config). Comes p states arcs r (noteOffer (g .taken) sj (j, a) (offer ps test k a)) (or lj (isLate (offer ps test k a))) u) (loaded-as states s l c x o e) c0 in
-            let c2 = subst (λ (k : ℕ). Comes p states arcs r (noteOffer k sj (j, a) (offer ps test c a)) (or lj (isLate (offer ps test c a))) u) (t .taken) c1 in
+            let c2 = subst (λ (k : ℕ). Comes p states arcs r (noteOffer k sj (j, a) (offer ps test c a)) (or lj (isLate (offer ps test c a))) u) (t .grows .taken) c1 in
             let c3 = subst (λ (k : ConfigSearch). Comes p states arcs r k (or lj (isLate (offer ps test c a))) u) (note-more A ps test (h .taken) s c j a (y .1)) c2 in
             let c4 = subst (λ (k : Bool). Comes p states arcs r (noteAll sameConfig (h .taken) s (outUpTo A ps test (suc j) c)) k u) (late-more A ps test (h .taken) s c j a (y .1) l) c3 in
             subst (λ (k : ℕ). Comes p states arcs r (noteAll sameConfig (h .taken) s (outUpTo A ps test k c)) (or l (lateUpTo A ps test k c)) u) n c4
@@ -196,10 +191,7 @@ module _ (p : Plan) (h : Head) (arcs : List ℕ) (v : List ℕ) (q : Takable p h
         pub turn-next : r .full ≡ false → Turning p h arcs v r u (j + 1)
         turn-next f = record {
           within = omega arith;
-          taken = z .taken ∙ t .taken;
-          grown = omega (arith, z .grown, t .grown);
-          few = omega (arith, z .few, t .few);
-          same-length = z .same-length ∙ t .same-length;
+          grows = grows-then (p .room .states) j 1 (j + 1) (progress h) (progress g) (progress r) v w u (t .grows) (z .grows) (omega arith);
           meaning = λ states s l c x o e. turn-comes states s l c x o e .held f;
         }
 
@@ -208,7 +200,7 @@ module _ (p : Plan) (h : Head) (arcs : List ℕ) (v : List ℕ) (q : Takable p h
         turn-full f = record {
           taken = λ n. TestFacts.false-not-true n f;
           few = λ n. TestFacts.false-not-true n f;
-          same-length = z .same-length ∙ t .same-length;
+          same-length = z .grows .same-length ∙ t .grows .same-length;
           meaning = λ states s l c x o e. record {
             held = λ n. TestFacts.false-not-true n f;
             over = λ n.
@@ -232,9 +224,9 @@ module _ (p : Plan) (h : Head) (arcs : List ℕ) (v : List ℕ) (q : Takable p h
       pub turn-end : p .counts .arcs ≤ j → TakesUp p h arcs v (record { taken = g .taken + 1; reached = g .reached; arcs = g .arcs; late = g .late; full = g .full }) w
       turn-end b =
           record {
-            taken = λ n. omega (arith, t .taken);
-            few = λ n. omega (arith, t .taken, t .few, t .within, few-arcs);
-            same-length = t .same-length;
+            taken = λ n. omega (arith, t .grows .taken);
+            few = λ n. omega (arith, t .grows .taken, t .grows .few, t .within, few-arcs, q .few);
+            same-length = t .grows .same-length;
             meaning = λ states s l c x o e.
                 let A = tableIn p states arcs in
                 let ps = pairsIn p in

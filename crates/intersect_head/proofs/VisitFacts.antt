@@ -22,6 +22,7 @@ use Rattle.search_rows.specs.declared.Reached.{Reached}
 use Rattle.search_rows.specs.declared.Entered.{Entered}
 use Rattle.search_rows.specs.declared.Entered.the-variants as E
 use Rattle.search_rows.specs.Kept.{storedWithin}
+use Rattle.search_rows.proofs.ProgressFacts.{grows-none}
 use Rattle.search_rows.proofs.CodeFacts.{index-bound}
 use Rattle.search_rows.proofs.KeptFacts.{kept-length}
 use Rattle.search_chains.specs.Inserted.{Inserted}
@@ -36,7 +37,7 @@ use Rattle.intersect_offers.specs.declared.offer.Kind.the-variants.{Nothing, La
 use Rattle.intersect_offers.specs.Held.{rowOf}
 use Rattle.intersect_offers.specs.Plans.{Explorable, tableIn, pairsIn, viableIn}
 use Rattle.intersect_offers.specs.Offers.{Offered, offerBy, Offers}
-use Rattle.intersect_head.specs.Searching.{bucketBy, EntersConfig, counted, ConfigSearch, Holds, Comes, Arrivable, Arrives, noteOffer, Visitable, Visits}
+use Rattle.intersect_head.specs.Searching.{bucketBy, EntersConfig, progress, counted, ConfigSearch, Holds, Comes, Arrivable, Arrives, noteOffer, Visitable, Visits}
 use Rattle.intersect_offers.proofs.OfferFacts.{arc-count}
 use Rattle.intersect_head.proofs.HeldFacts.{was-at, was-new, was-full, inserted-held, edge-held}
 
@@ -54,23 +55,30 @@ module _ (p : Plan) (h : Head) (d : Config) (j : ℕ) (v : List ℕ) (q : Arriva
   abbrev c : automata.Config
   c = configAs (p .pairs .used) d
 
+  -- what is reached is within the room
+  reached-fits : h .reached ≤ p .room .states
+  reached-fits = omega (arith, q .holds .reached, q .holds .fits)
+
   -- it was inserted as number n, whatever search was held, which then has k configurations
   abbrev Enters : ℕ → Reached → List ℕ → Type 0
   Enters k n w = (states arcs : List ℕ) (s : ConfigSearch) (late : Bool) → Explorable p states arcs (length v) → Holds p states arcs h s late v
       → Inserted rowOf sameConfig (bucketBy (p .pairs .used) (p .room .states)) configSize rowSize (p .room .states) (s .vertices) c v w n × (k ≡ length (insert sameConfig (s .vertices) c))
 
-  arrives-noted : (k : ℕ) (n : Reached) (w : List ℕ) → h .reached ≤ k → Enters k n w → (g : Head) (u : List ℕ)
+  arrives-noted : (k : ℕ) (n : Reached) (w : List ℕ) → h .reached ≤ k → k ≤ p .room .states → Enters k n w → (g : Head) (u : List ℕ)
       → (g ≡ counted (withReached k h)) × (u ≡ storedWithin (p .room .edges) (p .room .arcs) (h .arcs) (edgeBytes (noted h j n)) w) → Arrives p h d j v g u
   unfolding note
-  arrives-noted k n w l enters g u e = record {
-    taken = ap (λ (z : Head). z .taken) (e .0);
-    grown = let z : g .reached ≡ k = ap (λ (z : Head). z .reached) (e .0) in omega arith;
-    few = let z : g .arcs ≡ h .arcs + 1 = ap (λ (z : Head). z .arcs) (e .0) in omega arith;
-    same-length =
-        let i = enters (q .states) (q .arcs) (q .search) (q .late) (q .explorable) (q .holds) .0 in
-        let x = q .explorable in
-        let y = i .same-length in
-        kept-length (p .room .edges) (p .room .arcs) (h .arcs) (edgeBytes (noted h j n)) w u (e .1) (omega (arith, length-edge (noted h j n))) (omega (arith, y, x .edges-fit, x .delays-fit)) ∙ y;
+  arrives-noted k n w l b enters g u e = record {
+    grows = record {
+      taken = ap (λ (z : Head). z .taken) (e .0);
+      grown = let z : g .reached ≡ k = ap (λ (z : Head). z .reached) (e .0) in omega arith;
+      fits = let z : g .reached ≡ k = ap (λ (z : Head). z .reached) (e .0) in omega arith;
+      few = let z : g .arcs ≡ h .arcs + 1 = ap (λ (z : Head). z .arcs) (e .0) in omega arith;
+      same-length =
+          let i = enters (q .states) (q .arcs) (q .search) (q .late) (q .explorable) (q .holds) .0 in
+          let x = q .explorable in
+          let y = i .same-length in
+          kept-length (p .room .edges) (p .room .arcs) (h .arcs) (edgeBytes (noted h j n)) w u (e .1) (omega (arith, length-edge (noted h j n))) (omega (arith, y, x .edges-fit, x .delays-fit)) ∙ y;
+    };
     meaning = λ states arcs s late a x o.
         let i = enters states arcs s late x o in
         let more : List automata.Config = insert sameConfig (s .vertices) c in
@@ -91,7 +99,7 @@ module _ (p : Plan) (h : Head) (d : Config) (j : ℕ) (v : List ℕ) (q : Arriva
     -- it was there already
     pub arrives-at : (n : Reached) → r ≡ E.At n → (g : Head) (u : List ℕ)
         → (g ≡ counted h) × (u ≡ storedWithin (p .room .edges) (p .room .arcs) (h .arcs) (edgeBytes (noted h j n)) w) → Arrives p h d j v g u
-    arrives-at n z = arrives-noted (h .reached) n w (omega arith)
+    arrives-at n z = arrives-noted (h .reached) n w (omega arith) reached-fits
         (λ states arcs s late x o.
         let t2 = subst (λ (y : Entered). EntersConfig (h .reached) (p .room .states) (p .pairs .used) d v y w) z t in
         was-at p h d v (q .good) (q .stored) states arcs s late x o n w t2)
@@ -99,10 +107,11 @@ module _ (p : Plan) (h : Head) (d : Config) (j : ℕ) (v : List ℕ) (q : Arriva
     -- it is new
     pub arrives-new : (n : Reached) → r ≡ E.New n → (g : Head) (u : List ℕ)
         → (g ≡ counted (withReached (h .reached + 1) h)) × (u ≡ storedWithin (p .room .edges) (p .room .arcs) (h .arcs) (edgeBytes (noted h j n)) w) → Arrives p h d j v g u
-    arrives-new n z = arrives-noted (h .reached + 1) n w (omega arith)
-        (λ states arcs s late x o.
+    arrives-new n z =
         let t2 = subst (λ (y : Entered). EntersConfig (h .reached) (p .room .states) (p .pairs .used) d v y w) z t in
-        was-new p h d v (q .good) (q .stored) states arcs s late x o n w t2)
+        let b = t2 .fits in
+        arrives-noted (h .reached + 1) n w (omega arith) (omega (arith, b))
+        (λ states arcs s late x o. was-new p h d v (q .good) (q .stored) states arcs s late x o n w t2)
 
     -- there is no room for it
     pub arrives-full : r ≡ E.Full → Arrives p h d j v (record { taken = h .taken; reached = h .reached; arcs = h .arcs; late = h .late; full = true }) w
@@ -110,10 +119,7 @@ module _ (p : Plan) (h : Head) (d : Config) (j : ℕ) (v : List ℕ) (q : Arriva
     arrives-full z =
         let t2 = subst (λ (y : Entered). EntersConfig (h .reached) (p .room .states) (p .pairs .used) d v y w) z t in
         record {
-          taken = refl;
-          grown = omega arith;
-          few = omega arith;
-          same-length = t2 .same-length;
+          grows = record { taken = refl; grown = omega arith; fits = reached-fits; few = omega arith; same-length = t2 .same-length };
           meaning = λ states arcs s late a x o. record {
             held = λ f. TestFacts.false-not-true f refl;
             over = λ f. was-full p h d v (q .good) (q .stored) states arcs s late x o w t2;
@@ -129,6 +135,10 @@ or-last false = refl
 module _ (p : Plan) (h : Head) (c : Config) (arcs : List ℕ) (j : ℕ) (v : List ℕ) (q : Visitable p h c arcs j v) (r : Offered) (f : Offers p c arcs j v r) where
   abbrev used : ℕ
   used = p .pairs .used
+
+  -- what is reached is within the room
+  reached-within : h .reached ≤ p .room .states
+  reached-within = omega (arith, q .holds .reached, q .holds .fits)
 
   -- a successor may be entered
   pub may-arrive : r .kind ≡ To → Arrivable p h (r .config) j v
@@ -160,10 +170,7 @@ module _ (p : Plan) (h : Head) (c : Config) (arcs : List ℕ) (j : ℕ) (v : Lis
   -- no step
   pub visits-nothing : r .kind ≡ Nothing → Visits p h c arcs j v h v
   visits-nothing e = record {
-    taken = refl;
-    grown = omega arith;
-    few = omega arith;
-    same-length = refl;
+    grows = grows-none (p .room .states) 1 (progress h) v reached-within;
     meaning = λ states s l a x o g.
         subst (λ (z : Offer automata.Config). Comes p states arcs h (noteOffer (h .taken) s (j, a) z) (or l (isLate z)) v) (offered-is Nothing e states s l a x o g)
         (record { held = λ n. subst (λ (b : Bool). Holds p states arcs h s b v) (sym (or-none l)) o; over = λ n. TestFacts.false-not-true (o .not-full) n });
@@ -175,10 +182,7 @@ module _ (p : Plan) (h : Head) (c : Config) (arcs : List ℕ) (j : ℕ) (v : Lis
   -- a step that is too long
   pub visits-late : r .kind ≡ Late → Visits p h c arcs j v (record { taken = h .taken; reached = h .reached; arcs = h .arcs; late = true; full = h .full }) v
   visits-late e = record {
-    taken = refl;
-    grown = omega arith;
-    few = omega arith;
-    same-length = refl;
+    grows = grows-none (p .room .states) 1 (progress h) v reached-within;
     meaning = λ states s l a x o g.
         subst (λ (z : Offer automata.Config). Comes p states arcs lateHead (noteOffer (h .taken) s (j, a) z) (or l (isLate z)) v) (offered-is Late e states s l a x o g)
         (record {
@@ -201,10 +205,7 @@ module _ (p : Plan) (h : Head) (c : Config) (arcs : List ℕ) (j : ℕ) (v : Lis
   -- a step to a successor
   pub visits-to : r .kind ≡ To → (g : Head) (w : List ℕ) → Arrives p h (r .config) j v g w → Visits p h c arcs j v g w
   visits-to e g w t = record {
-    taken = t .taken;
-    grown = t .grown;
-    few = t .few;
-    same-length = t .same-length;
+    grows = t .grows;
     meaning = λ states s l a x o y.
         subst (λ (z : Offer automata.Config). Comes p states arcs g (noteOffer (h .taken) s (j, a) z) (or l (isLate z)) w) (offered-is To e states s l a x o y)
         (subst (λ (b : Bool). Comes p states arcs g (note sameConfig (h .taken) s ((j, a), configAs used (r .config))) b w) (sym (or-none l)) (t .meaning states arcs s l a x o));

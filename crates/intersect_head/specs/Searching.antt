@@ -14,7 +14,8 @@ use Rattle.automata.specs.Search.{Search, note, noteAll}
 use Rattle.automata.specs.Intersect.{out}
 use Rattle.automata.specs.Layout.{configSize}
 use Rattle.search_rows.specs.declared.Entered.{Entered}
-use Rattle.search_rows.specs.Comes as search
+use Rattle.search_rows.specs.Comes as search-comes
+use Rattle.search_rows.specs.Progress as search
 use Rattle.search_chains.specs.Chain.{Chained, Enters}
 use Rattle.search_chains.specs.Hash.{hashFrom, bucketOf}
 use Rattle.search_chains.specs.declared.Shape.{Shape}
@@ -54,6 +55,10 @@ pub record Enterable (used : ℕ) (row : List ℕ) : Type 0 where
 abbrev pub EntersConfig : ℕ → ℕ → ℕ → Config → List ℕ → Entered → List ℕ → Type 0
 EntersConfig reached room used c v r w = Enters configSize reached room (bucketBy used room (configBytes c)) (shapeOf used) (configBytes c) v r w
 
+-- how far the search is
+abbrev pub progress : Head → search.Progress
+progress h = record { taken = h .taken; reached = h .reached; arcs = h .arcs }
+
 -- a head with one arc more
 abbrev pub counted : Head → Head
 counted h = record { taken = h .taken; reached = h .reached; arcs = h .arcs + 1; late = h .late; full = h .full }
@@ -77,9 +82,14 @@ pub record Holds (p : Plan) (states arcs : List ℕ) (h : Head) (s : ConfigSearc
   pub not-full : h .full ≡ false
   pub stored : All (StoredIn p) (s .vertices)
 
--- the head r and the work space w hold the search s, or the configurations are full and s has more of them than there is room for
+-- the head r and the work space w hold the search s, or the configurations are full and s has more of them than there
+-- is room for
 abbrev pub Comes : Plan → List ℕ → List ℕ → Head → ConfigSearch → Bool → List ℕ → Type 0
-Comes p states arcs r s l w = search.Comes (r .full) (Holds p states arcs r s l w) (p .room .states < length (s .vertices))
+Comes p states arcs r s l w = search-comes.Comes (r .full) (Holds p states arcs r s l w) (p .room .states < length (s .vertices))
+
+-- the search went on to at most n arcs more, within the bounds
+abbrev pub Grows : Plan → ℕ → Head → List ℕ → Head → List ℕ → Type 0
+Grows p n h v r w = search.Grows (p .room .states) n (progress h) v (progress r) w
 
 -- ---- one arc
 
@@ -99,10 +109,7 @@ pub record Arrivable (p : Plan) (h : Head) (d : Config) (j : ℕ) (w : List ℕ)
 
 -- it was entered, and the edge to it noted
 pub record Arrives (p : Plan) (h : Head) (d : Config) (j : ℕ) (v : List ℕ) (r : Head) (w : List ℕ) : Type 0 where
-  pub taken : r .taken ≡ h .taken
-  pub grown : h .reached ≤ r .reached
-  pub few : r .arcs ≤ h .arcs + 1
-  pub same-length : length w ≡ length v
+  pub grows : Grows p 1 h v r w
   pub meaning : (states arcs : List ℕ) (s : ConfigSearch) (late : Bool) (a : Arc ℕ) → Explorable p states arcs (length v) → Holds p states arcs h s late v
       → Comes p states arcs r (note automata.sameConfig (h .taken) s ((j, a), configAs (p .pairs .used) d)) late w
 
@@ -127,10 +134,7 @@ pub record Visitable (p : Plan) (h : Head) (c : Config) (arcs : List ℕ) (j : �
 
 -- it was looked at
 pub record Visits (p : Plan) (h : Head) (c : Config) (arcs : List ℕ) (j : ℕ) (v : List ℕ) (r : Head) (w : List ℕ) : Type 0 where
-  pub taken : r .taken ≡ h .taken
-  pub grown : h .reached ≤ r .reached
-  pub few : r .arcs ≤ h .arcs + 1
-  pub same-length : length w ≡ length v
+  pub grows : Grows p 1 h v r w
   pub meaning : (states : List ℕ) (s : ConfigSearch) (late : Bool) (a : Arc ℕ) → Explorable p states arcs (length v) → Holds p states arcs h s late v
       → getElem? (tableIn p states arcs .arcs) j ≡ some a
       → (let o = offer (pairsIn p) (viableIn p states arcs) (configAs (p .pairs .used) c) a in

@@ -13,17 +13,22 @@ use Rattle.automata.specs.Explore.{insert, insertAll}
 use Rattle.automata.specs.Search.{searchFrom}
 use Rattle.automata.specs.Intersect.{starts}
 use Rattle.automata.specs.Layout.{configSize}
+use Rattle.search_rows.specs.Progress as search
 use Rattle.search_chains.specs.Chain.{Chained}
 use Rattle.intersect_config.specs.Configs.{Config, configAs, GoodConfig, rowSize}
 use Rattle.delays.specs.ClosingRegion.{HoldsClosing}
 use Rattle.intersect_offers.specs.declared.plan.Plan.{Plan}
 use Rattle.intersect_head.specs.declared.head.Head.{Head}
 use Rattle.intersect_offers.specs.Plans.{Explorable, tableIn, pairsIn, tablesIn, viableIn, StoredIn}
-use Rattle.intersect_head.specs.Searching.{bucketBy, ConfigSearch, Holds, Comes}
+use Rattle.intersect_head.specs.Searching.{bucketBy, progress, ConfigSearch, Holds, Comes}
 
 -- the search with further configurations, and no edge more
 abbrev pub withConfigs : ConfigSearch → List automata.Config → ConfigSearch
 withConfigs s cs = record { vertices = insertAll automata.sameConfig (s .vertices) cs; edges = s .edges }
+
+-- some were entered, within the bounds
+abbrev pub Widens : Plan → Head → List ℕ → Head → List ℕ → Type 0
+Widens p h v r w = search.Widens (p .room .states) (progress h) v (progress r) w
 
 -- a configuration may be entered
 pub record Admittable (p : Plan) (h : Head) (c : Config) (w : List ℕ) : Type 0 where
@@ -38,9 +43,7 @@ pub record Admittable (p : Plan) (h : Head) (c : Config) (w : List ℕ) : Type 0
 
 -- it was entered
 pub record Admits (p : Plan) (h : Head) (c : Config) (v : List ℕ) (r : Head) (w : List ℕ) : Type 0 where
-  pub taken : r .taken ≡ h .taken
-  pub arcs : r .arcs ≡ h .arcs
-  pub same-length : length w ≡ length v
+  pub widens : Widens p h v r w
   pub meaning : (states arcs : List ℕ) (s : ConfigSearch) (late : Bool) → Explorable p states arcs (length v) → Holds p states arcs h s late v
       → Comes p states arcs r (record { vertices = insert automata.sameConfig (s .vertices) (configAs (p .pairs .used) c); edges = s .edges }) late w
 
@@ -63,9 +66,7 @@ pub record Startable (p : Plan) (h : Head) (states : List ℕ) (q : ℕ) (w : Li
 
 -- it was looked at
 pub record Enters (p : Plan) (h : Head) (states : List ℕ) (q : ℕ) (v : List ℕ) (r : Head) (w : List ℕ) : Type 0 where
-  pub taken : r .taken ≡ h .taken
-  pub arcs : r .arcs ≡ h .arcs
-  pub same-length : length w ≡ length v
+  pub widens : Widens p h v r w
   pub meaning : (arcs : List ℕ) (s : ConfigSearch) (late : Bool) (a : State ℕ) → Explorable p states arcs (length v) → Holds p states arcs h s late v
       → getElem? (tableIn p states arcs .states) q ≡ some a
       → Comes p states arcs r (withConfigs s (consMaybe (startBy (pairsIn p) (viableIn p states arcs) (q, a)) [])) late w

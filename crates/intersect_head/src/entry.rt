@@ -44,8 +44,10 @@ pub fn enter_config(
     used: usize,
     row: &[u8],
 ) -> Entered
-    requires { ⌜ (configSize * room ≤ length (now work)) × (reached ≤ room) × (room ≤ 1024) × Enterable used (now row) ⌝ }
-    ensures { λ r. ⌜ EntersConfig reached room used (configAt 0 (now (row .entry))) (now (work .entry)) r (now (work .exit)) ⌝ }
+    requires { ⌜ (configSize * room ≤ length (now work)) × (reached ≤ room) × (room ≤ 1024)
+        × Enterable used (now row) ⌝ }
+    ensures { λ r. ⌜ EntersConfig reached room used (configAt 0 (now (row .entry))) (now (work .entry)) r
+        (now (work .exit)) ⌝ }
 {
     if room == 0 {
         return Entered::Full;

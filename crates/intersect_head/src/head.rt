@@ -27,8 +27,8 @@ use table::layout::CONFIG_SIZE;
 use table::layout::STATE_SIZE;
 use table::record::InputState;
 
-// How many configurations were taken up and how many reached, how many arcs there are between them, whether a step was too long, and whether
-// there were more configurations than there is room for.
+// How many configurations were taken up and how many reached, how many arcs there are between them, whether a step was
+// too long, and whether there were more configurations than there is room for.
 pub struct Head {
     pub taken: usize,
     pub reached: usize,
@@ -40,7 +40,8 @@ pub struct Head {
 // The record of the edge with this number, written where there is room for it.
 fn store_edge_within(work: &mut [u8], room: Room, number: usize, e: EdgeRecord)
     requires { ⌜ room .edges + stepSize * room .arcs ≤ length (now work) ⌝ }
-    ensures { λ _. ⌜ now (work .exit) ≡ storedWithin (room .edges) (room .arcs) number (edgeBytes e) (now (work .entry)) ⌝ }
+    ensures { λ _. ⌜ now (work .exit) ≡ storedWithin (room .edges) (room .arcs) number (edgeBytes e)
+        (now (work .entry)) ⌝ }
 {
     let mut record = [0u8; 6];
     store_edge(&mut record, 0, e);
@@ -50,8 +51,11 @@ fn store_edge_within(work: &mut [u8], room: Room, number: usize, e: EdgeRecord)
 impl Head {
     // An arc from the configuration that is taken up.
     fn note(mut self, plan: Plan, work: &mut [u8], j: usize, to: Reached) -> Head
-        requires { ⌜ (plan .room .edges + stepSize * plan .room .arcs ≤ length (now work)) × (self .taken < 1024) × (self .arcs < 4294967296) × (j < 8192) ⌝ }
-        ensures { λ r. ⌜ (r ≡ counted self) × (now (work .exit) ≡ storedWithin (plan .room .edges) (plan .room .arcs) (self .arcs) (edgeBytes (record { from = record { 0 = self .taken }; arc = j; to = to })) (now (work .entry))) ⌝ }
+        requires { ⌜ (plan .room .edges + stepSize * plan .room .arcs ≤ length (now work)) × (self .taken < 1024)
+            × (self .arcs < 4294967296) × (j < 8192) ⌝ }
+        ensures { λ r. ⌜ (r ≡ counted self) × (now (work .exit)
+            ≡ storedWithin (plan .room .edges) (plan .room .arcs) (self .arcs)
+            (edgeBytes (record { from = record { 0 = self .taken }; arc = j; to = to })) (now (work .entry))) ⌝ }
     {
         let room = plan.room;
         let edge = EdgeRecord {
@@ -66,8 +70,10 @@ impl Head {
 
     // A step by the arc with number `j` to the configuration in the row.
     fn arrive(mut self, plan: Plan, row: &[u8], j: usize, work: &mut [u8]) -> Head
-        requires { ⌜ Arrivable plan self (configAt 0 (now row)) j (now work) × (configBytes (configAt 0 (now row)) ≡ now row) ⌝ }
-        ensures { λ r. ⌜ Arrives plan self (configAt 0 (now (row .entry))) j (now (work .entry)) r (now (work .exit)) ⌝ }
+        requires { ⌜ Arrivable plan self (configAt 0 (now row)) j (now work)
+            × (configBytes (configAt 0 (now row)) ≡ now row) ⌝ }
+        ensures { λ r. ⌜ Arrives plan self (configAt 0 (now (row .entry))) j (now (work .entry)) r
+            (now (work .exit)) ⌝ }
     {
         let room = plan.room;
         let pairs = plan.pairs;
@@ -94,8 +100,10 @@ impl Head {
         row: &mut [u8],
         work: &mut [u8],
     ) -> Head
-        requires { ⌜ Visitable plan self (configAt 0 (now own)) (now arcs) j (now work) × (length (now own) ≡ rowSize) × Row (plan .pairs .used) (now row) ⌝ }
-        ensures { λ r. ⌜ Visits plan self (configAt 0 (now (own .entry))) (now (arcs .entry)) j (now (work .entry)) r (now (work .exit)) × Row (plan .pairs .used) (now (row .exit)) ⌝ }
+        requires { ⌜ Visitable plan self (configAt 0 (now own)) (now arcs) j (now work) × (length (now own) ≡ rowSize)
+            × Row (plan .pairs .used) (now row) ⌝ }
+        ensures { λ r. ⌜ Visits plan self (configAt 0 (now (own .entry))) (now (arcs .entry)) j (now (work .entry)) r
+            (now (work .exit)) × Row (plan .pairs .used) (now (row .exit)) ⌝ }
     {
         let kind = offer(plan, own, arcs, j, work, row);
         match kind {
@@ -117,7 +125,8 @@ impl Head {
         next: &[u16],
         work: &mut [u8],
     ) -> Head
-        requires { ⌜ Takable plan self (now arcs) (now work) × Chained (plan .counts .states) (plan .counts .arcs) (now arcs) (now first) (now next) ⌝ }
+        requires { ⌜ Takable plan self (now arcs) (now work)
+            × Chained (plan .counts .states) (plan .counts .arcs) (now arcs) (now first) (now next) ⌝ }
         ensures { λ r. ⌜ TakesUp plan self (now (arcs .entry)) (now (work .entry)) r (now (work .exit)) ⌝ }
     {
         let counts = plan.counts;
@@ -138,7 +147,8 @@ impl Head {
 
     // A configuration in which a path starts, in a row.
     fn admit(mut self, plan: Plan, row: &[u8], work: &mut [u8]) -> Head
-        requires { ⌜ Admittable plan self (configAt 0 (now row)) (now work) × (configBytes (configAt 0 (now row)) ≡ now row) ⌝ }
+        requires { ⌜ Admittable plan self (configAt 0 (now row)) (now work)
+            × (configBytes (configAt 0 (now row)) ≡ now row) ⌝ }
         ensures { λ r. ⌜ Admits plan self (configAt 0 (now (row .entry))) (now (work .entry)) r (now (work .exit)) ⌝ }
     {
         let room = plan.room;

@@ -1,4 +1,5 @@
--- Configurations and their rows: a configuration in its one form comes back, rows tell configurations apart, and which ones may be stored.
+-- Configurations and their rows: a configuration in its one form comes back, rows tell configurations apart, and which
+-- ones may be stored.
 use Prim.Native.Nat.{ℕ, zero, suc, _+_, _-_, _≤_, _<_}
 use mathlib.Core.Path.{_≡_, sym, ap, _∙_, subst}
 use mathlib.Core.Bool.{Bool, true, false}

@@ -1,4 +1,5 @@
--- Configurations in work space: the configuration by value of one of the definitions, its row, and a list of them in rows.
+-- Configurations in work space: the configuration by value of one of the definitions, its row, and a list of them in
+-- rows.
 use mathlib.Core.Path.{_≡_}
 use mathlib.Core.List.{List, _++_, map}
 use Prim.Native.Nat.{ℕ, _-_, _≤_, _<_}

@@ -19,7 +19,8 @@ use Rattle.intersect_offers.specs.declared.offer.Kind.{Kind}
 use Rattle.intersect_offers.specs.declared.offer.Kind.the-variants.{Nothing, Late, To}
 use Rattle.intersect_offers.specs.Plans.{Explorable, tableIn, pairsIn, tablesIn, viableIn, StoredIn}
 
--- r tells whether the configuration of so many pairs is viable, for all closing tables of as many pairs that the region from base holds
+-- r tells whether the configuration of so many pairs is viable, for all closing tables of as many pairs that the region
+-- from base holds
 abbrev pub TellsViable : ℕ → ℕ → Config → List ℕ → Bool → Type 0
 TellsViable base used c w r =
     (T : ClosingTables) (n : ℕ) → HoldsClosing T base n w → base + delaysSize * n ≤ length w → c .state .0 < n → length (T .closings) ≡ used → r ≡ viable T (configAs used c)
@@ -46,7 +47,8 @@ pub record Offerable (p : Plan) (c : Config) (arcs : List ℕ) (j : ℕ) (w : Li
   pub short : (h : ℕ) → h < p .pairs .used → getD (c .leftovers) h outside .len ≤ maxDelay
   pub arc-fits : j < p .counts .arcs
 
--- r is what the arc with number j offers c, where the work space w holds the closing tables; a successor is one that may be stored
+-- r is what the arc with number j offers c, where the work space w holds the closing tables; a successor is one that
+-- may be stored
 pub record Offers (p : Plan) (c : Config) (arcs : List ℕ) (j : ℕ) (w : List ℕ) (r : Offered) : Type 0 where
   pub good : GoodConfig (p .pairs .used) (r .config)
   pub stored : r .kind ≡ To → StoredIn p (configAs (p .pairs .used) (r .config))

@@ -25,8 +25,11 @@ pub enum Kind {
 
 // Whether the configuration in the row is viable, by the closing delays in the work space.
 pub fn viable_config(plan: Plan, row: &[u8], work: &[u8]) -> bool
-    requires { ⌜ (plan .pairs .used ≤ 4) × (GoodConfig (plan .pairs .used) (configAt 0 (now row))) × (length (now row) ≡ rowSize) × (plan .room .delays + delaysSize * configAt 0 (now row) .state .0 + delaysSize ≤ length (now work)) ⌝ }
-    ensures { λ r. ⌜ TellsViable (plan .room .delays) (plan .pairs .used) (configAt 0 (now (row .entry))) (now (work .entry)) r ⌝ }
+    requires { ⌜ (plan .pairs .used ≤ 4) × (GoodConfig (plan .pairs .used) (configAt 0 (now row)))
+        × (length (now row) ≡ rowSize) × (plan .room .delays + delaysSize * configAt 0 (now row) .state .0 + delaysSize
+        ≤ length (now work)) ⌝ }
+    ensures { λ r. ⌜ TellsViable (plan .room .delays) (plan .pairs .used) (configAt 0 (now (row .entry)))
+        (now (work .entry)) r ⌝ }
 {
     let pairs = plan.pairs;
     let room = plan.room;
@@ -39,7 +42,8 @@ pub fn viable_config(plan: Plan, row: &[u8], work: &[u8]) -> bool
 // What the arc with number `j` offers the configuration in `own`; the successor, where it is one, is written over the
 // row.
 pub fn offer(plan: Plan, own: &[u8], arcs: &[u8], j: usize, work: &[u8], row: &mut [u8]) -> Kind
-    requires { ⌜ Offerable plan (configAt 0 (now own)) (now arcs) j (now work) × (length (now own) ≡ rowSize) × Row (plan .pairs .used) (now row) ⌝ }
+    requires { ⌜ Offerable plan (configAt 0 (now own)) (now arcs) j (now work) × (length (now own) ≡ rowSize)
+        × Row (plan .pairs .used) (now row) ⌝ }
     ensures { λ r. ⌜ OffersIn plan (now (own .entry)) (now (arcs .entry)) j (now (work .entry)) r (now (row .exit)) ⌝ }
 {
     let at = ARC_SIZE * j;

@@ -22,6 +22,7 @@ use Rattle.automata.proofs.IntersectSteps.{configMarks, assembled}
 use Rattle.automata.proofs.IntersectTable.{place-all}
 use Rattle.automata.proofs.SoundFacts.{sound-holds}
 use Rattle.automata.specs.Layout.{arcSize, configSize, stateSize}
+use Rattle.table.specs.Answers.{lent}
 use Rattle.table.specs.Region.{rows}
 use Rattle.intersect_edges.specs.Edges.{edgesAt, recordGraph, Joined}
 use Rattle.intersect_edges.specs.Marked.{bools}
@@ -33,6 +34,9 @@ use Rattle.intersect_trim.specs.Result.{keptStates, keptArcs, ArcsWithin, ArcsW
 use Rattle.intersect_trim.specs.Model.{EdgeOf, resultOf}
 use Rattle.intersect_trim.proofs.StateModel.{finals-model}
 use Rattle.intersect_trim.proofs.Meaning.{within-states, within-arcs, joins, states-fit, arcs-fit, result-put}
+use Rattle.intersect_room.specs.declared.room.Room.{Room}
+use Rattle.intersect_offers.specs.declared.plan.Plan.{Plan}
+use Rattle.intersect_head.specs.declared.head.Head.{Head}
 use Rattle.intersect_result.specs.Standing.{Laid, Kept, edgesOf, Stands, Finishable}
 
 -- every edge between configurations joins two of them by an arc of the table
@@ -45,8 +49,8 @@ edges-are A ps v cs = place-all (EdgeOf A (length cs)) (edges sameConfig (out A 
       arc = out-lead A ps v c (x .label) d l .numbered-arc;
     })
 
-module _ (m : Memory) (s : Sound m) (ps : List TapePair) (v : Config → Bool) (cs : List Config) (base n arcs : ℕ) (w : List ℕ)
-    (p : Stands m ps v cs base n arcs w) where
+module _ (m : Memory) (s : Sound m) (ps : List TapePair) (v : Config → Bool) (cs : List Config) (room : Room) (hd : Head) (w : List ℕ)
+    (p : Stands m ps v cs room hd w) where
   -- the edges
   abbrev es : List (Edge (ℕ × Arc ℕ))
   es = edgesOf m ps v cs
@@ -58,87 +62,92 @@ module _ (m : Memory) (s : Sound m) (ps : List TapePair) (v : Config → Bool) (
   joined = edges-are (tableOf m) ps v cs
 
   -- the edges in work space join the rows
-  pub stands-joined : Joined n (edgesAt base arcs w)
+  pub stands-joined : Joined (hd .reached) (edgesAt (room .edges) (hd .arcs) w)
   stands-joined =
-      subst (λ (k : ℕ). Joined k (edgesAt base arcs w)) (sym (p .many))
-      (subst (λ (k : ℕ). Joined (length cs) (edgesAt base k w)) (sym (p .number)) (joins m s cs es base (length es) w (p .placed) (p .held) all-fit joined))
+      subst (λ (k : ℕ). Joined k (edgesAt (room .edges) (hd .arcs) w)) (sym (p .many))
+      (subst (λ (k : ℕ). Joined (length cs) (edgesAt (room .edges) k w)) (sym (p .number)) (joins m s cs es (room .edges) (length es) w (p .placed) (p .held) all-fit joined))
 
-  -- their arcs stand in the bytes lent
-  pub stands-arcs : ArcsWithin (length (m .arcBytes)) (edgesAt base arcs w)
+  -- their (hd .arcs) stand in the bytes lent
+  pub stands-arcs : ArcsWithin (length (m .arcBytes)) (edgesAt (room .edges) (hd .arcs) w)
   stands-arcs =
-      subst (λ (k : ℕ). ArcsWithin (length (m .arcBytes)) (edgesAt base k w)) (sym (p .number))
-      (within-arcs m s cs es base (length es) w (p .placed) (p .held) all-fit joined)
+      subst (λ (k : ℕ). ArcsWithin (length (m .arcBytes)) (edgesAt (room .edges) k w)) (sym (p .number))
+      (within-arcs m s cs es (room .edges) (length es) w (p .placed) (p .held) all-fit joined)
 
   -- the records of the rows' states stand in the bytes lent
-  pub stands-states : Within (length (m .stateBytes)) (rows 0 configSize n w)
+  pub stands-states : Within (length (m .stateBytes)) (rows 0 configSize (hd .reached) w)
   stands-states =
       subst (λ (k : ℕ). Within (length (m .stateBytes)) (rows 0 configSize k w)) (sym (p .many))
-      (within-states m s cs es base (length es) w (p .placed) (p .held) all-fit joined)
+      (within-states m s cs es (room .edges) (length es) w (p .placed) (p .held) all-fit joined)
 
-  module _ (marks ranks : List ℕ) (kept : ℕ) (keeps : Kept base n arcs (m .stateBytes) w marks ranks kept) where
+  module _ (marks ranks : List ℕ) (kept : ℕ) (keeps : Kept room hd (m .stateBytes) w marks ranks kept) where
     numbers : Numbered (bools (take (length cs) marks)) (length cs) ranks kept
     numbers = subst (λ (k : ℕ). Numbered (bools (take k marks)) k ranks kept) (p .many) (keeps .numbers)
 
     -- the records of the kept rows take up no more bytes than those of all
-    pub states-room : length (keptStates (m .stateBytes) (take n marks) (rows 0 configSize n w)) ≤ stateSize * n
+    pub states-room : length (keptStates (m .stateBytes) (take (hd .reached) marks) (rows 0 configSize (hd .reached) w)) ≤ stateSize * (hd .reached)
     states-room =
         subst (λ (k : ℕ). length (keptStates (m .stateBytes) (take k marks) (rows 0 configSize k w)) ≤ stateSize * k) (sym (p .many))
-        (states-fit m s cs es base (length es) w (p .placed) (p .held) all-fit joined marks ranks kept numbers)
+        (states-fit m s cs es (room .edges) (length es) w (p .placed) (p .held) all-fit joined marks ranks kept numbers)
 
-    -- and those of the arcs between them no more than those of all edges
-    pub arcs-room : length (keptArcs marks ranks (m .arcBytes) (edgesAt base arcs w)) ≤ arcSize * arcs
+    -- and those of the (hd .arcs) between them no more than those of all edges
+    pub arcs-room : length (keptArcs marks ranks (m .arcBytes) (edgesAt (room .edges) (hd .arcs) w)) ≤ arcSize * (hd .arcs)
     arcs-room =
-        subst (λ (k : ℕ). length (keptArcs marks ranks (m .arcBytes) (edgesAt base k w)) ≤ arcSize * k) (sym (p .number))
-        (arcs-fit m s cs es base (length es) w (p .placed) (p .held) all-fit joined marks ranks kept numbers)
+        subst (λ (k : ℕ). length (keptArcs marks ranks (m .arcBytes) (edgesAt (room .edges) k w)) ≤ arcSize * k) (sym (p .number))
+        (arcs-fit m s cs es (room .edges) (length es) w (p .placed) (p .held) all-fit joined marks ranks kept numbers)
 
     -- the marks are those of the configurations from which an accepting one is reached
     marks-are : bools (take (length cs) marks) ≡ configMarks (tableOf m) ps v cs
     marks-are =
-        let e : bools (take (length cs) marks) ≡ coaccessible (recordGraph (edgesAt base (length es) w)) (bools (map (finalByte (m .stateBytes)) (rows 0 configSize (length cs) w))) =
-        subst (λ (k : ℕ). bools (take (length cs) marks) ≡ coaccessible (recordGraph (edgesAt base k w)) (bools (map (finalByte (m .stateBytes)) (rows 0 configSize (length cs) w)))) (p .number)
-        (subst (λ (k : ℕ). bools (take k marks) ≡ coaccessible (recordGraph (edgesAt base arcs w)) (bools (map (finalByte (m .stateBytes)) (rows 0 configSize k w)))) (p .many) (keeps .marked)) in
-        e ∙ ap (λ (fs : List ℕ). coaccessible (recordGraph (edgesAt base (length es) w)) (bools fs)) (finals-model m s cs (rows 0 configSize (length cs) w) (p .placed))
-        ∙ ap (coaccessible (recordGraph (edgesAt base (length es) w))) (bools-bits (map (accepting (tableOf m)) cs))
-        ∙ coaccessible-held base (length es) es w (map (accepting (tableOf m)) cs) (p .held) all-fit
+        let e : bools (take (length cs) marks) ≡ coaccessible (recordGraph (edgesAt (room .edges) (length es) w)) (bools (map (finalByte (m .stateBytes)) (rows 0 configSize (length cs) w))) =
+        subst (λ (k : ℕ). bools (take (length cs) marks) ≡ coaccessible (recordGraph (edgesAt (room .edges) k w)) (bools (map (finalByte (m .stateBytes)) (rows 0 configSize (length cs) w)))) (p .number)
+        (subst (λ (k : ℕ). bools (take k marks) ≡ coaccessible (recordGraph (edgesAt (room .edges) (hd .arcs) w)) (bools (map (finalByte (m .stateBytes)) (rows 0 configSize k w)))) (p .many) (keeps .marked)) in
+        e ∙ ap (λ (fs : List ℕ). coaccessible (recordGraph (edgesAt (room .edges) (length es) w)) (bools fs)) (finals-model m s cs (rows 0 configSize (length cs) w) (p .placed))
+        ∙ ap (coaccessible (recordGraph (edgesAt (room .edges) (length es) w))) (bools-bits (map (accepting (tableOf m)) cs))
+        ∙ coaccessible-held (room .edges) (length es) es w (map (accepting (tableOf m)) cs) (p .held) all-fit
 
     -- The bytes written are those of the result on the configurations.
     pub finished : (tapes number : ℕ) (states arcBytes oldStates oldArcs : List ℕ) → tapes ≡ m .tapes
-        → states ≡ overwrite (keptStates (m .stateBytes) (take n marks) (rows 0 configSize n w)) oldStates
-        → ArcsWritten marks ranks (m .arcBytes) (edgesAt base arcs w) number arcBytes oldArcs
+        → states ≡ overwrite (keptStates (m .stateBytes) (take (hd .reached) marks) (rows 0 configSize (hd .reached) w)) oldStates
+        → ArcsWritten marks ranks (m .arcBytes) (edgesAt (room .edges) (hd .arcs) w) number arcBytes oldArcs
         → madeOf (ok (record { tapes = tapes; states = kept; arcs = number })) states arcBytes ≡ put (ok (assemble (tableOf m) ps v cs .automaton)) (slicesOf oldStates oldArcs)
     finished tapes number states arcBytes oldStates oldArcs t e f =
         let x : states ≡ overwrite (keptStates (m .stateBytes) (take (length cs) marks) (rows 0 configSize (length cs) w)) oldStates =
         subst (λ (k : ℕ). states ≡ overwrite (keptStates (m .stateBytes) (take k marks) (rows 0 configSize k w)) oldStates) (p .many) e in
-        let y : ArcsWritten marks ranks (m .arcBytes) (edgesAt base (length es) w) number arcBytes oldArcs =
-        subst (λ (k : ℕ). ArcsWritten marks ranks (m .arcBytes) (edgesAt base k w) number arcBytes oldArcs) (p .number) f in
+        let y : ArcsWritten marks ranks (m .arcBytes) (edgesAt (room .edges) (length es) w) number arcBytes oldArcs =
+        subst (λ (k : ℕ). ArcsWritten marks ranks (m .arcBytes) (edgesAt (room .edges) k w) number arcBytes oldArcs) (p .number) f in
         ap (λ (k : ℕ). madeOf (ok (record { tapes = k; states = kept; arcs = number })) states arcBytes) (t ∙ sound-holds m s .tapes)
-        ∙ result-put m s cs es base (length es) w (p .placed) (p .held) all-fit joined marks ranks kept numbers number states arcBytes oldStates oldArcs x y
+        ∙ result-put m s cs es (room .edges) (length es) w (p .placed) (p .held) all-fit joined marks ranks kept numbers number states arcBytes oldStates oldArcs x y
         ∙ ap (λ (b : List Bool). put (ok (resultOf (tableOf m) b cs es)) (slicesOf oldStates oldArcs)) marks-are
         ∙ ap (λ (A : Automaton ℕ). put (ok A) (slicesOf oldStates oldArcs)) (sym (assembled (tableOf m) ps v cs (p .distinct)))
 
 -- ---- what the calls ask for
-module _ (m : Memory) (base n arcs : ℕ) (w : List ℕ) (forStates forArcs : ℕ) (f : Finishable m base n arcs w forStates forArcs) where
+module _ (p : Plan) (hd : Head) (states inputs w : List ℕ) (forStates forArcs : ℕ) (f : Finishable p hd states inputs w forStates forArcs) where
+  -- the table that was read
+  abbrev m : Memory
+  m = lent (p .counts) states inputs
+
   -- the rows and the records of the edges are laid out
-  pub laid : Laid base n arcs (m .stateBytes) w
+  pub laid : Laid (p .room) hd states w
   laid = record {
     few = f .few;
     rows-fit = f .rows-fit;
     edges-fit = f .edges-fit;
-    within = stands-states m (f .sound) (f .pairs) (f .test) (f .configs) base n arcs w (f .stands);
-    joined = stands-joined m (f .sound) (f .pairs) (f .test) (f .configs) base n arcs w (f .stands);
+    within = stands-states m (f .sound) (f .pairs) (f .test) (f .configs) (p .room) hd w (f .stands);
+    joined = stands-joined m (f .sound) (f .pairs) (f .test) (f .configs) (p .room) hd w (f .stands);
   }
 
-  module _ (marks ranks : List ℕ) (kept : ℕ) (keeps : Kept base n arcs (m .stateBytes) w marks ranks kept) where
+  module _ (marks ranks : List ℕ) (kept : ℕ) (keeps : Kept (p .room) hd states w marks ranks kept) where
     -- the states of the result fit
-    pub states-writable : length (keptStates (m .stateBytes) (take n marks) (rows 0 configSize n w)) ≤ forStates
+    pub states-writable : length (keptStates states (take (hd .reached) marks) (rows 0 configSize (hd .reached) w)) ≤ forStates
     states-writable =
-        omega (arith, states-room m (f .sound) (f .pairs) (f .test) (f .configs) base n arcs w (f .stands) marks ranks kept keeps, f .states-lent)
+        omega (arith, states-room m (f .sound) (f .pairs) (f .test) (f .configs) (p .room) hd w (f .stands) marks ranks kept keeps, f .states-lent)
 
     -- and its arcs
-    pub arcs-writable : n ≤ length marks
-        → Joined (length marks) (edgesAt base arcs w) × ArcsWithin (length (m .arcBytes)) (edgesAt base arcs w) × (length (keptArcs marks ranks (m .arcBytes) (edgesAt base arcs w)) ≤ forArcs)
+    pub arcs-writable : hd .reached ≤ length marks
+        → Joined (length marks) (edgesAt (p .room .edges) (hd .arcs) w) × ArcsWithin (length inputs) (edgesAt (p .room .edges) (hd .arcs) w)
+        × (length (keptArcs marks ranks inputs (edgesAt (p .room .edges) (hd .arcs) w)) ≤ forArcs)
     arcs-writable h = (
-      joined-wider n (length marks) (edgesAt base arcs w) h (laid .joined),
-      stands-arcs m (f .sound) (f .pairs) (f .test) (f .configs) base n arcs w (f .stands),
-      omega (arith, arcs-room m (f .sound) (f .pairs) (f .test) (f .configs) base n arcs w (f .stands) marks ranks kept keeps, f .arcs-lent),
+      joined-wider (hd .reached) (length marks) (edgesAt (p .room .edges) (hd .arcs) w) h (laid .joined),
+      stands-arcs m (f .sound) (f .pairs) (f .test) (f .configs) (p .room) hd w (f .stands),
+      omega (arith, arcs-room m (f .sound) (f .pairs) (f .test) (f .configs) (p .room) hd w (f .stands) marks ranks kept keeps, f .arcs-lent),
     )

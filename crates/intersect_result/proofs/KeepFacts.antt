@@ -17,6 +17,8 @@ use Rattle.intersect_edges.specs.Marked.{bit, isMark, bits, bools, Bits}
 use Rattle.intersect_edges.proofs.MarkFacts.{bools-bits}
 use Rattle.intersect_trim.specs.Ranks.{Numbered}
 use Rattle.intersect_trim.specs.Rows.{rowState, rowPlain, finalByte}
+use Rattle.intersect_room.specs.declared.room.Room.{Room}
+use Rattle.intersect_head.specs.declared.head.Head.{Head}
 use Rattle.intersect_result.specs.Standing.{Kept}
 
 -- a mark is 0 or 1
@@ -47,17 +49,19 @@ module _ (n : ℕ) (states w : List ℕ) (m₀ m₁ : List ℕ) (e₁ : m₁ ≡
   pub finals-bits : Bits (take n m₁)
   finals-bits = rw finals (final-bits states (rows 0 configSize n w))
 
-  -- The marks and the numbers that the calls leave one after the other.
-  pub rows-kept : (base arcs : ℕ) (m₂ ranks : List ℕ) (kept : ℕ) → m₂ ≡ bits (coaccessible (recordGraph (edgesAt base arcs w)) (bools (take n m₁))) ++ drop n m₁
-      → Numbered (bools (take n m₂)) n ranks kept → Kept base n arcs states w m₂ ranks kept
-  rows-kept base arcs m₂ ranks kept e₂ numbers =
-      let g = recordGraph (edgesAt base arcs w) in
-      let fs : List ℕ = map (finalByte states) (rows 0 configSize n w) in
-      let e : m₂ ≡ bits (coaccessible g (bools fs)) ++ drop n m₁ =
-      e₂ ∙ ap (λ (ms : List ℕ). bits (coaccessible g (bools ms)) ++ drop n m₁) finals in
-      let l : length (bits (coaccessible g (bools fs))) ≡ n =
-      length-map (coaccessible g (bools fs)) bit ∙ length-coaccessible g (bools fs) ∙ length-map fs isMark ∙ length-map (rows 0 configSize n w) (finalByte states) ∙ length-rows 0 configSize n w in
-      record {
-        marked = ap bools (front n (bits (coaccessible g (bools fs))) m₁ m₂ l e) ∙ bools-bits (coaccessible g (bools fs));
-        numbers = numbers;
-      }
+-- The marks and the numbers that the calls leave one after the other.
+pub rows-kept : (room : Room) (h : Head) (states w m₀ m₁ : List ℕ) → m₁ ≡ map (finalByte states) (rows 0 configSize (h .reached) w) ++ drop (h .reached) m₀
+    → (m₂ ranks : List ℕ) (kept : ℕ) → m₂ ≡ bits (coaccessible (recordGraph (edgesAt (room .edges) (h .arcs) w)) (bools (take (h .reached) m₁))) ++ drop (h .reached) m₁
+    → Numbered (bools (take (h .reached) m₂)) (h .reached) ranks kept → Kept room h states w m₂ ranks kept
+rows-kept room h states w m₀ m₁ e₁ m₂ ranks kept e₂ numbers =
+    let n = h .reached in
+    let g = recordGraph (edgesAt (room .edges) (h .arcs) w) in
+    let fs : List ℕ = map (finalByte states) (rows 0 configSize n w) in
+    let e : m₂ ≡ bits (coaccessible g (bools fs)) ++ drop n m₁ =
+    e₂ ∙ ap (λ (ms : List ℕ). bits (coaccessible g (bools ms)) ++ drop n m₁) (finals n states w m₀ m₁ e₁) in
+    let l : length (bits (coaccessible g (bools fs))) ≡ n =
+    length-map (coaccessible g (bools fs)) bit ∙ length-coaccessible g (bools fs) ∙ length-map fs isMark ∙ length-map (rows 0 configSize n w) (finalByte states) ∙ length-rows 0 configSize n w in
+    record {
+      marked = ap bools (front n (bits (coaccessible g (bools fs))) m₁ m₂ l e) ∙ bools-bits (coaccessible g (bools fs));
+      numbers = numbers;
+    }

@@ -1,4 +1,4 @@
 -- Facts of the result of an auto-intersection.
 pub mod KeepFacts
 pub mod FinishFacts
-pub mod SettleFacts
+pub mod AnswerFacts

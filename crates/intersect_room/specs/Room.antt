@@ -13,7 +13,8 @@ use Rattle.intersect_room.specs.declared.room.RoomAnswer.{RoomAnswer}
 abbrev pub lentSpace : ℕ → ℕ → Space
 lentSpace states arcs = record { states = states; arcs = arcs }
 
--- the parts of the work space, for so many states and arcs lent and so many states of the table read, within so many bytes
+-- the parts of the work space, for so many states and arcs lent and so many states of the table read, within so many
+-- bytes
 pub record Divides (states arcs read work : ℕ) (r : Room) : Type 0 where
   pub state-cap : r .states ≡ stateCap (lentSpace states arcs)
   pub arc-cap : r .arcs ≡ arcCap (lentSpace states arcs)

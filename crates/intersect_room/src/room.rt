@@ -29,7 +29,7 @@ fn lesser(a: usize, b: usize) -> usize
 }
 
 // No room.
-fn no_room() -> RoomAnswer
+pub fn no_room() -> RoomAnswer
     ensures { λ r. ⌜ r .enough ≡ false ⌝ }
 {
     let room = Room {
@@ -44,7 +44,8 @@ fn no_room() -> RoomAnswer
     }
 }
 
-// The room in `work` bytes for so many states and arcs lent, and so many states of the table read. No product is made before it is known to fit.
+// The room in `work` bytes for so many states and arcs lent, and so many states of the table read. No product is made
+// before it is known to fit.
 pub fn room_for(states: usize, arcs: usize, read: usize, work: usize) -> RoomAnswer
     ensures { λ r. ⌜ RoomFor states arcs read work r ⌝ }
 {

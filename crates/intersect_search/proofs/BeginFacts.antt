@@ -105,17 +105,17 @@ module _ (p : Plan) (states : List ℕ) (v : List ℕ) (k : Beginnable p states 
     pub begin-next : r .full ≡ false → Beginning p states v r u (q + 1)
     begin-next f = record {
       within = omega arith;
-      taken = z .taken ∙ t .taken;
-      arcs = z .arcs ∙ t .arcs;
-      same-length = z .same-length ∙ t .same-length;
+      taken = z .widens .taken ∙ t .taken;
+      arcs = z .widens .arcs ∙ t .arcs;
+      same-length = z .widens .same-length ∙ t .same-length;
       meaning = λ arcs x c m. begin-comes arcs x c m .held f;
     }
 
     pub begin-full : r .full ≡ true → Begun p states v r u
     begin-full f = record {
-      taken = z .taken ∙ t .taken;
-      arcs = z .arcs ∙ t .arcs;
-      same-length = z .same-length ∙ t .same-length;
+      taken = z .widens .taken ∙ t .taken;
+      arcs = z .widens .arcs ∙ t .arcs;
+      same-length = z .widens .same-length ∙ t .same-length;
       meaning = λ arcs x c z. record {
         held = λ n. TestFacts.false-not-true n f;
         over = λ n.

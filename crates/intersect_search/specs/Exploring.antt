@@ -22,8 +22,8 @@ module _ (p : Plan) (states arcs : List ℕ) where
   abbrev pub reachedIn : List automata.Config
   reachedIn = reachedConfigs (tableIn p states arcs) (pairsIn p) (viableIn p states arcs) (p .room .states)
 
-  -- The head r and the work space w hold the reached configurations and the edges between them, and tell whether a step from one of them is too
-  -- long; or the head is full, and there are more of them than there is room for.
+  -- The head r and the work space w hold the reached configurations and the edges between them, and tell whether a step
+  -- from one of them is too long; or the head is full, and there are more of them than there is room for.
   abbrev pub ComesToReached : Head → List ℕ → Type 0
   ComesToReached r w = Comes p states arcs r
       (record { vertices = reachedIn; edges = edges automata.sameConfig (out (tableIn p states arcs) (pairsIn p) (viableIn p states arcs)) reachedIn })

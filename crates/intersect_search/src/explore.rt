@@ -45,7 +45,8 @@ fn run_chained(
     next: &[u16],
     work: &mut [u8],
 ) -> Head
-    requires { ⌜ Runnable plan start (now arcs) (now work) × Chained (plan .counts .states) (plan .counts .arcs) (now arcs) (now first) (now next) ⌝ }
+    requires { ⌜ Runnable plan start (now arcs) (now work)
+        × Chained (plan .counts .states) (plan .counts .arcs) (now arcs) (now first) (now next) ⌝ }
     ensures { λ r. ⌜ Runs plan start (now (arcs .entry)) (now (work .entry)) r (now (work .exit)) ⌝ }
 {
     if start.full {
@@ -77,7 +78,8 @@ fn run(start: Head, plan: Plan, arcs: &[u8], work: &mut [u8]) -> Head
 // reached.
 pub fn explore(plan: Plan, states: &[u8], arcs: &[u8], work: &mut [u8]) -> Head
     requires { ⌜ Explorable plan (now states) (now arcs) (length (now work)) ⌝ }
-    ensures { λ r. ⌜ Explored plan (now (states .entry)) (now (arcs .entry)) (now (work .entry)) r (now (work .exit)) ⌝ }
+    ensures { λ r. ⌜ Explored plan (now (states .entry)) (now (arcs .entry)) (now (work .entry)) r
+        (now (work .exit)) ⌝ }
 {
     let counts = plan.counts;
     let pairs = plan.pairs;

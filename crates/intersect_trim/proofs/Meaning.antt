@@ -1,4 +1,5 @@
--- What the calls leave one after the other: the marks of the configurations on a successful path, and the bytes of the result.
+-- What the calls leave one after the other: the marks of the configurations on a successful path, and the bytes of the
+-- result.
 use Prim.Native.Nat.{ℕ, _*_, _≤_}
 use mathlib.Core.Path.{_≡_, refl, sym, ap, _∙_}
 use mathlib.Core.Bool.{Bool, true, false}

@@ -36,7 +36,8 @@ keptStates states marks rs = writeAll (rowRecord states) (atMarks (bools marks) 
 abbrev pub bothMarks : List ℕ → EdgeRecord → Bool
 bothMarks marks e = and (isMark (getD marks (e .from .0) 0)) (isMark (getD marks (e .to .0) 0))
 
--- the record of an edge: the numbers of its ends among those kept, and what is behind these numbers in the record of its input arc
+-- the record of an edge: the numbers of its ends among those kept, and what is behind these numbers in the record of
+-- its input arc
 unfoldable pub arcBytes : List ℕ → List ℕ → EdgeRecord → List ℕ
 arcBytes ranks inputs e = toLe 2 (getD ranks (e .from .0) 0) ++ (toLe 2 (getD ranks (e .to .0) 0) ++ part (arcSize * e .arc + contentPlace) contentSize inputs)
 
@@ -52,7 +53,8 @@ keptArcs marks ranks inputs es = writeAll (arcBytes ranks inputs) (filter (bothM
 unfoldable pub ArcsWithin : ℕ → List EdgeRecord → Type 0
 ArcsWithin n es = All (λ e. arcSize * e .arc + arcSize ≤ n) es
 
--- the arcs between marked configurations were written, from what stood in v to what stands in w, and kept is how many they are
+-- the arcs between marked configurations were written, from what stood in v to what stands in w, and kept is how many
+-- they are
 pub record ArcsWritten (marks ranks inputs : List ℕ) (es : List EdgeRecord) (kept : ℕ) (w v : List ℕ) : Type 0 where
   pub bytes : w ≡ overwrite (keptArcs marks ranks inputs es) v
   pub number : kept ≡ length (filter (bothMarks marks) es)

@@ -38,7 +38,8 @@ pub fn record_place(work: &[u8], at: usize) -> usize
 
 // The mark of the row at `at`: no leftover, and its input state has a final weight.
 fn final_mark(work: &[u8], at: usize, states: &[u8]) -> u8
-    requires { ⌜ (at + configSize ≤ length (now work)) × (stateSize * rowState (part at configSize (now work)) + stateSize ≤ length (now states)) ⌝ }
+    requires { ⌜ (at + configSize ≤ length (now work))
+        × (stateSize * rowState (part at configSize (now work)) + stateSize ≤ length (now states)) ⌝ }
     ensures { λ r. ⌜ r ≡ finalByte (now (states .entry)) (part at configSize (now (work .entry))) ⌝ }
 {
     if !row_plain(work, at) {
@@ -54,8 +55,10 @@ fn final_mark(work: &[u8], at: usize, states: &[u8]) -> u8
 
 // The marks of the first `count` rows.
 pub fn mark_final(work: &[u8], count: usize, states: &[u8], marks: &mut [u8])
-    requires { ⌜ (configSize * count ≤ length (now work)) × (count ≤ length (now marks)) × Within (length (now states)) (rows 0 configSize count (now work)) ⌝ }
-    ensures { λ _. ⌜ now (marks .exit) ≡ map (finalByte (now (states .entry))) (rows 0 configSize count (now (work .entry))) ++ drop count (now (marks .entry)) ⌝ }
+    requires { ⌜ (configSize * count ≤ length (now work)) × (count ≤ length (now marks))
+        × Within (length (now states)) (rows 0 configSize count (now work)) ⌝ }
+    ensures { λ _. ⌜ now (marks .exit) ≡ map (finalByte (now (states .entry)))
+        (rows 0 configSize count (now (work .entry))) ++ drop count (now (marks .entry)) ⌝ }
 {
     let mut left = count;
     let mut at: usize = 0;

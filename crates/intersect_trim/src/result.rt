@@ -24,8 +24,11 @@ ghost use Rattle.intersect_trim.specs.Result.{rowRecord, markedState, ke
 
 // The record of the row at `at`: that of its input state where there is no leftover, else ten zeros.
 fn store_row(work: &[u8], at: usize, states: &[u8], out: &mut [u8], to: usize)
-    requires { ⌜ (at + configSize ≤ length (now work)) × (stateSize * rowState (part at configSize (now work)) + stateSize ≤ length (now states)) × (to + stateSize ≤ length (now out)) ⌝ }
-    ensures { λ _. ⌜ now (out .exit) ≡ splice to (rowRecord (now (states .entry)) (part at configSize (now (work .entry)))) (now (out .entry)) ⌝ }
+    requires { ⌜ (at + configSize ≤ length (now work))
+        × (stateSize * rowState (part at configSize (now work)) + stateSize ≤ length (now states))
+        × (to + stateSize ≤ length (now out)) ⌝ }
+    ensures { λ _. ⌜ now (out .exit) ≡ splice to (rowRecord (now (states .entry))
+        (part at configSize (now (work .entry)))) (now (out .entry)) ⌝ }
 {
     if row_plain(work, at) {
         let place = record_place(work, at);
@@ -38,8 +41,12 @@ fn store_row(work: &[u8], at: usize, states: &[u8], out: &mut [u8], to: usize)
 
 // The record of the row at `at` if it is marked. Answers the place behind what was written.
 fn put_state(work: &[u8], at: usize, mark: u8, states: &[u8], out: &mut [u8], to: usize) -> usize
-    requires { ⌜ (at + configSize ≤ length (now work)) × (stateSize * rowState (part at configSize (now work)) + stateSize ≤ length (now states)) × (to + length (markedState mark (now states) (part at configSize (now work))) ≤ length (now out)) ⌝ }
-    ensures { λ r. ⌜ (now (out .exit) ≡ splice to (markedState mark (now (states .entry)) (part at configSize (now (work .entry)))) (now (out .entry))) × (r ≡ to + length (markedState mark (now (states .entry)) (part at configSize (now (work .entry))))) ⌝ }
+    requires { ⌜ (at + configSize ≤ length (now work))
+        × (stateSize * rowState (part at configSize (now work)) + stateSize ≤ length (now states))
+        × (to + length (markedState mark (now states) (part at configSize (now work))) ≤ length (now out)) ⌝ }
+    ensures { λ r. ⌜ (now (out .exit) ≡ splice to (markedState mark (now (states .entry))
+        (part at configSize (now (work .entry)))) (now (out .entry)))
+        × (r ≡ to + length (markedState mark (now (states .entry)) (part at configSize (now (work .entry))))) ⌝ }
 {
     if mark != 1 {
         return to;
@@ -50,8 +57,12 @@ fn put_state(work: &[u8], at: usize, mark: u8, states: &[u8], out: &mut [u8], to
 
 // The state records of the marked rows among the first `count`, in their order, over the front of `out`.
 pub fn write_states(work: &[u8], count: usize, marks: &[u8], states: &[u8], out: &mut [u8])
-    requires { ⌜ (configSize * count ≤ length (now work)) × (count ≤ length (now marks)) × Within (length (now states)) (rows 0 configSize count (now work)) × (length (keptStates (now states) (take count (now marks)) (rows 0 configSize count (now work))) ≤ length (now out)) ⌝ }
-    ensures { λ _. ⌜ now (out .exit) ≡ overwrite (keptStates (now (states .entry)) (take count (now (marks .entry))) (rows 0 configSize count (now (work .entry)))) (now (out .entry)) ⌝ }
+    requires { ⌜ (configSize * count ≤ length (now work)) × (count ≤ length (now marks))
+        × Within (length (now states)) (rows 0 configSize count (now work))
+        × (length (keptStates (now states) (take count (now marks)) (rows 0 configSize count (now work)))
+        ≤ length (now out)) ⌝ }
+    ensures { λ _. ⌜ now (out .exit) ≡ overwrite (keptStates (now (states .entry)) (take count (now (marks .entry)))
+        (rows 0 configSize count (now (work .entry)))) (now (out .entry)) ⌝ }
 {
     let mut left = count;
     let mut at: usize = 0;
@@ -67,8 +78,10 @@ pub fn write_states(work: &[u8], count: usize, marks: &[u8], states: &[u8], out:
 
 // The record of an arc: the numbers of its ends among those kept, and what the input arc carries.
 fn store_arc(e: EdgeRecord, ranks: &[u16], inputs: &[u8], out: &mut [u8], to: usize)
-    requires { ⌜ (e .from .0 < length (now ranks)) × (e .to .0 < length (now ranks)) × (arcSize * e .arc + arcSize ≤ length (now inputs)) × (to + arcSize ≤ length (now out)) ⌝ }
-    ensures { λ _. ⌜ now (out .exit) ≡ splice to (arcBytes (now (ranks .entry)) (now (inputs .entry)) e) (now (out .entry)) ⌝ }
+    requires { ⌜ (e .from .0 < length (now ranks)) × (e .to .0 < length (now ranks))
+        × (arcSize * e .arc + arcSize ≤ length (now inputs)) × (to + arcSize ≤ length (now out)) ⌝ }
+    ensures { λ _. ⌜ now (out .exit) ≡ splice to (arcBytes (now (ranks .entry)) (now (inputs .entry)) e)
+        (now (out .entry)) ⌝ }
 {
     let source = ResultState(ranks[e.from.0 as usize]);
     let target = ResultState(ranks[e.to.0 as usize]);
@@ -85,8 +98,11 @@ fn put_arc(
     out: &mut [u8],
     to: usize,
 ) -> usize
-    requires { ⌜ (e .from .0 < length (now marks)) × (e .to .0 < length (now marks)) × (length (now marks) ≤ length (now ranks)) × (arcSize * e .arc + arcSize ≤ length (now inputs)) × (to + length (markedArc (now marks) (now ranks) (now inputs) e) ≤ length (now out)) ⌝ }
-    ensures { λ r. ⌜ (now (out .exit) ≡ splice to (markedArc (now (marks .entry)) (now (ranks .entry)) (now (inputs .entry)) e) (now (out .entry))) × (r ≡ bit (bothMarks (now (marks .entry)) e)) × (r < 2) ⌝ }
+    requires { ⌜ (e .from .0 < length (now marks)) × (e .to .0 < length (now marks))
+        × (length (now marks) ≤ length (now ranks)) × (arcSize * e .arc + arcSize ≤ length (now inputs))
+        × (to + length (markedArc (now marks) (now ranks) (now inputs) e) ≤ length (now out)) ⌝ }
+    ensures { λ r. ⌜ (now (out .exit) ≡ splice to (markedArc (now (marks .entry)) (now (ranks .entry))
+        (now (inputs .entry)) e) (now (out .entry))) × (r ≡ bit (bothMarks (now (marks .entry)) e)) × (r < 2) ⌝ }
 {
     if marks[e.from.0 as usize] != 1 {
         return 0;
@@ -98,7 +114,8 @@ fn put_arc(
     1
 }
 
-// The arc records of the edges between marked configurations, in their order, over the front of `out`. Answers how many they are.
+// The arc records of the edges between marked configurations, in their order, over the front of `out`. Answers how many
+// they are.
 pub fn write_arcs(
     work: &[u8],
     base: usize,
@@ -108,8 +125,12 @@ pub fn write_arcs(
     inputs: &[u8],
     out: &mut [u8],
 ) -> usize
-    requires { ⌜ (base + stepSize * arcs ≤ length (now work)) × (length (now marks) ≤ length (now ranks)) × Joined (length (now marks)) (edgesAt base arcs (now work)) × ArcsWithin (length (now inputs)) (edgesAt base arcs (now work)) × (length (keptArcs (now marks) (now ranks) (now inputs) (edgesAt base arcs (now work))) ≤ length (now out)) ⌝ }
-    ensures { λ r. ⌜ ArcsWritten (now (marks .entry)) (now (ranks .entry)) (now (inputs .entry)) (edgesAt base arcs (now (work .entry))) r (now (out .exit)) (now (out .entry)) ⌝ }
+    requires { ⌜ (base + stepSize * arcs ≤ length (now work)) × (length (now marks) ≤ length (now ranks))
+        × Joined (length (now marks)) (edgesAt base arcs (now work))
+        × ArcsWithin (length (now inputs)) (edgesAt base arcs (now work))
+        × (length (keptArcs (now marks) (now ranks) (now inputs) (edgesAt base arcs (now work))) ≤ length (now out)) ⌝ }
+    ensures { λ r. ⌜ ArcsWritten (now (marks .entry)) (now (ranks .entry)) (now (inputs .entry))
+        (edgesAt base arcs (now (work .entry))) r (now (out .exit)) (now (out .entry)) ⌝ }
 {
     let mut left = arcs;
     let mut from = base;

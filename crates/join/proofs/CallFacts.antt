@@ -1,5 +1,5 @@
 -- The call by its steps: what each way out of it answers, and what it leaves.
-use Prim.Native.Nat.{ℕ}
+use Prim.Native.Nat.{ℕ, _≤_}
 use mathlib.Core.Path.{_≡_, refl, sym, ap, subst, _∙_}
 use mathlib.Core.List.{List}
 use native.Mathlib.Omega.{arith}
@@ -9,10 +9,12 @@ use Rattle.automata.specs.Answer.{_>>=_, Answer, refused}
 use Rattle.automata.specs.OrderedSum.{ℕ-sum}
 use Rattle.automata.specs.Automaton.{Automaton}
 use Rattle.automata.specs.Table.{weightFits}
+use Rattle.automata.specs.Space.{Space}
 use Rattle.automata.specs.TapePair.{TapePair, tapesOf, limitsFit}
 use Rattle.automata.specs.Memory.{Memory, tableOf, zeros}
 use Rattle.automata.specs.Join.{within, joinSteps}
 use Rattle.automata.specs.Calls.Outcome.{Slices, TableCounts, spaceOf, put, conclude, madeOf, joinedOf}
+use Rattle.automata.specs.Calls.Work.{productWork, joinWork}
 use Rattle.automata.specs.Calls.Join.{lentTo, joinAnswer, joinOutcome}
 use Rattle.automata.specs.Calls.JoinSteps.{joinByCalls}
 use Rattle.automata.proofs.CallFacts.{put-refused}
@@ -26,10 +28,16 @@ use Rattle.table.specs.Pairs.{pairsAs}
 use Rattle.pairs.specs.declared.PairsJudged.{PairsJudged}
 use Rattle.pairs.specs.Judgement.{JoinJudged}
 use Rattle.pairs.proofs.TestFacts.{join-limits}
+use Rattle.join.specs.declared.judge.Prepared.{Prepared}
 use Rattle.join.specs.Judged.{Prepares}
 use Rattle.join_steps.specs.Steps.{Joinable}
 
-module _ (a b : Memory) (ps : List TapePair) (product result : Slices) (work : List ℕ) (listed : PairsJudged) (j : Judged)
+-- what a join needs is enough for its product
+product-part : (product result : Space) (work : ℕ) → joinWork product result ≤ work → productWork product ≤ work
+unfolding joinWork
+product-part product result work h = omega (arith, h)
+
+module _ (a b : Memory) (ps : List TapePair) (product result : Slices) (work : List ℕ) (listed : PairsJudged) (j : Prepared)
     (k : JoinJudged ps (a .tapes) (b .tapes) listed) (p : Prepares a b ps (spaceOf product) (spaceOf result) (length work) listed j) where
   -- what the call answers
   abbrev answer : Answer (Automaton ℕ)
@@ -39,13 +47,13 @@ module _ (a b : Memory) (ps : List TapePair) (product result : Slices) (work : L
   after x = judgedAs x >>= λ (u : Unit {0}). joinSteps ℕ-sum weightFits (lentTo (spaceOf product) (spaceOf result) work) ps (tableOf a) (tableOf b)
 
   -- a refusal before any step
-  pub call-refused : (why : Refusal) → j ≡ Refused why → madeOf (refused (refusalNumber why)) (result .states) (result .arcs) ≡ put answer result
+  pub call-refused : (why : Refusal) → j .judged ≡ Refused why → madeOf (refused (refusalNumber why)) (result .states) (result .arcs) ≡ put answer result
   call-refused why e =
       sym (put-refused result (refusalNumber why)) ∙ ap (λ (r : Answer (Automaton ℕ)). put r result) (sym (p .answer work refl ∙ ap after e))
 
-  module _ (e : j ≡ Fine) where
+  module _ (e : j .judged ≡ Fine) where
     -- the steps can be made
-    pub call-joinable : Joinable a b (listed .pairs) (length (product .states)) (length (product .arcs)) (length (result .states)) (length (result .arcs)) (length work)
+    pub call-joinable : Joinable a b (listed .pairs) (j .room) (length (product .states)) (length (product .arcs)) (length (result .states)) (length (result .arcs)) (length work)
     call-joinable =
         let f = p .listed-fine e in
         record {
@@ -55,7 +63,8 @@ module _ (a b : Memory) (ps : List TapePair) (product result : Slices) (work : L
           sided = k .tapes-named f;
           inside = subst (λ (qs : List TapePair). T (within (a .tapes) (b .tapes) (tapesOf qs))) (sym (k .pairs f)) (p .inside e);
           limits-fit = ap limitsFit (k .pairs f) ∙ join-limits ps (a .tapes) (b .tapes) listed k f;
-          work-fits = p .enough e;
+          work-fits = product-part (spaceOf product) (spaceOf result) (length work) (p .enough e);
+          divides = p .divides e;
         }
 
     -- and what they leave is the call's

@@ -33,7 +33,8 @@ use Rattle.pairs.specs.PairTests.{joinPairsAnswer}
 use Rattle.pairs.specs.Judgement.{JoinJudged}
 use Rattle.pairs.proofs.CallFacts.{join-then}
 use Rattle.pairs.proofs.TurnFacts.{turn-then}
-use Rattle.join.specs.Judged.{inTurn, Prepares}
+use Rattle.intersect_room.specs.declared.room.RoomAnswer.{RoomAnswer}
+use Rattle.join.specs.Judged.{inTurn, JoinRoom, Prepares}
 
 -- ---- the width
 
@@ -134,20 +135,21 @@ unfolding joinPairsAnswer
 pairs-within n m ps e = judge-ok (within n m (tapesOf ps)) _ _ tt e .0
 
 -- The judgements are those of the call.
-pub prepared : (a b : Memory) (ps : List TapePair) (product result : Space) (work : ℕ) (t u j : Judged) (l : PairsJudged) (n e : Bool)
+pub prepared : (a b : Memory) (ps : List TapePair) (product result : Space) (work : ℕ) (t u j : Judged) (l : PairsJudged) (n : Bool) (r : RoomAnswer)
     → judgedAs t ≡ forget (decodeTable a) → judgedAs u ≡ forget (decodeTable b) → n ≡ leb (a .tapes + b .tapes) maxTapes
-    → JoinJudged ps (a .tapes) (b .tapes) l → e ≡ leb (joinWork product result) work
-    → judgedAs j ≡ inTurn (judgedAs t) (judgedAs u) n (judgedAs (l .judged)) e → Prepares a b ps product result work l j
-prepared a b ps product result work t u j l n e is-t is-u is-n k is-e is-j = record {
-  answer = λ w z. by-tables a b ps product result work (judgedAs t) (judgedAs u) (judgedAs (l .judged)) (judgedAs j) n e is-t is-u is-n (k .answer) is-e is-j w z
+    → JoinJudged ps (a .tapes) (b .tapes) l → JoinRoom product result work r
+    → judgedAs j ≡ inTurn (judgedAs t) (judgedAs u) n (judgedAs (l .judged)) (r .enough) → Prepares a b ps product result work l (record { judged = j; room = r .room })
+prepared a b ps product result work t u j l n r is-t is-u is-n k is-r is-j = record {
+  answer = λ w z. by-tables a b ps product result work (judgedAs t) (judgedAs u) (judgedAs (l .judged)) (judgedAs j) n (r .enough) is-t is-u is-n (k .answer) (is-r .enough) is-j w z
       (decodeTable a) (decodeTable b) refl refl;
   first = λ f. judged-sound a (sym is-t ∙ ap judgedAs (all f .first-fine));
   second = λ f. judged-sound b (sym is-u ∙ ap judgedAs (all f .second-fine));
   narrow = λ f. leb→le (a .tapes + b .tapes) maxTapes (true-T (leb (a .tapes + b .tapes) maxTapes) (sym is-n ∙ all f .is-narrow));
   listed-fine = λ f. all f .pairs-fine;
   inside = λ f. pairs-within (a .tapes) (b .tapes) ps (sym (k .answer) ∙ ap judgedAs (all f .pairs-fine));
-  enough = λ f. leb→le (joinWork product result) work (true-T (leb (joinWork product result) work) (sym is-e ∙ all f .is-enough));
+  enough = λ f. leb→le (joinWork product result) work (true-T (leb (joinWork product result) work) (sym (is-r .enough) ∙ all f .is-enough));
+  divides = λ f. is-r .divides (all f .is-enough);
 }
   where
-    all : j ≡ Fine → NoneRefused t u n (l .judged) e
-    all f = none-refused t u n (l .judged) e (sym is-j ∙ ap judgedAs f)
+    all : j ≡ Fine → NoneRefused t u n (l .judged) (r .enough)
+    all f = none-refused t u n (l .judged) (r .enough) (sym is-j ∙ ap judgedAs f)

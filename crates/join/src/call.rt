@@ -35,9 +35,15 @@ fn build(
     work: &mut [u8],
 ) -> TableAnswer
     requires { ⌜ Listed (first .tapes) (second .tapes) listed ⌝ }
-    ensures { λ r. ⌜ ((ps : List TapePair) → JoinJudged ps (first .tapes) (second .tapes) listed → madeOf (tableAs r) (now («out_states» .exit)) (now («out_arcs» .exit)) ≡ put (joinAnswer (lent first (now («first_states» .entry)) (now («first_arcs» .entry))) (lent second (now («second_states» .entry)) (now («second_arcs» .entry))) ps (spaceOf (slicesOf (now («product_states» .entry)) (now («product_arcs» .entry)))) (spaceOf (slicesOf (now («out_states» .entry)) (now («out_arcs» .entry)))) (now (work .entry))) (slicesOf (now («out_states» .entry)) (now («out_arcs» .entry)))) ⌝ }
+    ensures { λ r. ⌜ ((ps : List TapePair) → JoinJudged ps (first .tapes) (second .tapes) listed
+        → madeOf (tableAs r) (now («out_states» .exit)) (now («out_arcs» .exit))
+        ≡ put (joinAnswer (lent first (now («first_states» .entry)) (now («first_arcs» .entry)))
+        (lent second (now («second_states» .entry)) (now («second_arcs» .entry))) ps
+        (spaceOf (slicesOf (now («product_states» .entry)) (now («product_arcs» .entry))))
+        (spaceOf (slicesOf (now («out_states» .entry)) (now («out_arcs» .entry)))) (now (work .entry)))
+        (slicesOf (now («out_states» .entry)) (now («out_arcs» .entry)))) ⌝ }
 {
-    let judged = judge_join(
+    let prepared = judge_join(
         first,
         first_states,
         first_arcs,
@@ -51,6 +57,8 @@ fn build(
         out_arcs.len() / ARC_SIZE,
         work.len(),
     );
+    let judged = prepared.judged;
+    let room = prepared.room;
     match judged {
         Judged::Refused(why) => TableAnswer::Refused(why),
         Judged::Fine => {
@@ -63,6 +71,7 @@ fn build(
                 second_states,
                 second_arcs,
                 list,
+                room,
                 product_states,
                 product_arcs,
                 out_states,
@@ -89,7 +98,13 @@ pub fn join_judged(
     work: &mut [u8],
 ) -> TableAnswer
     requires { ⌜ Listed (first .tapes) (second .tapes) listed ⌝ }
-    ensures { λ r. ⌜ ((ps : List TapePair) → JoinJudged ps (first .tapes) (second .tapes) listed → joinedOf (tableAs r) (now («out_states» .exit)) (now («out_arcs» .exit)) (now («product_states» .exit)) (now («product_arcs» .exit)) (now (work .exit)) ≡ joinOutcome (lent first (now («first_states» .entry)) (now («first_arcs» .entry))) (lent second (now («second_states» .entry)) (now («second_arcs» .entry))) ps (slicesOf (now («product_states» .entry)) (now («product_arcs» .entry))) (slicesOf (now («out_states» .entry)) (now («out_arcs» .entry))) (now (work .entry))) ⌝ }
+    ensures { λ r. ⌜ ((ps : List TapePair) → JoinJudged ps (first .tapes) (second .tapes) listed
+        → joinedOf (tableAs r) (now («out_states» .exit)) (now («out_arcs» .exit)) (now («product_states» .exit))
+        (now («product_arcs» .exit)) (now (work .exit))
+        ≡ joinOutcome (lent first (now («first_states» .entry)) (now («first_arcs» .entry)))
+        (lent second (now («second_states» .entry)) (now («second_arcs» .entry))) ps
+        (slicesOf (now («product_states» .entry)) (now («product_arcs» .entry)))
+        (slicesOf (now («out_states» .entry)) (now («out_arcs» .entry))) (now (work .entry))) ⌝ }
 {
     let answer = build(
         first,
@@ -111,8 +126,8 @@ pub fn join_judged(
     answer
 }
 
-// The join of the table in `first_states` and `first_arcs` with that in `second_states` and `second_arcs`, on pairs of a
-// tape of the first and one of the second, three bytes a pair, each with its own limit: the product in its own space,
+// The join of the table in `first_states` and `first_arcs` with that in `second_states` and `second_arcs`, on pairs of
+// a tape of the first and one of the second, three bytes a pair, each with its own limit: the product in its own space,
 // what agrees on the pairs into `out_states` and `out_arcs`, and the second tapes dropped there. The product's space
 // and the work space are zero afterwards.
 pub fn join(
@@ -129,7 +144,12 @@ pub fn join(
     out_arcs: &mut [u8],
     work: &mut [u8],
 ) -> TableAnswer
-    ensures { λ r. ⌜ joinedOf (tableAs r) (now («out_states» .exit)) (now («out_arcs» .exit)) (now («product_states» .exit)) (now («product_arcs» .exit)) (now (work .exit)) ≡ joinOutcome (lent first (now («first_states» .entry)) (now («first_arcs» .entry))) (lent second (now («second_states» .entry)) (now («second_arcs» .entry))) (pairsOf (now (pairs .entry))) (slicesOf (now («product_states» .entry)) (now («product_arcs» .entry))) (slicesOf (now («out_states» .entry)) (now («out_arcs» .entry))) (now (work .entry)) ⌝ }
+    ensures { λ r. ⌜ joinedOf (tableAs r) (now («out_states» .exit)) (now («out_arcs» .exit))
+        (now («product_states» .exit)) (now («product_arcs» .exit)) (now (work .exit))
+        ≡ joinOutcome (lent first (now («first_states» .entry)) (now («first_arcs» .entry)))
+        (lent second (now («second_states» .entry)) (now («second_arcs» .entry))) (pairsOf (now (pairs .entry)))
+        (slicesOf (now («product_states» .entry)) (now («product_arcs» .entry)))
+        (slicesOf (now («out_states» .entry)) (now («out_arcs» .entry))) (now (work .entry)) ⌝ }
 {
     let listed = judge_join_pairs(pairs, first.tapes, second.tapes);
     join_judged(

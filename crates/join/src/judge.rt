@@ -1,6 +1,7 @@
 // What is judged before any step of a join: the first table, the second, their width, the pairs with their limits, the
 // work space.
-use crate::room::work_enough;
+use crate::room::join_room;
+use intersect_room::room::Room;
 use pairs::PairsJudged;
 use table::answer::Counts;
 use table::answer::Judged;
@@ -46,7 +47,14 @@ fn in_turn(first: Judged, second: Judged, narrow: bool, pairs: Judged, enough: b
     Judged::Fine
 }
 
-// The tables, the pairs that were judged, and the work space of so many bytes for a product and a result of so many states and arcs.
+// The first refusal, and where there is none the room of the build.
+pub struct Prepared {
+    pub judged: Judged,
+    pub room: Room,
+}
+
+// The tables, the pairs that were judged, and the work space of so many bytes for a product and a result of so many
+// states and arcs.
 pub fn judge_join(
     first: Counts,
     first_states: &[u8],
@@ -60,13 +68,19 @@ pub fn judge_join(
     states: usize,
     arcs: usize,
     work: usize,
-) -> Judged
-    ensures { λ r. ⌜ PreparesFor (lent first (now («first_states» .entry)) (now («first_arcs» .entry))) (lent second (now («second_states» .entry)) (now («second_arcs» .entry))) listed (lentSpace «product_states» «product_arcs») (lentSpace states arcs) work r ⌝ }
+) -> Prepared
+    ensures { λ r. ⌜ PreparesFor (lent first (now («first_states» .entry)) (now («first_arcs» .entry)))
+        (lent second (now («second_states» .entry)) (now («second_arcs» .entry))) listed
+        (lentSpace «product_states» «product_arcs») (lentSpace states arcs) work r ⌝ }
 {
     let one = judge(first, first_states, first_arcs);
     let two = judge(second, second_states, second_arcs);
     let narrow = width_fits(first.tapes, second.tapes);
     let pairs = listed.judged;
-    let enough = work_enough(product_states, product_arcs, states, arcs, work);
-    in_turn(one, two, narrow, pairs, enough)
+    let answer = join_room(product_states, product_arcs, states, arcs, work);
+    let room = answer.room;
+    Prepared {
+        judged: in_turn(one, two, narrow, pairs, answer.enough),
+        room,
+    }
 }

@@ -1,4 +1,5 @@
--- The steps of a join after its product: what is kept is a table of which the second tapes can be dropped, and a refusal ends the steps.
+-- The steps of a join after its product: what is kept is a table of which the second tapes can be dropped, and a
+-- refusal ends the steps.
 use Prim.Native.Nat.{ℕ, _≤_}
 use mathlib.Core.Path.{_≡_, refl, sym, ap, subst, _∙_}
 use mathlib.Core.List.{List}
@@ -22,6 +23,7 @@ use Rattle.table.specs.declared.answer.TableAnswer.the-variants.{Table, Refused
 use Rattle.table.specs.declared.pair.PairList.{PairList}
 use Rattle.table.specs.Answers.{refusalNumber, countsAs, tableAs, lent}
 use Rattle.table.specs.Pairs.{pairsAs, Named}
+use Rattle.intersect_room.specs.declared.room.Room.{Room}
 use Rattle.join_steps.specs.Steps.{SecondsDroppable, Keepable}
 
 -- ---- a table that a step made
@@ -51,7 +53,7 @@ pub told : (t : TableAnswer) (c : Counts) (states arcs : List ℕ) (o : Made) �
 told t c states arcs o q e = subst (λ (x : TableAnswer). madeOf (tableAs x) states arcs ≡ o) q e
 
 -- ---- after the auto-intersection
-module _ (m : Memory) (pairs : PairList) (forStates forArcs work : ℕ) (x : Keepable m pairs forStates forArcs work) (s : Slices) where
+module _ (m : Memory) (pairs : PairList) (room : Room) (forStates forArcs work : ℕ) (x : Keepable m pairs room forStates forArcs work) (s : Slices) where
   -- the steps that are left
   abbrev next : Memory → Slices → Made
   next K left = dropStep K (seconds (tapesOf (pairsAs pairs))) left

@@ -15,7 +15,6 @@ use Rattle.automata.specs.Tapes.{seconds, moved, placeAfter}
 use Rattle.automata.specs.Memory.{Memory, Sound, tableOf}
 use Rattle.automata.specs.Product.{crossProduct}
 use Rattle.automata.specs.Calls.Outcome.{Slices, lentTable, Made, spaceOf, madeOf, andThen}
-use Rattle.automata.specs.Calls.Work.{buildWork, productWork, joinWork}
 use Rattle.automata.specs.Calls.JoinSteps.{productStep, intersectStep, dropStep, joinByCalls}
 use Rattle.automata.proofs.CallFacts.{put-refused, join-product-refused, join-product-given}
 use Rattle.automata.proofs.Meeting.{width-behind}
@@ -31,6 +30,7 @@ use Rattle.table.specs.declared.pair.PairList.{PairList}
 use Rattle.table.specs.Answers.{refusalNumber, countsAs, tableAs, lent}
 use Rattle.table.specs.Pairs.{pairsAs, Named}
 use Rattle.pairs.specs.Judgement.{Moved}
+use Rattle.intersect_room.specs.declared.room.Room.{Room}
 use Rattle.product.specs.Multiplied.{Multipliable}
 use Rattle.join_steps.specs.Steps.{Keepable, Joinable}
 use Rattle.join_steps.proofs.KeepFacts.{made-table, told}
@@ -45,14 +45,13 @@ limits-placed f (p ∷ ps) = ap (and (leb (p .limit) maxDelay)) (limits-placed f
 -- ---- the product
 
 -- it has all that it asks for
-pub product-ready : (a b : Memory) (pairs : PairList) (forProductStates forProductArcs forStates forArcs work : ℕ)
-    → Joinable a b pairs forProductStates forProductArcs forStates forArcs work → Multipliable a b forProductStates forProductArcs work
-unfolding joinWork
-product-ready a b pairs forProductStates forProductArcs forStates forArcs work x = record {
+pub product-ready : (a b : Memory) (pairs : PairList) (room : Room) (forProductStates forProductArcs forStates forArcs work : ℕ)
+    → Joinable a b pairs room forProductStates forProductArcs forStates forArcs work → Multipliable a b forProductStates forProductArcs work
+product-ready a b pairs room forProductStates forProductArcs forStates forArcs work x = record {
   first = x .first;
   second = x .second;
   tapes-fit = x .narrow;
-  work-fits = omega (arith, x .work-fits);
+  work-fits = x .work-fits;
 }
 
 module _ (a b : Memory) (pairs : PairList) (p s : Slices) where
@@ -84,11 +83,11 @@ module _ (a b : Memory) (pairs : PairList) (p s : Slices) where
       ∙ sym (join-product-given (tableOf a) (tableOf b) (pairsAs pairs) p s (countsAs c) (ap (λ (o : Made). o .answer) (sym e)))
 
   -- what stands there is a table that can be kept on the moved pairs
-  pub product-keepable : (work size : ℕ) → Joinable a b pairs (length (p .states)) (length (p .arcs)) (length (s .states)) (length (s .arcs)) work → size ≡ work
+  pub product-keepable : (room : Room) (work size : ℕ) → Joinable a b pairs room (length (p .states)) (length (p .arcs)) (length (s .states)) (length (s .arcs)) work → size ≡ work
       → (t : TableAnswer) (c : Counts) (states arcs : List ℕ) (r : PairList) → t ≡ Table c → madeOf (tableAs t) states arcs ≡ product
-      → Moved (a .tapes) pairs r → length (r .pairs) ≡ 4 → Keepable (lent c states arcs) r (length (s .states)) (length (s .arcs)) size
-  unfolding productStep joinWork productWork buildWork
-  product-keepable work size x long t₀ c states arcs r q e v four =
+      → Moved (a .tapes) pairs r → length (r .pairs) ≡ 4 → Keepable (lent c states arcs) r room (length (s .states)) (length (s .arcs)) size
+  unfolding productStep
+  product-keepable room work size x long t₀ c states arcs r q e v four =
       let t = made-table (crossProduct ℕ-sum weightFits (spaceOf p) (tableOf a) (tableOf b)) p (countsAs c) states arcs (told t₀ c states arcs product q e) in
       let n = sound-holds a (x .first) .tapes in
       let m = sound-holds b (x .second) .tapes in
@@ -106,7 +105,13 @@ module _ (a b : Memory) (pairs : PairList) (p s : Slices) where
           named = subst (λ (k : ℕ). Named k r) same (v .tapes-named (b .tapes) (x .sided));
           four = four;
           limits-fit = ap limitsFit (v .pairs) ∙ limits-placed (λ j. a .tapes + j) (pairsAs pairs) ∙ x .limits-fit;
-          work-fits = omega (arith, x .work-fits, made .states, t .states, long);
+          divides = record {
+            state-cap = x .divides .state-cap;
+            arc-cap = x .divides .arc-cap;
+            configs-fit = x .divides .configs-fit;
+            edges-fit = x .divides .edges-fit;
+            delays-fit = omega (arith, x .divides .delays-fit, made .states, t .states, long);
+          };
         };
         left = subst (λ (k : ℕ). 1 ≤ placeAfter (seconds (tapesOf (pairsAs r))) k) same
             (subst (λ (qs : List Pair). 1 ≤ placeAfter (seconds qs) (a .tapes + b .tapes)) (sym (ap tapesOf (v .pairs) ∙ tapes-behind (a .tapes) (pairsAs pairs))) left);

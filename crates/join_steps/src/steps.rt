@@ -1,6 +1,8 @@
 // The steps of a join: the product, what agrees on the moved pairs, and the second tapes dropped. The first step that
 // refuses decides.
 use crate::keep::keep_firsts;
+use intersect_offers::plan::Plan;
+use intersect_room::room::Room;
 use pairs::moved_pairs;
 use product::call::product_step;
 use table::answer::Counts;
@@ -15,7 +17,8 @@ ghost use Rattle.table.specs.Answers.{lent, tableAs};
 ghost use Rattle.table.specs.Pairs.{pairsAs};
 ghost use Rattle.join_steps.specs.Steps.{Joinable};
 
-// All steps, the product into its space and the result into `out_states` and `out_arcs`.
+// All steps, the product into its space and the result into `out_states` and `out_arcs`. The room is that of the build,
+// in the whole work space, which the product leaves free.
 pub fn join_steps(
     first: Counts,
     first_states: &[u8],
@@ -24,14 +27,21 @@ pub fn join_steps(
     second_states: &[u8],
     second_arcs: &[u8],
     pairs: PairList,
+    room: Room,
     product_states: &mut [u8],
     product_arcs: &mut [u8],
     out_states: &mut [u8],
     out_arcs: &mut [u8],
     work: &mut [u8],
 ) -> TableAnswer
-    requires { ⌜ Joinable (lent first (now «first_states») (now «first_arcs»)) (lent second (now «second_states») (now «second_arcs»)) pairs (length (now «product_states»)) (length (now «product_arcs»)) (length (now «out_states»)) (length (now «out_arcs»)) (length (now work)) ⌝ }
-    ensures { λ r. ⌜ madeOf (tableAs r) (now («out_states» .exit)) (now («out_arcs» .exit)) ≡ joinByCalls (tableOf (lent first (now («first_states» .entry)) (now («first_arcs» .entry)))) (tableOf (lent second (now («second_states» .entry)) (now («second_arcs» .entry)))) (pairsAs pairs) (slicesOf (now («product_states» .entry)) (now («product_arcs» .entry))) (slicesOf (now («out_states» .entry)) (now («out_arcs» .entry))) ⌝ }
+    requires { ⌜ Joinable (lent first (now «first_states») (now «first_arcs»))
+        (lent second (now «second_states») (now «second_arcs»)) pairs room (length (now «product_states»))
+        (length (now «product_arcs»)) (length (now «out_states»)) (length (now «out_arcs»)) (length (now work)) ⌝ }
+    ensures { λ r. ⌜ madeOf (tableAs r) (now («out_states» .exit)) (now («out_arcs» .exit))
+        ≡ joinByCalls (tableOf (lent first (now («first_states» .entry)) (now («first_arcs» .entry))))
+        (tableOf (lent second (now («second_states» .entry)) (now («second_arcs» .entry)))) (pairsAs pairs)
+        (slicesOf (now («product_states» .entry)) (now («product_arcs» .entry)))
+        (slicesOf (now («out_states» .entry)) (now («out_arcs» .entry))) ⌝ }
 {
     let answer = product_step(
         first,
@@ -48,11 +58,15 @@ pub fn join_steps(
         return answer;
     };
     let moved = moved_pairs(pairs, first.tapes);
+    let plan = Plan {
+        counts: product,
+        pairs: moved,
+        room,
+    };
     keep_firsts(
-        product,
+        plan,
         product_states,
         product_arcs,
-        moved,
         out_states,
         out_arcs,
         work,

@@ -56,8 +56,8 @@ module _ {W : Type 0} (A : Automaton W) where
       pub delays : (c : Config) → ReachedUnlimited c
           → EachPair ps (c .leftovers) (λ p l. (d : ℕ) → Tells p d → (length (l .first) ≤ d) × (length (l .second) ≤ d))
 
--- What the call `forecast` told of a table in memory and pairs of its tapes: a forecast for each pair, in list order, of
--- which 2.1 holds whatever limits a build then has.
+-- What the call `forecast` told of a table in memory and pairs of its tapes: a forecast for each pair, in list order,
+-- of which 2.1 holds whatever limits a build then has.
 pub record ForecastsTold (m : Memory) (ps : List Pair) (fs : List Forecast) : Type 0 where
   pub judged : Sound m
   pub are : fs ≡ map (forecastOf (tableOf m)) ps

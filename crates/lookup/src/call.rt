@@ -47,7 +47,8 @@ fn answer_of(found: Weight64) -> WeightAnswer
 
 // The answer of the call, with whatever is left in work space.
 fn find(counts: Counts, states: &[u8], arcs: &[u8], tuple: &[u8], work: &mut [u8]) -> WeightAnswer
-    ensures { λ r. ⌜ weightAs r ≡ lookupAnswer (lent counts (now (states .entry)) (now (arcs .entry))) (now (tuple .entry)) (now (work .entry)) ⌝ }
+    ensures { λ r. ⌜ weightAs r ≡ lookupAnswer (lent counts (now (states .entry)) (now (arcs .entry)))
+        (now (tuple .entry)) (now (work .entry)) ⌝ }
 {
     let parsed = judge_call(counts, states, arcs, tuple);
     let judged = parsed.judged;
@@ -70,7 +71,8 @@ pub fn lookup(
     tuple: &[u8],
     work: &mut [u8],
 ) -> WeightAnswer
-    ensures { λ r. ⌜ foundOf (weightAs r) (now (work .exit)) ≡ lookupOutcome (lent counts (now (states .entry)) (now (arcs .entry))) (now (tuple .entry)) (now (work .entry)) ⌝ }
+    ensures { λ r. ⌜ foundOf (weightAs r) (now (work .exit)) ≡ lookupOutcome
+        (lent counts (now (states .entry)) (now (arcs .entry))) (now (tuple .entry)) (now (work .entry)) ⌝ }
 {
     let answer = find(counts, states, arcs, tuple, work);
     zero(work);

@@ -1,4 +1,5 @@
--- The cells of final states at the last combination of positions, and the least weight from the initial states at the first.
+-- The cells of final states at the last combination of positions, and the least weight from the initial states at the
+-- first.
 use mathlib.Core.Path.{_≡_}
 use mathlib.Core.List.{List}
 use Prim.Native.Nat.{ℕ, zero, suc, _+_, _-_, _*_, _≤_, _<_, min}

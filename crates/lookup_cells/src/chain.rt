@@ -19,8 +19,10 @@ pub fn no_chains() -> [u16; 9216]
 
 // An arc at the front of the chain of its target.
 fn chain_arc(arcs: &[u8], e: usize, index: &mut [u16])
-    requires { ⌜ (arcSize * e + arcSize ≤ length (now arcs)) × (e < 8192) × (targetOf (now arcs) e < 1024) × (length (now index) ≡ 9216) ⌝ }
-    ensures { λ _. ⌜ now (index .exit) ≡ set (set (now (index .entry)) (1024 + e) (getD (now (index .entry)) (targetOf (now (arcs .entry)) e) 0)) (targetOf (now (arcs .entry)) e) e ⌝ }
+    requires { ⌜ (arcSize * e + arcSize ≤ length (now arcs)) × (e < 8192) × (targetOf (now arcs) e < 1024)
+        × (length (now index) ≡ 9216) ⌝ }
+    ensures { λ _. ⌜ now (index .exit) ≡ set (set (now (index .entry)) (1024 + e)
+        (getD (now (index .entry)) (targetOf (now (arcs .entry)) e) 0)) (targetOf (now (arcs .entry)) e) e ⌝ }
 {
     let target = target_at(arcs, ARC_SIZE * e).0 as usize;
     index[1024 + e] = index[target];
@@ -29,7 +31,8 @@ fn chain_arc(arcs: &[u8], e: usize, index: &mut [u16])
 
 // All arcs, from the last to the first, so that each chain has them in their order.
 pub fn chain_arcs(counts: Counts, arcs: &[u8], index: &mut [u16])
-    requires { ⌜ (arcSize * counts .arcs ≤ length (now arcs)) × (counts .arcs ≤ 8192) × ((e : _) → e < counts .arcs → targetOf (now arcs) e < 1024) × (now index ≡ replicate 9216 65535) ⌝ }
+    requires { ⌜ (arcSize * counts .arcs ≤ length (now arcs)) × (counts .arcs ≤ 8192)
+        × ((e : _) → e < counts .arcs → targetOf (now arcs) e < 1024) × (now index ≡ replicate 9216 65535) ⌝ }
     ensures { λ _. ⌜ Chained (targetOf (now (arcs .entry))) (counts .arcs) (now (index .exit)) ⌝ }
 {
     let mut left = counts.arcs;

@@ -1,4 +1,5 @@
-// The cells of final states at the last combination of positions, and the least weight from the initial states at the first.
+// The cells of final states at the last combination of positions, and the least weight from the initial states at the
+// first.
 use crate::answer::Weight64;
 use lookup_moves::cell::FAR;
 use lookup_moves::cell::cell_number;
@@ -17,7 +18,8 @@ ghost use Rattle.automata.specs.Layout.{stateSize};
 
 // The final weight of a state, where it has one, in its cell at the last combination.
 fn start_state(states: &[u8], q: usize, all: usize, work: &mut [u8])
-    requires { ⌜ (stateSize * q + stateSize ≤ length (now states)) × (0 < all) × (8 * (q * all + all) ≤ length (now work)) ⌝ }
+    requires { ⌜ (stateSize * q + stateSize ≤ length (now states)) × (0 < all)
+        × (8 * (q * all + all) ≤ length (now work)) ⌝ }
     ensures { λ _. ⌜ Starts (now (states .entry)) all q (now (work .exit)) (now (work .entry)) ⌝ }
 {
     let state = load_state(states, STATE_SIZE * q);
@@ -45,7 +47,8 @@ pub fn start_states(states: &[u8], count: usize, all: usize, work: &mut [u8])
 
 // The initial weight of a state and the weight in its cell at the first combination, or the number for "none".
 pub fn from_state(states: &[u8], q: usize, all: usize, work: &[u8]) -> u64
-    requires { ⌜ (stateSize * q + stateSize ≤ length (now states)) × (0 < all) × (8 * (q * all + all) ≤ length (now work)) × (getD (cellsOf (now work)) (q * all + 0) 0 ≤ far) ⌝ }
+    requires { ⌜ (stateSize * q + stateSize ≤ length (now states)) × (0 < all)
+        × (8 * (q * all + all) ≤ length (now work)) × (getD (cellsOf (now work)) (q * all + 0) 0 ≤ far) ⌝ }
     ensures { λ r. ⌜ r ≡ fromState (now (states .entry)) all (cellsOf (now (work .entry))) q ⌝ }
 {
     let state = load_state(states, STATE_SIZE * q);

@@ -43,8 +43,11 @@ fn fill(
     queue: &mut [u16],
     work: &mut [u8],
 )
-    requires { ⌜ Fillable (lent counts (now states) (now arcs)) (now text) strings (length (now work)) × Marking counts (now arcs) (now index) (now queue) × Numbered (counts .tapes) (counts .arcs) (now arcs) (now numbers) × Fresh 18446744073709551615 (now memo) ⌝ }
-    ensures { λ _. ⌜ CellsFilled (lent counts (now (states .entry)) (now (arcs .entry))) (now (text .entry)) strings (now (work .exit)) ⌝ }
+    requires { ⌜ Fillable (lent counts (now states) (now arcs)) (now text) strings (length (now work))
+        × Marking counts (now arcs) (now index) (now queue)
+        × Numbered (counts .tapes) (counts .arcs) (now arcs) (now numbers) × Fresh 18446744073709551615 (now memo) ⌝ }
+    ensures { λ _. ⌜ CellsFilled (lent counts (now (states .entry)) (now (arcs .entry))) (now (text .entry)) strings
+        (now (work .exit)) ⌝ }
 {
     let spans = spans_of(strings);
     clear_cells(work);
@@ -67,7 +70,8 @@ pub fn fill_cells(
     work: &mut [u8],
 )
     requires { ⌜ Fillable (lent counts (now states) (now arcs)) (now text) strings (length (now work)) ⌝ }
-    ensures { λ _. ⌜ CellsFilled (lent counts (now (states .entry)) (now (arcs .entry))) (now (text .entry)) strings (now (work .exit)) ⌝ }
+    ensures { λ _. ⌜ CellsFilled (lent counts (now (states .entry)) (now (arcs .entry))) (now (text .entry)) strings
+        (now (work .exit)) ⌝ }
 {
     let mut index = no_chains();
     chain_arcs(counts, arcs, &mut index);
@@ -99,7 +103,8 @@ pub fn least_weight(
     work: &mut [u8],
 ) -> Weight64
     requires { ⌜ Fillable (lent counts (now states) (now arcs)) (now text) strings (length (now work)) ⌝ }
-    ensures { λ r. ⌜ ((t : Tuple) → Stands (now (text .entry)) t strings → length t ≡ counts .tapes → optionAs r ≡ lookup ℕ-sum (tableOf (lent counts (now (states .entry)) (now (arcs .entry)))) t) ⌝ }
+    ensures { λ r. ⌜ ((t : Tuple) → Stands (now (text .entry)) t strings → length t ≡ counts .tapes → optionAs r
+        ≡ lookup ℕ-sum (tableOf (lent counts (now (states .entry)) (now (arcs .entry)))) t) ⌝ }
 {
     fill_cells(counts, states, arcs, text, strings, work);
     let spans = spans_of(strings);

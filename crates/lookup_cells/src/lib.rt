@@ -1,4 +1,5 @@
-// The least weight of a tuple, by shortest distances on cells: one for each state and combination of positions in the strings.
+// The least weight of a tuple, by shortest distances on cells: one for each state and combination of positions in the
+// strings.
 pub mod answer;
 pub mod chain;
 pub mod ends;

@@ -37,8 +37,15 @@ fn visit_arc(
     memo: &mut [usize],
     work: &mut [u8],
 ) -> bool
-    requires { ⌜ (e < counts .arcs) × Ready counts (now arcs) (now text) (spotWith (now starts) (now positions) (now spans) number all) × Spaced (counts .states) (spotWith (now starts) (now positions) (now spans) number all) (now work) × Knows counts (now arcs) (now text) (now starts) (now positions) (now spans) number (now numbers) (now memo) ⌝ }
-    ensures { λ r. ⌜ Visits (counts .tapes) e (now (arcs .entry)) (now (text .entry)) (spotWith (now (starts .entry)) (now (positions .entry)) (now (spans .entry)) number all) r (now (work .exit)) (now (work .entry)) × Knows counts (now (arcs .entry)) (now (text .entry)) (now (starts .entry)) (now (positions .entry)) (now (spans .entry)) number (now (numbers .entry)) (now (memo .exit)) ⌝ }
+    requires { ⌜ (e < counts .arcs) × Ready counts (now arcs) (now text)
+        (spotWith (now starts) (now positions) (now spans) number all)
+        × Spaced (counts .states) (spotWith (now starts) (now positions) (now spans) number all) (now work)
+        × Knows counts (now arcs) (now text) (now starts) (now positions) (now spans) number (now numbers)
+        (now memo) ⌝ }
+    ensures { λ r. ⌜ Visits (counts .tapes) e (now (arcs .entry)) (now (text .entry))
+        (spotWith (now (starts .entry)) (now (positions .entry)) (now (spans .entry)) number all) r (now (work .exit))
+        (now (work .entry)) × Knows counts (now (arcs .entry)) (now (text .entry)) (now (starts .entry))
+        (now (positions .entry)) (now (spans .entry)) number (now (numbers .entry)) (now (memo .exit)) ⌝ }
 {
     let at = ARC_SIZE * e;
     let by = recall(
@@ -82,8 +89,16 @@ fn push_arc(
     queue: &mut [u16],
     work: &mut [u8],
 )
-    requires { ⌜ (e < counts .arcs) × Ready counts (now arcs) (now text) (spotWith (now starts) (now positions) (now spans) number all) × Spaced (counts .states) (spotWith (now starts) (now positions) (now spans) number all) (now work) × Queue (now queue) × Knows counts (now arcs) (now text) (now starts) (now positions) (now spans) number (now numbers) (now memo) ⌝ }
-    ensures { λ _. ⌜ Pushes counts (now (arcs .entry)) (now (text .entry)) (spotWith (now (starts .entry)) (now (positions .entry)) (now (spans .entry)) number all) e (now (work .exit)) (now (work .entry)) (now (queue .exit)) (now (queue .entry)) × Knows counts (now (arcs .entry)) (now (text .entry)) (now (starts .entry)) (now (positions .entry)) (now (spans .entry)) number (now (numbers .entry)) (now (memo .exit)) ⌝ }
+    requires { ⌜ (e < counts .arcs) × Ready counts (now arcs) (now text)
+        (spotWith (now starts) (now positions) (now spans) number all)
+        × Spaced (counts .states) (spotWith (now starts) (now positions) (now spans) number all) (now work)
+        × Queue (now queue) × Knows counts (now arcs) (now text) (now starts) (now positions) (now spans) number
+        (now numbers) (now memo) ⌝ }
+    ensures { λ _. ⌜ Pushes counts (now (arcs .entry)) (now (text .entry))
+        (spotWith (now (starts .entry)) (now (positions .entry)) (now (spans .entry)) number all) e (now (work .exit))
+        (now (work .entry)) (now (queue .exit)) (now (queue .entry))
+        × Knows counts (now (arcs .entry)) (now (text .entry)) (now (starts .entry)) (now (positions .entry))
+        (now (spans .entry)) number (now (numbers .entry)) (now (memo .exit)) ⌝ }
 {
     let near = visit_arc(
         counts,
@@ -123,8 +138,17 @@ fn push_state(
     queue: &mut [u16],
     work: &mut [u8],
 )
-    requires { ⌜ (state < 1024) × Ready counts (now arcs) (now text) (spotWith (now starts) (now positions) (now spans) number all) × Spaced (counts .states) (spotWith (now starts) (now positions) (now spans) number all) (now work) × Marking counts (now arcs) (now index) (now queue) × Knows counts (now arcs) (now text) (now starts) (now positions) (now spans) number (now numbers) (now memo) ⌝ }
-    ensures { λ _. ⌜ PushesAll counts (now (arcs .entry)) (now (text .entry)) (spotWith (now (starts .entry)) (now (positions .entry)) (now (spans .entry)) number all) state (now (work .exit)) (now (work .entry)) (now (queue .exit)) (now (queue .entry)) × Knows counts (now (arcs .entry)) (now (text .entry)) (now (starts .entry)) (now (positions .entry)) (now (spans .entry)) number (now (numbers .entry)) (now (memo .exit)) ⌝ }
+    requires { ⌜ (state < 1024) × Ready counts (now arcs) (now text)
+        (spotWith (now starts) (now positions) (now spans) number all)
+        × Spaced (counts .states) (spotWith (now starts) (now positions) (now spans) number all) (now work)
+        × Marking counts (now arcs) (now index) (now queue)
+        × Knows counts (now arcs) (now text) (now starts) (now positions) (now spans) number (now numbers)
+        (now memo) ⌝ }
+    ensures { λ _. ⌜ PushesAll counts (now (arcs .entry)) (now (text .entry))
+        (spotWith (now (starts .entry)) (now (positions .entry)) (now (spans .entry)) number all) state
+        (now (work .exit)) (now (work .entry)) (now (queue .exit)) (now (queue .entry))
+        × Knows counts (now (arcs .entry)) (now (text .entry)) (now (starts .entry)) (now (positions .entry))
+        (now (spans .entry)) number (now (numbers .entry)) (now (memo .exit)) ⌝ }
 {
     let mut e = entry(index[state]);
     while e < counts.arcs {
@@ -180,8 +204,17 @@ fn push_waiting(
     queue: &mut [u16],
     work: &mut [u8],
 )
-    requires { ⌜ Ready counts (now arcs) (now text) (spotWith (now starts) (now positions) (now spans) number all) × Spaced (counts .states) (spotWith (now starts) (now positions) (now spans) number all) (now work) × Marking counts (now arcs) (now index) (now queue) × AllDone counts (now arcs) (now text) (spotWith (now starts) (now positions) (now spans) number all) (now queue) (now work) × Knows counts (now arcs) (now text) (now starts) (now positions) (now spans) number (now numbers) (now memo) ⌝ }
-    ensures { λ _. ⌜ Settles counts (now (arcs .entry)) (now (text .entry)) (spotWith (now (starts .entry)) (now (positions .entry)) (now (spans .entry)) number all) (now (work .exit)) (now (work .entry)) × Queue (now (queue .exit)) × Knows counts (now (arcs .entry)) (now (text .entry)) (now (starts .entry)) (now (positions .entry)) (now (spans .entry)) number (now (numbers .entry)) (now (memo .exit)) ⌝ }
+    requires { ⌜ Ready counts (now arcs) (now text) (spotWith (now starts) (now positions) (now spans) number all)
+        × Spaced (counts .states) (spotWith (now starts) (now positions) (now spans) number all) (now work)
+        × Marking counts (now arcs) (now index) (now queue)
+        × AllDone counts (now arcs) (now text) (spotWith (now starts) (now positions) (now spans) number all)
+        (now queue) (now work) × Knows counts (now arcs) (now text) (now starts) (now positions) (now spans) number
+        (now numbers) (now memo) ⌝ }
+    ensures { λ _. ⌜ Settles counts (now (arcs .entry)) (now (text .entry))
+        (spotWith (now (starts .entry)) (now (positions .entry)) (now (spans .entry)) number all) (now (work .exit))
+        (now (work .entry)) × Queue (now (queue .exit))
+        × Knows counts (now (arcs .entry)) (now (text .entry)) (now (starts .entry)) (now (positions .entry))
+        (now (spans .entry)) number (now (numbers .entry)) (now (memo .exit)) ⌝ }
 {
     loop {
         if queue[2049] == 0 {
@@ -219,8 +252,11 @@ pub fn settle(
     queue: &mut [u16],
     work: &mut [u8],
 )
-    requires { ⌜ Ready counts (now arcs) (now text) spot × Spaced (counts .states) spot (now work) × Marking counts (now arcs) (now index) (now queue) × Numbered (counts .tapes) (counts .arcs) (now arcs) (now numbers) × Fresh (spot .number + 1) (now memo) ⌝ }
-    ensures { λ _. ⌜ Settles counts (now (arcs .entry)) (now (text .entry)) spot (now (work .exit)) (now (work .entry)) × Queue (now (queue .exit)) × Fresh (spot .number) (now (memo .exit)) ⌝ }
+    requires { ⌜ Ready counts (now arcs) (now text) spot × Spaced (counts .states) spot (now work)
+        × Marking counts (now arcs) (now index) (now queue)
+        × Numbered (counts .tapes) (counts .arcs) (now arcs) (now numbers) × Fresh (spot .number + 1) (now memo) ⌝ }
+    ensures { λ _. ⌜ Settles counts (now (arcs .entry)) (now (text .entry)) spot (now (work .exit)) (now (work .entry))
+        × Queue (now (queue .exit)) × Fresh (spot .number) (now (memo .exit)) ⌝ }
 {
     enqueue_reached(counts.states, spot, work, queue);
     let starts = spot.starts;

@@ -31,8 +31,10 @@ fn lead_back(
     positions: &[usize],
     spans: &[usize],
 ) -> usize
-    requires { ⌜ Labelled (now arcs) (arcSize * e + labelsPlace) × Laid (counts .tapes) (length (now text)) (spotWith (now starts) (now positions) (now spans) 0 0) ⌝ }
-    ensures { λ r. ⌜ r ≡ backNumber (backAt (counts .tapes) (now (arcs .entry)) (now (text .entry)) (now (starts .entry)) (now (positions .entry)) (now (spans .entry)) e) ⌝ }
+    requires { ⌜ Labelled (now arcs) (arcSize * e + labelsPlace)
+        × Laid (counts .tapes) (length (now text)) (spotWith (now starts) (now positions) (now spans) 0 0) ⌝ }
+    ensures { λ r. ⌜ r ≡ backNumber (backAt (counts .tapes) (now (arcs .entry)) (now (text .entry))
+        (now (starts .entry)) (now (positions .entry)) (now (spans .entry)) e) ⌝ }
 {
     let step = moved_back(
         arcs,
@@ -62,8 +64,15 @@ pub fn recall(
     numbers: &[u16],
     memo: &mut [usize],
 ) -> usize
-    requires { ⌜ (e < counts .arcs) × (counts .arcs ≤ 8192) × ((f : _) → f < counts .arcs → Labelled (now arcs) (arcSize * f + labelsPlace)) × Laid (counts .tapes) (length (now text)) (spotWith (now starts) (now positions) (now spans) 0 0) × Knows counts (now arcs) (now text) (now starts) (now positions) (now spans) number (now numbers) (now memo) ⌝ }
-    ensures { λ r. ⌜ (r ≡ backNumber (backAt (counts .tapes) (now (arcs .entry)) (now (text .entry)) (now (starts .entry)) (now (positions .entry)) (now (spans .entry)) e)) × Knows counts (now (arcs .entry)) (now (text .entry)) (now (starts .entry)) (now (positions .entry)) (now (spans .entry)) number (now (numbers .entry)) (now (memo .exit)) ⌝ }
+    requires { ⌜ (e < counts .arcs) × (counts .arcs ≤ 8192)
+        × ((f : _) → f < counts .arcs → Labelled (now arcs) (arcSize * f + labelsPlace))
+        × Laid (counts .tapes) (length (now text)) (spotWith (now starts) (now positions) (now spans) 0 0)
+        × Knows counts (now arcs) (now text) (now starts) (now positions) (now spans) number (now numbers)
+        (now memo) ⌝ }
+    ensures { λ r. ⌜ (r ≡ backNumber (backAt (counts .tapes) (now (arcs .entry)) (now (text .entry))
+        (now (starts .entry)) (now (positions .entry)) (now (spans .entry)) e))
+        × Knows counts (now (arcs .entry)) (now (text .entry)) (now (starts .entry)) (now (positions .entry))
+        (now (spans .entry)) number (now (numbers .entry)) (now (memo .exit)) ⌝ }
 {
     let k = entry(numbers[e]);
     if 1024 <= k {

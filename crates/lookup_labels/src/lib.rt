@@ -67,7 +67,8 @@ fn same_words(arcs: &[u8], i: usize, j: usize, n: usize) -> bool
 // labels.
 fn number_of(arcs: &[u8], d: usize, e: usize, k: usize, words: usize) -> u16
     requires { ⌜ (arcSize * e + arcSize ≤ length (now arcs)) × (k < 1024) × (words ≤ 9) ⌝ }
-    ensures { λ r. ⌜ (r < 1024 → (r ≡ k) × (d < e → wordsAt words (now (arcs .entry)) d ≡ wordsAt words (now (arcs .entry)) e)) ⌝ }
+    ensures { λ r. ⌜ (r < 1024 → (r ≡ k) × (d < e → wordsAt words (now (arcs .entry)) d
+        ≡ wordsAt words (now (arcs .entry)) e)) ⌝ }
 {
     if e <= d {
         return k as u16;
@@ -95,8 +96,10 @@ fn lesser(x: usize, y: usize) -> usize
 
 // Arc e, by the bucket of its labels; `owners` has for each number the first arc that has it.
 fn number_arc(arcs: &[u8], e: usize, words: usize, owners: &mut [u16], numbers: &mut [u16])
-    requires { ⌜ (arcSize * e + arcSize ≤ length (now arcs)) × (e < 8192) × (words ≤ 9) × (length (now owners) ≡ 1024) × (length (now numbers) ≡ 8192) ⌝ }
-    ensures { λ _. ⌜ Numbers (now (arcs .entry)) e words (now (owners .exit)) (now (owners .entry)) (now (numbers .exit)) (now (numbers .entry)) ⌝ }
+    requires { ⌜ (arcSize * e + arcSize ≤ length (now arcs)) × (e < 8192) × (words ≤ 9) × (length (now owners) ≡ 1024)
+        × (length (now numbers) ≡ 8192) ⌝ }
+    ensures { λ _. ⌜ Numbers (now (arcs .entry)) e words (now (owners .exit)) (now (owners .entry))
+        (now (numbers .exit)) (now (numbers .entry)) ⌝ }
 {
     let k = bucket_of(
         hash_words(arcs, ARC_SIZE * e + LABELS_PLACE, words, 0),
@@ -109,7 +112,8 @@ fn number_arc(arcs: &[u8], e: usize, words: usize, owners: &mut [u16], numbers: 
 
 // All arcs of a table, the first to the last.
 pub fn number_labels(counts: Counts, arcs: &[u8], numbers: &mut [u16])
-    requires { ⌜ (arcSize * counts .arcs ≤ length (now arcs)) × (counts .arcs ≤ 8192) × (counts .tapes ≤ 8) × (length (now numbers) ≡ 8192) ⌝ }
+    requires { ⌜ (arcSize * counts .arcs ≤ length (now arcs)) × (counts .arcs ≤ 8192) × (counts .tapes ≤ 8)
+        × (length (now numbers) ≡ 8192) ⌝ }
     ensures { λ _. ⌜ Numbered (counts .tapes) (counts .arcs) (now (arcs .entry)) (now (numbers .exit)) ⌝ }
 {
     let words = words_of(counts.tapes);

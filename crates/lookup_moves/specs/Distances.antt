@@ -1,4 +1,5 @@
--- The cells of a lookup in work space: a number of eight bytes each, the least weight found so far from a state and positions on.
+-- The cells of a lookup in work space: a number of eight bytes each, the least weight found so far from a state and
+-- positions on.
 use mathlib.Core.Path.{_≡_}
 use mathlib.Core.Bool.{Bool, true, false}
 use mathlib.Core.Option.{Option, none, some}
@@ -10,7 +11,8 @@ use Rattle.automata.specs.Lists.{if, total}
 use Rattle.table.specs.Region.{rows}
 use Rattle.table.specs.Endian.{le}
 
--- The number for "none": eight bytes of 16. It is above every weight, and a weight added to it is still a number of 64 bits.
+-- The number for "none": eight bytes of 16. It is above every weight, and a weight added to it is still a number of 64
+-- bits.
 abbrev pub far : ℕ
 far = 1157442765409226768
 
@@ -39,7 +41,8 @@ pub record Trend (changed : Bool) (ys xs : List ℕ) : Type 0 where
   pub still : changed ≡ false → ys ≡ xs
   pub less : changed ≡ true → sum ys < sum xs
 
--- the weight v was found for cell k, and the work space went from w to u; changed tells whether it is less than the one there
+-- the weight v was found for cell k, and the work space went from w to u; changed tells whether it is less than the one
+-- there
 pub record Lowers (k v : ℕ) (changed : Bool) (u w : List ℕ) : Type 0 where
   pub cells-are : cellsOf u ≡ lowered k v (cellsOf w)
   pub trend : Trend changed (cellsOf u) (cellsOf w)

@@ -30,7 +30,8 @@ pub fn weight_at(work: &[u8], k: usize) -> u64
 // The number `v` in a cell.
 pub fn set_number(work: &mut [u8], k: usize, v: u64)
     requires { ⌜ 8 * k + 8 ≤ length (now work) ⌝ }
-    ensures { λ _. ⌜ (cellsOf (now (work .exit)) ≡ set (cellsOf (now (work .entry))) k v) × (length (now (work .exit)) ≡ length (now (work .entry))) ⌝ }
+    ensures { λ _. ⌜ (cellsOf (now (work .exit)) ≡ set (cellsOf (now (work .entry))) k v)
+        × (length (now (work .exit)) ≡ length (now (work .entry))) ⌝ }
 {
     put64(work, 8 * k, v);
 }

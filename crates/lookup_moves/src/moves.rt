@@ -36,7 +36,8 @@ fn same_bytes(x: &[u8], i: usize, y: &[u8], j: usize, n: usize) -> bool
 // The label at a place of the arcs against the symbols of one string before a position, with so many combinations
 // behind it.
 fn move_tape(arcs: &[u8], at: usize, text: &[u8], start: usize, size: usize, span: usize) -> Step
-    requires { ⌜ (at + labelSize ≤ length (now arcs)) × (getD (now arcs) at 0 ≤ 8) × (size ≤ start) × (start ≤ length (now text)) × (span ≤ 318644812890625) ⌝ }
+    requires { ⌜ (at + labelSize ≤ length (now arcs)) × (getD (now arcs) at 0 ≤ 8) × (size ≤ start)
+        × (start ≤ length (now text)) × (span ≤ 318644812890625) ⌝ }
     ensures { λ r. ⌜ stepAs r ≡ tapeMove (now (arcs .entry)) at (now (text .entry)) start size span ⌝ }
 {
     let n = arcs[at] as usize;
@@ -59,8 +60,10 @@ pub fn moved_back(
     positions: &[usize],
     spans: &[usize],
 ) -> Step
-    requires { ⌜ Labelled (now arcs) at × Laid tapes (length (now text)) (spotWith (now starts) (now positions) (now spans) 0 0) ⌝ }
-    ensures { λ r. ⌜ stepAs r ≡ movesFrom tapes 0 at 0 (now (arcs .entry)) (now (text .entry)) (spotWith (now (starts .entry)) (now (positions .entry)) (now (spans .entry)) 0 0) ⌝ }
+    requires { ⌜ Labelled (now arcs) at × Laid tapes (length (now text))
+        (spotWith (now starts) (now positions) (now spans) 0 0) ⌝ }
+    ensures { λ r. ⌜ stepAs r ≡ movesFrom tapes 0 at 0 (now (arcs .entry)) (now (text .entry))
+        (spotWith (now (starts .entry)) (now (positions .entry)) (now (spans .entry)) 0 0) ⌝ }
 {
     let mut total: usize = 0;
     let mut from = at;

@@ -1,4 +1,5 @@
--- Facts of the lines of a text: a byte of a line, its end, and what a line is to the number and the tests of all strings.
+-- Facts of the lines of a text: a byte of a line, its end, and what a line is to the number and the tests of all
+-- strings.
 use mathlib.Core.Path.{_≡_, refl, sym, ap, ap₂, _∙_}
 use mathlib.Core.Logic.{_⊎_, inl, inr}
 use mathlib.Core.Bool.{Bool, true, false}

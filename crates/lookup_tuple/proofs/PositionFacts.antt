@@ -1,4 +1,5 @@
--- Facts of the combinations of positions in the strings of a tuple: as products of two, four and eight, and by the strings' places.
+-- Facts of the combinations of positions in the strings of a tuple: as products of two, four and eight, and by the
+-- strings' places.
 use mathlib.Core.Path.{_≡_, refl, sym, ap, ap₂, _∙_}
 use mathlib.Core.List.{List, [], _∷_}
 use Prim.Native.Nat.{ℕ, suc, _+_, _*_, _≤_, _<_}

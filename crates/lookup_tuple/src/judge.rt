@@ -17,8 +17,8 @@ pub struct TupleJudged {
     pub strings: Strings,
 }
 
-// The first refusal: text after the last byte 10 (1), another number of strings than of tapes (5), a string that is too long (3), a byte that
-// is no symbol (2).
+// The first refusal: text after the last byte 10 (1), another number of strings than of tapes (5), a string that is too
+// long (3), a byte that is no symbol (2).
 fn judge_text(text: &[u8], tapes: usize) -> Judged
     ensures { λ r. ⌜ judgedAs r ≡ tupleAnswer (now (text .entry)) tapes ⌝ }
 {

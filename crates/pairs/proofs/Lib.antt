@@ -2,5 +2,6 @@
 pub mod ListFacts
 pub mod PairFacts
 pub mod TestFacts
+pub mod DecideFacts
 pub mod CallFacts
 pub mod TurnFacts

@@ -6,18 +6,17 @@ use mathlib.Core.List.{List, [], _∷_, map}
 use native.Mathlib.Omega.{arith}
 use lib.Dec.{leb}
 use lib.ListN.{length, getD, take, drop}
-use borrow.Author.Tests.{leb-true, lt-ltb, le-leb, lt-leb}
+use borrow.Author.Tests.{leb-true, lt-ltb}
 use Rattle.automata.specs.Lists.{and}
-use Rattle.automata.specs.TapePair.{Pair, TapePair, tapesOf, behind, limitsFit}
+use Rattle.automata.specs.TapePair.{Pair, TapePair, tapesOf, behind}
 use Rattle.automata.specs.Projection.{isTape}
 use Rattle.automata.specs.Join.{within}
 use Rattle.automata.proofs.TestFacts.{and-true}
-use Rattle.automata.specs.Limits.{maxDelay}
 use Rattle.table.specs.declared.pair.Pair as memory
 use Rattle.table.specs.declared.pair.PairList.{PairList}
 use Rattle.table.specs.Pairs.{pairAs, tapesAs, pairsAs, noPair, Within, Named}
 use Rattle.pairs.specs.PairBytes.{pairsOf, pairAt}
-use Rattle.pairs.specs.Judgement.{Between, Sided, Movable, Moved, movedAt}
+use Rattle.pairs.specs.Judgement.{Between, Sided, FirstFour, Movable, Moved, movedAt}
 
 -- ---- the pairs of a list of bytes
 -- a third as many as there are bytes
@@ -78,20 +77,6 @@ module _ (n m : ℕ) (bs : List ℕ) (at : ℕ) where
         → within n m (tapesOf (pairsOf (drop (at + 3) bs))) ≡ within n m (tapesOf (pairsOf (drop at bs)))
     within-next e f = sym (here ∙ rw (e, f))
 
-module _ (bs : List ℕ) (at : ℕ) where
-  pub fit-end : length bs - at < 3 → limitsFit (pairsOf (drop at bs)) ≡ true
-  fit-end h = ap limitsFit (pairs-end bs at (omega arith))
-
-  module _ (h : 3 ≤ length bs - at) where
-    limit-here : limitsFit (pairsOf (drop at bs)) ≡ and (leb (getD bs (at + 2) 0) maxDelay) (limitsFit (pairsOf (drop (at + 3) bs)))
-    limit-here = ap limitsFit (pairs-next bs at (omega arith))
-
-    pub fit-not : maxDelay < getD bs (at + 2) 0 → limitsFit (pairsOf (drop at bs)) ≡ false
-    fit-not l = limit-here ∙ rw (lt-leb (getD bs (at + 2) 0) maxDelay l)
-
-    pub fit-next : getD bs (at + 2) 0 ≤ maxDelay → limitsFit (pairsOf (drop (at + 3) bs)) ≡ limitsFit (pairsOf (drop at bs))
-    fit-next l = sym (limit-here ∙ rw (le-leb (getD bs (at + 2) 0) maxDelay l))
-
 -- ---- at most four pairs by value
 -- read from the bytes
 read-from : (n : ℕ) (bs : List ℕ) (at : ℕ) (l : List memory.Pair) → at + 3 * n ≤ length bs → length bs < at + 3 * n + 3 → n ≤ length l
@@ -105,32 +90,38 @@ read-from (suc n) bs at (p ∷ l) h t m e =
     (λ k j. e (suc k) (omega arith) ∙ (let z : at + 3 * suc k ≡ at + 3 + 3 * k = omega arith in ap (pairAt bs) z)))
     ∙ sym (pairs-next bs at (omega arith))
 
-pub read-list : (bs : List ℕ) (a b c d : memory.Pair) → length bs / 3 ≤ 4 → a ≡ pairAt bs 0 → b ≡ pairAt bs 3 → c ≡ pairAt bs 6 → d ≡ pairAt bs 9
-    → map pairAs (take (length bs / 3) (a ∷ b ∷ c ∷ d ∷ [])) ≡ pairsOf bs
-read-list bs a b c d h ea eb ec ed = read-from (length bs / 3) bs 0 (a ∷ b ∷ c ∷ d ∷ []) (omega arith) (omega arith) (omega arith) each
+-- the first four of the list, and how many it has
+pub read-list : (bs : List ℕ) (a b c d : memory.Pair) → a ≡ pairAt bs 0 → b ≡ pairAt bs 3 → c ≡ pairAt bs 6 → d ≡ pairAt bs 9
+    → FirstFour (pairsOf bs) (record { pairs = a ∷ b ∷ c ∷ d ∷ []; used = length bs / 3 })
+read-list bs a b c d ea eb ec ed =
+    let n = pairs-count bs in
+    record {
+      many = sym n;
+      all-read = λ h. read-from (length bs / 3) bs 0 (a ∷ b ∷ c ∷ d ∷ []) (omega arith) (omega arith) (omega (arith, h, n)) (each (omega (arith, h, n)));
+    }
   where
-    each : (k : ℕ) → k < length bs / 3 → getD (a ∷ b ∷ c ∷ d ∷ []) k noPair ≡ pairAt bs (0 + 3 * k)
-    each zero j = ea
-    each (suc zero) j = eb
-    each (suc (suc zero)) j = ec
-    each (suc (suc (suc zero))) j = ed
-    each (suc (suc (suc (suc k)))) j = absurd (omega arith)
+    each : length bs / 3 ≤ 4 → (k : ℕ) → k < length bs / 3 → getD (a ∷ b ∷ c ∷ d ∷ []) k noPair ≡ pairAt bs (0 + 3 * k)
+    each h zero j = ea
+    each h (suc zero) j = eb
+    each h (suc (suc zero)) j = ec
+    each h (suc (suc (suc zero))) j = ed
+    each h (suc (suc (suc (suc k)))) j = absurd (omega arith)
 
--- a column of the pairs that are used: g is the first or the second tape
-pub column : (g : Pair → ℕ) (u : ℕ) (l : List memory.Pair) → length l ≡ 4
+-- one side of the pairs that are used: g is the first or the second tape
+pub side : (g : Pair → ℕ) (u : ℕ) (l : List memory.Pair) → length l ≡ 4
     → take u (g (tapesAs (getD l 0 noPair)) ∷ g (tapesAs (getD l 1 noPair)) ∷ g (tapesAs (getD l 2 noPair)) ∷ g (tapesAs (getD l 3 noPair)) ∷ [])
     ≡ map g (tapesOf (map pairAs (take u l)))
-column g u (a ∷ b ∷ c ∷ d ∷ []) h = go u (a ∷ b ∷ c ∷ d ∷ [])
+side g u (a ∷ b ∷ c ∷ d ∷ []) h = go u (a ∷ b ∷ c ∷ d ∷ [])
   where
     go : (u : ℕ) (l : List memory.Pair) → take u (map (λ p. g (tapesAs p)) l) ≡ map g (tapesOf (map pairAs (take u l)))
     go zero l = refl
     go (suc u) [] = refl
     go (suc u) (p ∷ l) = ap (λ (r : List ℕ). g (tapesAs p) ∷ r) (go u l)
-column g u [] h = absurd (omega arith)
-column g u (a ∷ []) h = absurd (omega arith)
-column g u (a ∷ b ∷ []) h = absurd (omega arith)
-column g u (a ∷ b ∷ c ∷ []) h = absurd (omega arith)
-column g u (a ∷ b ∷ c ∷ d ∷ e ∷ l) h = absurd (omega arith)
+side g u [] h = absurd (omega arith)
+side g u (a ∷ []) h = absurd (omega arith)
+side g u (a ∷ b ∷ []) h = absurd (omega arith)
+side g u (a ∷ b ∷ c ∷ []) h = absurd (omega arith)
+side g u (a ∷ b ∷ c ∷ d ∷ e ∷ l) h = absurd (omega arith)
 
 -- ---- the tapes that pairs by value name
 between : (n m : ℕ) (p : memory.Pair) → and (isTape n (p .first)) (isTape m (p .second)) ≡ true → Between n m p

@@ -1,12 +1,11 @@
 -- Facts of the tests 5, 6, 7 of a list of pairs, and the judgements that follow from them.
-use Prim.Native.Nat.{ℕ, _/_, _≤_, _<_}
+use Prim.Native.Nat.{ℕ, _≤_}
 use mathlib.Core.Path.{_≡_, refl, sym, ap, _∙_}
 use mathlib.Core.Bool.{Bool, true, false}
 use mathlib.Core.List.{List, [], _∷_, _++_, map}
 use native.Mathlib.Omega.{arith}
 use lib.Dec.{leb}
 use lib.ListN.{length}
-use borrow.Author.Tests.{le-leb, lt-leb, leb-true}
 use Rattle.automata.specs.Limits.{maxPairs}
 use Rattle.automata.specs.Lists.{and, all}
 use Rattle.automata.specs.Answer.{ok, refused}
@@ -14,7 +13,7 @@ use Rattle.automata.specs.TapePair.{Pair, TapePair, tapesOf, limitsFit}
 use Rattle.automata.specs.Projection.{isTape}
 use Rattle.automata.specs.IntersectCall.{distinct, named}
 use Rattle.automata.specs.Join.{within, separate}
-use Rattle.automata.proofs.TestFacts.{T-true, and-true}
+use Rattle.automata.proofs.TestFacts.{T-true}
 use Rattle.automata.proofs.AnswerFacts.{judge-ok}
 use Rattle.automata.proofs.PairFacts.{length-tapes}
 use Rattle.table.specs.declared.answer.Refusal.{Refusal}
@@ -24,10 +23,9 @@ use Rattle.table.specs.declared.answer.Judged.the-variants.{Fine, Refused}
 use Rattle.table.specs.Answers.{judgedAs, refusalNumber}
 use Rattle.table.specs.Pairs.{pairsAs}
 use Rattle.pairs.specs.declared.PairsJudged.{PairsJudged}
-use Rattle.pairs.specs.PairBytes.{pairsOf}
-use Rattle.pairs.specs.PairTests.{tests, pairsAnswer, joinPairsAnswer, tapesAnswer}
-use Rattle.pairs.specs.Judgement.{Sided, Settled, KeepJudged, JoinJudged, TapesJudged}
-use Rattle.pairs.proofs.PairFacts.{pairs-count, sided, named-sided}
+use Rattle.pairs.specs.PairTests.{tests, sidesOnce, pairsAnswer, joinPairsAnswer, tapesAnswer}
+use Rattle.pairs.specs.Judgement.{Sided, Decided, KeepJudged, JoinJudged, TapesJudged}
+use Rattle.pairs.proofs.PairFacts.{sided, named-sided}
 
 -- ---- both tapes of each pair are among n: the same as every tape that is named
 all-append : (p : ℕ → Bool) (xs ys : List ℕ) → all p (xs ++ ys) ≡ and (all p xs) (all p ys)
@@ -52,32 +50,18 @@ within-named n (p ∷ ps) =
     go true false true d = refl
     go true false false d = refl
 
--- ---- test 6, by the number of pairs
-module _ (bs : List ℕ) (once : Bool) where
-  pub many : 4 < length bs / 3 → and (leb (length (pairsOf bs)) maxPairs) once ≡ false
-  many h = let k = pairs-count bs in rw (lt-leb (length (pairsOf bs)) 4 (omega (arith, k)))
-
-  pub few : length bs / 3 ≤ 4 → and (leb (length (pairsOf bs)) maxPairs) once ≡ once
-  few h = let k = pairs-count bs in rw (le-leb (length (pairsOf bs)) 4 (omega (arith, k)))
-
-  pub once-few : (r : Bool) → r ≡ and (leb (length (pairsOf bs)) maxPairs) once → r ≡ true → length bs / 3 ≤ 4
-  once-few r e t =
-      let h = leb-true (length (pairsOf bs)) 4 (and-true (leb (length (pairsOf bs)) maxPairs) once (sym e ∙ t) .0) in
-      let k = pairs-count bs in
-      omega (arith, h, k)
-
 -- test 6 of a join, by the number of pairs
 pub separate-is : (ps : List TapePair)
-    → separate (tapesOf ps) ≡ and (leb (length ps) maxPairs) (and (distinct (map (λ p. p .first) (tapesOf ps))) (distinct (map (λ p. p .second) (tapesOf ps))))
+    → separate (tapesOf ps) ≡ and (leb (length ps) maxPairs) (sidesOnce (tapesOf ps))
 separate-is ps = rw (length-tapes ps)
 
--- ---- the tests settled
+-- ---- the tests decided
 refused-not-fine : {A : Type 0} (j : Judged) (why : Refusal) → j ≡ Refused why → j ≡ Fine → A
 refused-not-fine j why e f = let z : _≡_ {A = ℕ} 0 1 = cc in absurd (omega arith)
 
 module _ (ps : List TapePair) (inside once fit : Bool) (r : PairsJudged) where
-  settled-refused : (why : Refusal) → r .judged ≡ Refused why → tests inside once fit ≡ refused (refusalNumber why) → Settled ps inside once fit r
-  settled-refused why e t =
+  decided-refused : (why : Refusal) → r .judged ≡ Refused why → tests inside once fit ≡ refused (refusalNumber why) → Decided ps inside once fit r
+  decided-refused why e t =
       record {
         answer = ap judgedAs e ∙ sym t;
         pairs = λ f. refused-not-fine (r .judged) why e f;
@@ -86,18 +70,18 @@ module _ (ps : List TapePair) (inside once fit : Bool) (r : PairsJudged) where
         all-inside = λ f. refused-not-fine (r .judged) why e f;
       }
 
-  pub settled-tape : inside ≡ false → r .judged ≡ Refused Tape → Settled ps inside once fit r
-  settled-tape i e = settled-refused Tape e (rw i)
+  pub decided-tape : inside ≡ false → r .judged ≡ Refused Tape → Decided ps inside once fit r
+  decided-tape i e = decided-refused Tape e (rw i)
 
-  pub settled-pairs : inside ≡ true → once ≡ false → r .judged ≡ Refused Pairs → Settled ps inside once fit r
-  settled-pairs i o e = settled-refused Pairs e (rw (i, o))
+  pub decided-pairs : inside ≡ true → once ≡ false → r .judged ≡ Refused Pairs → Decided ps inside once fit r
+  decided-pairs i o e = decided-refused Pairs e (rw (i, o))
 
-  pub settled-limit : inside ≡ true → once ≡ true → fit ≡ false → r .judged ≡ Refused Limit → Settled ps inside once fit r
-  settled-limit i o l e = settled-refused Limit e (rw (i, o, l))
+  pub decided-limit : inside ≡ true → once ≡ true → fit ≡ false → r .judged ≡ Refused Limit → Decided ps inside once fit r
+  decided-limit i o l e = decided-refused Limit e (rw (i, o, l))
 
-  pub settled-fine : inside ≡ true → once ≡ true → fit ≡ true → r .judged ≡ Fine → pairsAs (r .pairs) ≡ ps → r .pairs .used ≤ 4 → length (r .pairs .pairs) ≡ 4
-      → Settled ps inside once fit r
-  settled-fine i o l e p u f =
+  pub decided-fine : inside ≡ true → once ≡ true → fit ≡ true → r .judged ≡ Fine → pairsAs (r .pairs) ≡ ps → r .pairs .used ≤ 4 → length (r .pairs .pairs) ≡ 4
+      → Decided ps inside once fit r
+  decided-fine i o l e p u f =
       record {
         answer = ap judgedAs e ∙ sym (rw (i, o, l) refl);
         pairs = λ g. p;
@@ -107,7 +91,7 @@ module _ (ps : List TapePair) (inside once fit : Bool) (r : PairsJudged) where
       }
 
 -- ---- the judgements
-module _ (ps : List TapePair) (inside once fit : Bool) (r : PairsJudged) (s : Settled ps inside once fit r) where
+module _ (ps : List TapePair) (inside once fit : Bool) (r : PairsJudged) (s : Decided ps inside once fit r) where
   tapes-sided : (n m : ℕ) → inside ≡ within n m (tapesOf ps) → r .judged ≡ Fine → Sided n m (r .pairs)
   tapes-sided n m i f = sided n m (r .pairs) (s .four f) (s .used-fit f) (ap (λ ps. within n m (tapesOf ps)) (s .pairs f) ∙ sym i ∙ s .all-inside f)
 

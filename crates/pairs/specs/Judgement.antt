@@ -8,6 +8,7 @@ use lib.Dec.{ltb}
 use Rattle.automata.specs.Lists.{if}
 use Rattle.automata.specs.Answer.{Answer}
 use Rattle.automata.specs.TapePair as automata
+use Rattle.automata.specs.Join.{within}
 use Rattle.table.specs.declared.answer.Judged.the-variants.{Fine}
 use Rattle.table.specs.declared.pair.Pair.{Pair}
 use Rattle.table.specs.declared.pair.PairList.{PairList}
@@ -28,8 +29,13 @@ pub record Sided (n m : ℕ) (ps : PairList) : Type 0 where
   pub used-fit : ps .used ≤ 4
   pub each : (h : ℕ) → h < ps .used → Between n m (getD (ps .pairs) h noPair)
 
--- The tests settled in their order, and where none fails the pairs by value.
-pub record Settled (ps : List automata.TapePair) (inside once fit : Bool) (r : PairsJudged) : Type 0 where
+-- The first four pairs of a list by value, and how many the list has; at most four are all of them.
+pub record FirstFour (ps : List automata.TapePair) (l : PairList) : Type 0 where
+  pub many : l .used ≡ length ps
+  pub all-read : length ps ≤ 4 → pairsAs l ≡ ps
+
+-- The tests decided in their order, and where none fails the pairs by value.
+pub record Decided (ps : List automata.TapePair) (inside once fit : Bool) (r : PairsJudged) : Type 0 where
   pub answer : judgedAs (r .judged) ≡ tests inside once fit
   pub pairs : r .judged ≡ Fine → pairsAs (r .pairs) ≡ ps
   pub used-fit : r .judged ≡ Fine → r .pairs .used ≤ 4
@@ -55,6 +61,23 @@ JoinJudged ps n m r = ListJudged pairsAs ps (joinPairsAnswer n m ps) (Sided n m)
 -- for a forecast of a table with so many tapes: the pairs of tapes, whatever their limits
 abbrev pub TapesJudged : List automata.Pair → ℕ → PairsJudged → Type 0
 TapesJudged ps tapes r = ListJudged (λ l. automata.tapesOf (pairsAs l)) ps (tapesAnswer tapes ps) (Named tapes) r
+
+-- The first four pairs of a list, with whether all of its pairs are within, decide what an auto-intersection asks of
+-- the whole list.
+abbrev pub DecidesKeep : PairList → Bool → PairsJudged → Type 0
+DecidesKeep list inside r =
+    (ps : List automata.TapePair) (tapes : ℕ) → FirstFour ps list → inside ≡ within tapes tapes (automata.tapesOf ps) → KeepJudged ps tapes r
+
+-- The same for a join.
+abbrev pub DecidesJoin : PairList → Bool → PairsJudged → Type 0
+DecidesJoin list inside r =
+    (ps : List automata.TapePair) (n m : ℕ) → FirstFour ps list → inside ≡ within n m (automata.tapesOf ps) → JoinJudged ps n m r
+
+-- The same for a forecast, which asks nothing of the limits.
+abbrev pub DecidesTapes : PairList → Bool → PairsJudged → Type 0
+DecidesTapes list inside r =
+    (ps : List automata.TapePair) (tapes : ℕ) → FirstFour ps list → inside ≡ within tapes tapes (automata.tapesOf ps)
+    → TapesJudged (automata.tapesOf ps) tapes r
 
 -- pairs were judged for an auto-intersection of a table with so many tapes
 pub record Listed (tapes : ℕ) (listed : PairsJudged) : Type 0 where

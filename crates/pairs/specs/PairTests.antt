@@ -1,7 +1,7 @@
 -- The tests of a list of pairs in document 01's order: 5 over the whole list, then 6, then 7.
 use Prim.Native.Nat.{ℕ}
 use mathlib.Core.Bool.{Bool, true}
-use mathlib.Core.List.{List}
+use mathlib.Core.List.{List, map}
 use lib.Dec.{leb}
 use lib.ListN.{length}
 use Rattle.automata.specs.Limits.{maxPairs}
@@ -17,14 +17,18 @@ use Rattle.automata.specs.Join.{within, separate}
 abbrev pub tests : Bool → Bool → Bool → Answer (Unit {0})
 tests inside once fit = judge inside Refusal.tape (judge once Refusal.pairs (judge fit Refusal.limit (ok tt)))
 
--- For the auto-intersection of a table: a tape that it lacks (5), more than four pairs or a tape named twice (6), a limit
--- above 64 (7).
+-- no tape stands twice on one side
+abbrev pub sidesOnce : List Pair → Bool
+sidesOnce ps = and (distinct (map (λ p. p .first) ps)) (distinct (map (λ p. p .second) ps))
+
+-- For the auto-intersection of a table: a tape that it lacks (5), more than four pairs or a tape named twice (6), a
+-- limit above 64 (7).
 unfoldable pub pairsAnswer : ℕ → List TapePair → Answer (Unit {0})
 pairsAnswer tapes ps =
     tests (all (isTape tapes) (named (tapesOf ps))) (and (leb (length ps) maxPairs) (distinct (named (tapesOf ps)))) (limitsFit ps)
 
--- For a join: a first tape that the first table lacks or a second tape that the second lacks (5), more than four pairs or
--- a tape twice on one side (6), a limit above 64 (7).
+-- For a join: a first tape that the first table lacks or a second tape that the second lacks (5), more than four pairs
+-- or a tape twice on one side (6), a limit above 64 (7).
 unfoldable pub joinPairsAnswer : ℕ → ℕ → List TapePair → Answer (Unit {0})
 joinPairsAnswer n m ps = tests (within n m (tapesOf ps)) (separate (tapesOf ps)) (limitsFit ps)
 

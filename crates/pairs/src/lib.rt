@@ -1,5 +1,5 @@
 // Lists of pairs of tapes as they are lent, three bytes a pair: judged over the whole list, and read into an array of
-// four by value.
+// four by value. The tests on pairs by value serve lists lent as records, too.
 use table::answer::Judged;
 use table::answer::Refusal;
 use table::bytes::copy_into;
@@ -10,21 +10,21 @@ use table::pair::PairList;
 ghost use mathlib.Core.Path.{_≡_};
 ghost use mathlib.Core.Bool.{true};
 ghost use mathlib.Core.List.{map};
-ghost use Prim.Native.Nat.{_+_, _/_, _≤_, _<_};
+ghost use Prim.Native.Nat.{_+_, _≤_, _<_};
 ghost use lib.Dec.{eqb, leb};
-ghost use lib.ListN.{length, getD, take};
+ghost use lib.ListN.{getD, take};
 ghost use Rattle.automata.specs.Limits.{maxPairs};
 ghost use Rattle.automata.specs.Lists.{and, any};
 ghost use Rattle.automata.specs.TapePair.{tapesOf, limitsFit};
 ghost use Rattle.automata.specs.IntersectCall.{distinct, named};
 ghost use Rattle.automata.specs.Projection.{isTape};
-ghost use Rattle.automata.specs.Join.{within, separate};
+ghost use Rattle.automata.specs.Join.{within};
 ghost use Rattle.table.specs.declared.answer.Judged.the-variants as judged;
 ghost use Rattle.table.specs.Answers.{judgedAs};
 ghost use Rattle.table.specs.Pairs.{pairsAs};
-ghost use Rattle.pairs.specs.PairTests.{inTurn};
-ghost use Rattle.pairs.specs.PairBytes.{pairSize, pairsOf, pairAt};
-ghost use Rattle.pairs.specs.Judgement.{Settled, KeepJudged, JoinJudged, TapesJudged, Movable, Moved, movedAt};
+ghost use Rattle.pairs.specs.PairTests.{inTurn, sidesOnce};
+ghost use Rattle.pairs.specs.PairBytes.{pairsOf, pairAt};
+ghost use Rattle.pairs.specs.Judgement.{FirstFour, Decided, KeepJudged, JoinJudged, TapesJudged, DecidesKeep, DecidesJoin, DecidesTapes, Movable, Moved, movedAt};
 
 // Whether a number stands in a list.
 fn occurs(numbers: &[u8], k: u8) -> bool
@@ -80,20 +80,6 @@ fn all_within(bytes: &[u8], n: usize, m: usize) -> bool
     true
 }
 
-// Whether every pair of the list has a limit of at most 64.
-fn limits_fit(bytes: &[u8]) -> bool
-    ensures { λ r. ⌜ r ≡ limitsFit (pairsOf (now (bytes .entry))) ⌝ }
-{
-    let mut at = 0;
-    while PAIR <= bytes.len() - at {
-        if MAX_LIMIT < bytes[at + 2] {
-            return false;
-        }
-        at += PAIR;
-    }
-    true
-}
-
 // The byte at a place, 0 where the list has ended.
 fn byte_at(bytes: &[u8], at: usize) -> u8
     ensures { λ r. ⌜ r ≡ getD (now (bytes .entry)) at 0 ⌝ }
@@ -116,10 +102,9 @@ fn pair_at(bytes: &[u8], at: usize) -> Pair
     }
 }
 
-// At most four pairs by value.
+// The first four pairs of the list by value, and how many it has.
 fn read_pairs(bytes: &[u8]) -> PairList
-    requires { ⌜ length (now bytes) / pairSize ≤ 4 ⌝ }
-    ensures { λ r. ⌜ (pairsAs r ≡ pairsOf (now (bytes .entry))) × (r .used ≡ length (now (bytes .entry)) / pairSize) ⌝ }
+    ensures { λ r. ⌜ FirstFour (pairsOf (now (bytes .entry))) r ⌝ }
 {
     let a = pair_at(bytes, 0);
     let b = pair_at(bytes, PAIR);
@@ -156,7 +141,7 @@ fn seconds_of(pairs: PairList) -> [u8; 4]
 }
 
 // Whether all tapes that the pairs name differ.
-pub fn named_once(pairs: PairList) -> bool
+fn named_once(pairs: PairList) -> bool
     requires { ⌜ pairs .used ≤ 4 ⌝ }
     ensures { λ r. ⌜ r ≡ distinct (named (tapesOf (pairsAs pairs))) ⌝ }
 {
@@ -171,9 +156,9 @@ pub fn named_once(pairs: PairList) -> bool
 }
 
 // Whether the first tapes differ and the second tapes differ.
-pub fn sides_once(pairs: PairList) -> bool
+fn sides_once(pairs: PairList) -> bool
     requires { ⌜ pairs .used ≤ 4 ⌝ }
-    ensures { λ r. ⌜ r ≡ and (distinct (map (λ p. p .first) (tapesOf (pairsAs pairs)))) (distinct (map (λ p. p .second) (tapesOf (pairsAs pairs)))) ⌝ }
+    ensures { λ r. ⌜ r ≡ sidesOnce (tapesOf (pairsAs pairs)) ⌝ }
 {
     let used = pairs.used;
     let firsts = firsts_of(pairs);
@@ -185,27 +170,41 @@ pub fn sides_once(pairs: PairList) -> bool
 }
 
 // Test 6 of an auto-intersection: at most four pairs, and no tape named twice.
-fn keep_once(bytes: &[u8]) -> bool
-    ensures { λ r. ⌜ r ≡ and (leb (length (pairsOf (now (bytes .entry)))) maxPairs) (distinct (named (tapesOf (pairsOf (now (bytes .entry)))))) ⌝ }
+fn keep_once(list: PairList) -> bool
+    ensures { λ r. ⌜ r ≡ and (leb (list .used) maxPairs) (distinct (named (tapesOf (pairsAs list)))) ⌝ }
 {
-    let count = bytes.len() / PAIR;
-    if 4 < count {
+    if 4 < list.used {
         return false;
     }
-    let pairs = read_pairs(bytes);
-    named_once(pairs)
+    named_once(list)
 }
 
 // Test 6 of a join: at most four pairs, and no tape twice on one side.
-fn join_once(bytes: &[u8]) -> bool
-    ensures { λ r. ⌜ r ≡ separate (tapesOf (pairsOf (now (bytes .entry)))) ⌝ }
+fn join_once(pairs: PairList) -> bool
+    ensures { λ r. ⌜ r ≡ and (leb (pairs .used) maxPairs) (sidesOnce (tapesOf (pairsAs pairs))) ⌝ }
 {
-    let number = bytes.len() / PAIR;
-    if 4 < number {
+    if 4 < pairs.used {
         return false;
     }
-    let pairs = read_pairs(bytes);
     sides_once(pairs)
+}
+
+// Test 7 on the first four pairs: none that is used has a limit above 64.
+fn limits_fit(list: PairList) -> bool
+    ensures { λ r. ⌜ r ≡ limitsFit (pairsAs list) ⌝ }
+{
+    let mut h = 0;
+    while h < 4 {
+        if list.used <= h {
+            return true;
+        }
+        let p = list.pairs[h];
+        if MAX_LIMIT < p.limit {
+            return false;
+        }
+        h += 1;
+    }
+    true
 }
 
 // A judgement of a list of pairs, and the pairs by value where there is no refusal.
@@ -215,7 +214,7 @@ pub struct PairsJudged {
 }
 
 // A refusal, with no pairs.
-pub fn refused(why: Refusal) -> PairsJudged
+fn refused(why: Refusal) -> PairsJudged
     ensures { λ r. ⌜ r .judged ≡ judged.Refused why ⌝ }
 {
     let none = Pair {
@@ -235,9 +234,9 @@ pub fn refused(why: Refusal) -> PairsJudged
 
 // The tests in their order: 5 where a tape is not there, 6 where a tape stands twice or there are too many pairs, 7 by
 // the limits.
-fn settled(bytes: &[u8], inside: bool, once: bool, fit: bool) -> PairsJudged
-    requires { ⌜ (once ≡ true → length (now bytes) / pairSize ≤ 4) ⌝ }
-    ensures { λ r. ⌜ Settled (pairsOf (now (bytes .entry))) inside once fit r ⌝ }
+fn decide(list: PairList, inside: bool, once: bool, fit: bool) -> PairsJudged
+    requires { ⌜ (once ≡ true → list .used ≤ 4) ⌝ }
+    ensures { λ r. ⌜ Decided (pairsAs list) inside once fit r ⌝ }
 {
     if !inside {
         return refused(Refusal::Tape);
@@ -248,11 +247,36 @@ fn settled(bytes: &[u8], inside: bool, once: bool, fit: bool) -> PairsJudged
     if !fit {
         return refused(Refusal::Limit);
     }
-    let pairs = read_pairs(bytes);
     PairsJudged {
         judged: Judged::Fine,
-        pairs,
+        pairs: list,
     }
+}
+
+// The tests of an auto-intersection, on the first four pairs of a list.
+pub fn decide_keep(list: PairList, inside: bool) -> PairsJudged
+    ensures { λ r. ⌜ DecidesKeep list inside r ⌝ }
+{
+    let once = keep_once(list);
+    let fit = limits_fit(list);
+    decide(list, inside, once, fit)
+}
+
+// The tests of a join, on the first four pairs of a list.
+pub fn decide_join(list: PairList, inside: bool) -> PairsJudged
+    ensures { λ r. ⌜ DecidesJoin list inside r ⌝ }
+{
+    let once = join_once(list);
+    let fit = limits_fit(list);
+    decide(list, inside, once, fit)
+}
+
+// The tests of a forecast, on the first four pairs of a list. No limit is read.
+pub fn decide_tapes(list: PairList, inside: bool) -> PairsJudged
+    ensures { λ r. ⌜ DecidesTapes list inside r ⌝ }
+{
+    let once = keep_once(list);
+    decide(list, inside, once, true)
 }
 
 // The pairs of an auto-intersection of a table: 5 over the whole list, then 6, then 7.
@@ -260,9 +284,8 @@ pub fn judge_pairs(bytes: &[u8], tapes: usize) -> PairsJudged
     ensures { λ r. ⌜ KeepJudged (pairsOf (now (bytes .entry))) tapes r ⌝ }
 {
     let inside = all_within(bytes, tapes, tapes);
-    let once = keep_once(bytes);
-    let fit = limits_fit(bytes);
-    settled(bytes, inside, once, fit)
+    let list = read_pairs(bytes);
+    decide_keep(list, inside)
 }
 
 // The pairs of a join of tables with n and m tapes: 5 over the whole list, then 6, then 7.
@@ -270,9 +293,8 @@ pub fn judge_join_pairs(bytes: &[u8], n: usize, m: usize) -> PairsJudged
     ensures { λ r. ⌜ JoinJudged (pairsOf (now (bytes .entry))) n m r ⌝ }
 {
     let inside = all_within(bytes, n, m);
-    let once = join_once(bytes);
-    let fit = limits_fit(bytes);
-    settled(bytes, inside, once, fit)
+    let list = read_pairs(bytes);
+    decide_join(list, inside)
 }
 
 // The pairs of a forecast of a table: 5 over the whole list, then 6. No limit is read.
@@ -280,8 +302,8 @@ pub fn judge_tapes(bytes: &[u8], tapes: usize) -> PairsJudged
     ensures { λ r. ⌜ TapesJudged (tapesOf (pairsOf (now (bytes .entry)))) tapes r ⌝ }
 {
     let inside = all_within(bytes, tapes, tapes);
-    let once = keep_once(bytes);
-    settled(bytes, inside, once, true)
+    let list = read_pairs(bytes);
+    decide_tapes(list, inside)
 }
 
 // The first refusal of a table, of the pairs and their limits, or of the work space.

@@ -25,7 +25,10 @@ pub fn intersect(
     out_arcs: &mut [u8],
     work: &mut [u8],
 ) -> TableAnswer
-    ensures { λ r. ⌜ builtOf (tableAs r) (now («out_states» .exit)) (now («out_arcs» .exit)) (now (work .exit)) ≡ intersectOutcome (lent counts (now (states .entry)) (now (arcs .entry))) (map pairAs (now (pairs .entry))) (slicesOf (now («out_states» .entry)) (now («out_arcs» .entry))) (now (work .entry)) ⌝ }
+    ensures { λ r. ⌜ builtOf (tableAs r)
+        (now («out_states» .exit)) (now («out_arcs» .exit)) (now (work .exit)) ≡ intersectOutcome
+        (lent counts (now (states .entry)) (now (arcs .entry))) (map pairAs (now (pairs .entry)))
+        (slicesOf (now («out_states» .entry)) (now («out_arcs» .entry))) (now (work .entry)) ⌝ }
 {
     let listed = judge_records(pairs, counts.tapes);
     intersect_judged(counts, states, arcs, listed, out_states, out_arcs, work)
@@ -49,7 +52,11 @@ pub fn join(
     out_arcs: &mut [u8],
     work: &mut [u8],
 ) -> TableAnswer
-    ensures { λ r. ⌜ joinedOf (tableAs r) (now («out_states» .exit)) (now («out_arcs» .exit)) (now («product_states» .exit)) (now («product_arcs» .exit)) (now (work .exit)) ≡ joinOutcome (lent first (now («first_states» .entry)) (now («first_arcs» .entry))) (lent second (now («second_states» .entry)) (now («second_arcs» .entry))) (map pairAs (now (pairs .entry))) (slicesOf (now («product_states» .entry)) (now («product_arcs» .entry))) (slicesOf (now («out_states» .entry)) (now («out_arcs» .entry))) (now (work .entry)) ⌝ }
+    ensures { λ r. ⌜ joinedOf (tableAs r) (now («out_states» .exit)) (now («out_arcs» .exit))
+        (now («product_states» .exit)) (now («product_arcs» .exit)) (now (work .exit))
+        ≡ joinOutcome (lent first (now («first_states» .entry)) (now («first_arcs» .entry)))
+        (lent second (now («second_states» .entry))
+        (now («second_arcs» .entry))) (map pairAs (now (pairs .entry))) (slicesOf (now («product_states» .entry)) (now («product_arcs» .entry))) (slicesOf (now («out_states» .entry)) (now («out_arcs» .entry))) (now (work .entry)) ⌝ }
 {
     let listed = judge_join_records(pairs, first.tapes, second.tapes);
     join_judged(

@@ -21,7 +21,9 @@ pub fn forecast(
     pairs: &[Pair],
     work: &mut [u8],
 ) -> ForecastAnswer
-    ensures { λ r. ⌜ foretoldOf (answerAs r) (now (work .exit)) ≡ forecastOutcome (lent counts (now (states .entry)) (now (arcs .entry))) (tapesOf (map pairAs (now (pairs .entry)))) (now (work .entry)) ⌝ }
+    ensures { λ r. ⌜ foretoldOf (answerAs r) (now (work .exit))
+        ≡ forecastOutcome (lent counts (now (states .entry)) (now (arcs .entry)))
+        (tapesOf (map pairAs (now (pairs .entry)))) (now (work .entry)) ⌝ }
 {
     let listed = judge_record_tapes(pairs, counts.tapes);
     forecast_judged(counts, states, arcs, listed, true, work)

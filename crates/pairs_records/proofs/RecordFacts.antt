@@ -1,4 +1,4 @@
--- Facts of a list of pairs lent as records: the loop over them, and what the first four of them say of the whole list.
+-- Facts of a list of pairs lent as records: the loop over them, and its first four by value.
 use Prim.Native.Nat.{ℕ, zero, suc, _+_, _≤_, _<_}
 use mathlib.Core.Path.{_≡_, refl, sym, ap, _∙_}
 use mathlib.Core.Bool.{Bool, true, false}
@@ -21,11 +21,8 @@ use Rattle.table.specs.declared.pair.Pair.{Pair}
 use Rattle.table.specs.declared.pair.PairList.{PairList}
 use Rattle.table.specs.Answers.{judgedAs}
 use Rattle.table.specs.Pairs.{pairAs, pairsAs, noPair}
-use Rattle.pairs.specs.declared.PairsJudged.{PairsJudged}
-use Rattle.pairs.specs.PairTests.{tests}
-use Rattle.pairs.specs.Judgement.{Settled, KeepJudged, JoinJudged, TapesJudged}
-use Rattle.pairs.proofs.TestFacts.{separate-is, keep-judged, join-judged, tapes-judged}
-use Rattle.pairs_records.specs.Records.{fourOf, readOf, sidesOnce}
+use Rattle.pairs.specs.Judgement.{FirstFour}
+use Rattle.pairs_records.specs.Records.{fourOf, readOf}
 
 -- ---- the loop over the records
 and-right : (b : Bool) → and true b ≡ and b true
@@ -86,109 +83,11 @@ read-used : (ps : List Pair) → readOf ps .used ≡ length ps
 unfolding readOf
 read-used ps = refl
 
--- a test behind that of the number of pairs, f being the test
-few-test : (f : List automata.TapePair → Bool) (ps : List Pair) → and (leb (readOf ps .used) maxPairs) (f (pairsAs (readOf ps))) ≡ and (leb (length (map pairAs ps)) maxPairs) (f (map pairAs ps))
-few-test f ps =
-    ap (λ (k : ℕ). and (leb k maxPairs) (f (pairsAs (readOf ps)))) (read-used ps ∙ sym (length-map ps pairAs)) ∙ go (leb (length (map pairAs ps)) maxPairs) refl
-  where
-    go : (b : Bool) → leb (length (map pairAs ps)) maxPairs ≡ b → and b (f (pairsAs (readOf ps))) ≡ and b (f (map pairAs ps))
-    go false e = refl
-    go true e = let k = leb-true (length (map pairAs ps)) 4 e in let l = length-map ps pairAs in ap f (four-all ps (omega (arith, k, l)))
-
--- ---- test 6, by the number of pairs
-module _ (list : PairList) (once : Bool) where
-  pub many : 4 < list .used → and (leb (list .used) maxPairs) once ≡ false
-  many h = rw (lt-leb (list .used) 4 h)
-
-  pub few : list .used ≤ 4 → and (leb (list .used) maxPairs) once ≡ once
-  few h = rw (le-leb (list .used) 4 h)
-
-  pub once-few : (r : Bool) → r ≡ and (leb (list .used) maxPairs) once → r ≡ true → list .used ≤ 4
-  once-few r e t = leb-true (list .used) 4 (and-true (leb (list .used) maxPairs) once (sym e ∙ t) .0)
-
--- ---- test 7, the loop over the pairs that are used: of l the first u
--- whether those from place i fit
-abbrev pub left : ℕ → List Pair → ℕ → Bool
-left u l i = automata.limitsFit (map pairAs (drop i (take u l)))
-
-module _ (u : ℕ) (l : List Pair) (i : ℕ) where
-  -- a turn of the loop: the limit here is above 64, or it is the others that say
-  module _ (h : i < u) (k : i < length l) where
-    here : left u l i ≡ and (leb (getD l i noPair .limit) maxDelay) (left u l (i + 1))
-    here =
-        let n = length-take u l in
-        ap (λ (ps : List Pair). automata.limitsFit (map pairAs ps)) (drop-cons (take u l) i noPair (omega (arith, n)))
-        ∙ rw (getD-take u l i noPair h, add-one i)
-
-    pub fit-not : maxDelay < getD l i noPair .limit → left u l i ≡ false
-    fit-not e = here ∙ rw (lt-leb (getD l i noPair .limit) maxDelay e)
-
-    pub fit-next : getD l i noPair .limit ≤ maxDelay → left u l (i + 1) ≡ left u l i
-    fit-next e = sym (here ∙ rw (le-leb (getD l i noPair .limit) maxDelay e))
-
-  -- the end of the loop: no pair is left
-  fit-none : length (take u l) ≤ i → left u l i ≡ true
-  fit-none h = ap (λ (ps : List Pair). automata.limitsFit (map pairAs ps)) (drop-of-length-le (take u l) h)
-
-  pub fit-used : u ≤ i → left u l i ≡ true
-  fit-used h = let n = length-take u l in fit-none (omega (arith, n))
-
-  pub fit-end : length l ≤ i → left u l i ≡ true
-  fit-end h = let n = length-take u l in fit-none (omega (arith, n))
-
--- ---- from the first four to the whole list
-tests-once : (inside once fit : Bool) → ok tt ≡ tests inside once fit → once ≡ true
-tests-once inside true fit e = refl
-tests-once true false fit e = let z : _≡_ {A = ℕ} 0 1 = cc in absurd (omega arith)
-tests-once false false fit e = let z : _≡_ {A = ℕ} 0 1 = cc in absurd (omega arith)
-
--- the limits are asked only where no test before them fails
-tests-fit : (inside once fit whole : Bool) → (once ≡ true → fit ≡ whole) → tests inside once fit ≡ tests inside once whole
-tests-fit inside false fit whole h = refl
-tests-fit inside true fit whole h = ap (tests inside true) (h refl)
-
-module _ (list : PairList) (ps : List Pair) (is : list ≡ readOf ps) (inside once o fit : Bool) (r : PairsJudged)
-    (few : once ≡ and (leb (list .used) maxPairs) o) (s : Settled (pairsAs list) inside once fit r) where
-  all-read : once ≡ true → pairsAs list ≡ map pairAs ps
-  all-read t =
-      let k = once-few list o once few t in
-      let u : list .used ≡ length ps = ap (λ (l : PairList). l .used) is ∙ read-used ps in
-      ap (λ (l : PairList). pairsAs l) is ∙ four-all ps (omega (arith, k, u))
-
-  -- fit is a test of the first four, fits the same of the whole list
-  whole : (fits : Bool) → (pairsAs list ≡ map pairAs ps → fit ≡ fits) → Settled (map pairAs ps) inside once fits r
-  whole fits h = record {
-    answer = s .answer ∙ tests-fit inside once fit fits (λ t. h (all-read t));
-    pairs = λ f. s .pairs f ∙ all-read (tests-once inside once fit (sym (ap judgedAs f) ∙ s .answer));
-    used-fit = s .used-fit;
-    four = s .four;
-    all-inside = s .all-inside;
-  }
-
-module _ (list : PairList) (inside once fit : Bool) (r : PairsJudged) (s : Settled (pairsAs list) inside once fit r) where
-  -- test 6 of the first four, behind that of their number, is that of the whole list
-  once-whole : (f : List automata.TapePair → Bool) (ps : List Pair) → list ≡ readOf ps → once ≡ and (leb (list .used) maxPairs) (f (pairsAs list))
-      → once ≡ and (leb (length (map pairAs ps)) maxPairs) (f (map pairAs ps))
-  once-whole f ps is o = o ∙ ap (λ (l : PairList). and (leb (l .used) maxPairs) (f (pairsAs l))) is ∙ few-test f ps
-
-  pub keep-settles : once ≡ and (leb (list .used) maxPairs) (distinct (named (automata.tapesOf (pairsAs list)))) → fit ≡ automata.limitsFit (pairsAs list)
-      → (ps : List Pair) (tapes : ℕ) → list ≡ readOf ps → inside ≡ within tapes tapes (automata.tapesOf (map pairAs ps)) → KeepJudged (map pairAs ps) tapes r
-  keep-settles o l ps tapes is i =
-      keep-judged (map pairAs ps) inside once (automata.limitsFit (map pairAs ps)) r
-      (whole list ps is inside once (distinct (named (automata.tapesOf (pairsAs list)))) fit r o s (automata.limitsFit (map pairAs ps)) (λ e. l ∙ ap automata.limitsFit e)) refl tapes i
-      (once-whole (λ qs. distinct (named (automata.tapesOf qs))) ps is o)
-
-  pub join-settles : once ≡ and (leb (list .used) maxPairs) (sidesOnce (automata.tapesOf (pairsAs list))) → fit ≡ automata.limitsFit (pairsAs list)
-      → (ps : List Pair) (n m : ℕ) → list ≡ readOf ps → inside ≡ within n m (automata.tapesOf (map pairAs ps)) → JoinJudged (map pairAs ps) n m r
-  join-settles o l ps n m is i =
-      join-judged (map pairAs ps) inside once (automata.limitsFit (map pairAs ps)) r
-      (whole list ps is inside once (sidesOnce (automata.tapesOf (pairsAs list))) fit r o s (automata.limitsFit (map pairAs ps)) (λ e. l ∙ ap automata.limitsFit e)) refl n m i
-      (once-whole (λ qs. sidesOnce (automata.tapesOf qs)) ps is o ∙ sym (separate-is (map pairAs ps)))
-
-  pub tapes-settle : once ≡ and (leb (list .used) maxPairs) (distinct (named (automata.tapesOf (pairsAs list)))) → fit ≡ true
-      → (ps : List Pair) (tapes : ℕ) → list ≡ readOf ps → inside ≡ within tapes tapes (automata.tapesOf (map pairAs ps))
-      → TapesJudged (automata.tapesOf (map pairAs ps)) tapes r
-  tapes-settle o l ps tapes is i =
-      tapes-judged (map pairAs ps) inside once true r
-      (whole list ps is inside once (distinct (named (automata.tapesOf (pairsAs list)))) fit r o s true (λ e. l)) refl tapes i
-      (once-whole (λ qs. distinct (named (automata.tapesOf qs))) ps is o)
+-- they are the first four of the list
+pub read-first : (ps : List Pair) (l : PairList) → l ≡ readOf ps → FirstFour (map pairAs ps) l
+read-first ps l is =
+    let n = length-map ps pairAs in
+    record {
+      many = ap (λ (k : PairList). k .used) is ∙ read-used ps ∙ sym n;
+      all-read = λ h. ap (λ (k : PairList). pairsAs k) is ∙ four-all ps (omega (arith, h, n));
+    }

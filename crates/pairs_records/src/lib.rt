@@ -1,29 +1,21 @@
 // Lists of pairs of tapes lent as records: each pair looked at, the first four read by value, and the list judged.
 use pairs::PairsJudged;
+use pairs::decide_join;
+use pairs::decide_keep;
+use pairs::decide_tapes;
 use pairs::is_tape;
-use pairs::named_once;
-use pairs::refused;
-use pairs::sides_once;
-use table::answer::Judged;
-use table::answer::Refusal;
-use table::pair::MAX_LIMIT;
 use table::pair::Pair;
 use table::pair::PairList;
 ghost use mathlib.Core.Path.{_≡_};
-ghost use mathlib.Core.Bool.{true};
 ghost use mathlib.Core.List.{map};
-ghost use Prim.Native.Nat.{_≤_};
-ghost use lib.Dec.{leb};
 ghost use lib.ListN.{getD};
-ghost use Rattle.automata.specs.Limits.{maxPairs};
 ghost use Rattle.automata.specs.Lists.{and};
-ghost use Rattle.automata.specs.TapePair.{tapesOf, limitsFit};
-ghost use Rattle.automata.specs.IntersectCall.{distinct, named};
+ghost use Rattle.automata.specs.TapePair.{tapesOf};
 ghost use Rattle.automata.specs.Projection.{isTape};
 ghost use Rattle.automata.specs.Join.{within};
-ghost use Rattle.table.specs.Pairs.{pairAs, pairsAs, noPair};
-ghost use Rattle.pairs.specs.Judgement.{Settled, KeepJudged, JoinJudged, TapesJudged};
-ghost use Rattle.pairs_records.specs.Records.{fourOf, readOf, sidesOnce, KeepSettles, JoinSettles, TapesSettle};
+ghost use Rattle.table.specs.Pairs.{pairAs, noPair};
+ghost use Rattle.pairs.specs.Judgement.{KeepJudged, JoinJudged, TapesJudged};
+ghost use Rattle.pairs_records.specs.Records.{fourOf, readOf};
 
 // The pair at a place, or a pair of zeros past the end.
 fn pair_or(pairs: &[Pair], i: usize) -> Pair
@@ -88,98 +80,13 @@ fn all_records_within(pairs: &[Pair], n: usize, m: usize) -> bool
     fine
 }
 
-// Test 6 of an auto-intersection: at most four pairs, and no tape named twice.
-fn keep_once(list: PairList) -> bool
-    ensures { λ r. ⌜ r ≡ and (leb (list .used) maxPairs) (distinct (named (tapesOf (pairsAs list)))) ⌝ }
-{
-    if 4 < list.used {
-        return false;
-    }
-    named_once(list)
-}
-
-// Test 6 of a join: at most four pairs, and no tape twice on one side.
-fn join_once(pairs: PairList) -> bool
-    ensures { λ r. ⌜ r ≡ and (leb (pairs .used) maxPairs) (sidesOnce (tapesOf (pairsAs pairs))) ⌝ }
-{
-    if 4 < pairs.used {
-        return false;
-    }
-    sides_once(pairs)
-}
-
-// Test 7 on the first four pairs: none that is used has a limit above 64.
-fn limits_fit(list: PairList) -> bool
-    ensures { λ r. ⌜ r ≡ limitsFit (pairsAs list) ⌝ }
-{
-    let mut h = 0;
-    while h < 4 {
-        if list.used <= h {
-            return true;
-        }
-        let p = list.pairs[h];
-        if MAX_LIMIT < p.limit {
-            return false;
-        }
-        h += 1;
-    }
-    true
-}
-
-// The tests in their order: 5 where a tape is not there, 6 where a tape stands twice or there are too many pairs, 7 by
-// the limits.
-fn settled(list: PairList, inside: bool, once: bool, fit: bool) -> PairsJudged
-    requires { ⌜ (once ≡ true → list .used ≤ 4) ⌝ }
-    ensures { λ r. ⌜ Settled (pairsAs list) inside once fit r ⌝ }
-{
-    if !inside {
-        return refused(Refusal::Tape);
-    }
-    if !once {
-        return refused(Refusal::Pairs);
-    }
-    if !fit {
-        return refused(Refusal::Limit);
-    }
-    PairsJudged {
-        judged: Judged::Fine,
-        pairs: list,
-    }
-}
-
-// The tests of an auto-intersection, on pairs by value.
-fn keep_settled(list: PairList, inside: bool) -> PairsJudged
-    ensures { λ r. ⌜ KeepSettles list inside r ⌝ }
-{
-    let once = keep_once(list);
-    let fit = limits_fit(list);
-    settled(list, inside, once, fit)
-}
-
-// The tests of a join, on pairs by value.
-fn join_settled(list: PairList, inside: bool) -> PairsJudged
-    ensures { λ r. ⌜ JoinSettles list inside r ⌝ }
-{
-    let once = join_once(list);
-    let fit = limits_fit(list);
-    settled(list, inside, once, fit)
-}
-
-// The tests of a forecast, on pairs by value. No limit is read.
-fn tapes_settled(list: PairList, inside: bool) -> PairsJudged
-    ensures { λ r. ⌜ TapesSettle list inside r ⌝ }
-{
-    let once = keep_once(list);
-    settled(list, inside, once, true)
-}
-
 // The pairs of an auto-intersection of a table: 5 over the whole list, then 6, then 7.
 pub fn judge_records(pairs: &[Pair], tapes: usize) -> PairsJudged
     ensures { λ r. ⌜ KeepJudged (map pairAs (now (pairs .entry))) tapes r ⌝ }
 {
     let inside = all_records_within(pairs, tapes, tapes);
     let list = read_records(pairs);
-    keep_settled(list, inside)
+    decide_keep(list, inside)
 }
 
 // The pairs of a join of tables with n and m tapes: 5 over the whole list, then 6, then 7.
@@ -188,7 +95,7 @@ pub fn judge_join_records(pairs: &[Pair], n: usize, m: usize) -> PairsJudged
 {
     let inside = all_records_within(pairs, n, m);
     let list = read_records(pairs);
-    join_settled(list, inside)
+    decide_join(list, inside)
 }
 
 // The pairs of a forecast of a table: 5 over the whole list, then 6. No limit is read.
@@ -197,5 +104,5 @@ pub fn judge_record_tapes(pairs: &[Pair], tapes: usize) -> PairsJudged
 {
     let inside = all_records_within(pairs, tapes, tapes);
     let list = read_records(pairs);
-    tapes_settled(list, inside)
+    decide_tapes(list, inside)
 }

@@ -50,7 +50,10 @@ fn find(
     list: &mut [u8],
     work: &mut [u8],
 ) -> PathAnswer
-    ensures { λ r. ⌜ (pathAs r ≡ toldAnswer (pathAnswer (lent counts (now (states .entry)) (now (arcs .entry))) (now (tuple .entry)) room (now (list .entry)) (now (work .entry)))) × (now (list .exit) ≡ pathIn (pathAnswer (lent counts (now (states .entry)) (now (arcs .entry))) (now (tuple .entry)) room (now (list .entry)) (now (work .entry))) (now (list .entry))) ⌝ }
+    ensures { λ r. ⌜ (pathAs r ≡ toldAnswer (pathAnswer (lent counts (now (states .entry)) (now (arcs .entry)))
+        (now (tuple .entry)) room (now (list .entry)) (now (work .entry))))
+        × (now (list .exit) ≡ pathIn (pathAnswer (lent counts (now (states .entry)) (now (arcs .entry)))
+        (now (tuple .entry)) room (now (list .entry)) (now (work .entry))) (now (list .entry))) ⌝ }
 {
     let parsed = judge_call(counts, states, arcs, tuple);
     let judged = parsed.judged;
@@ -76,7 +79,9 @@ pub fn find_cleared(
     list: &mut [u8],
     work: &mut [u8],
 ) -> PathAnswer
-    ensures { λ r. ⌜ pathFoundOf (pathAs r) (now (list .exit)) (now (work .exit)) ≡ listPath (pathAnswer (lent counts (now (states .entry)) (now (arcs .entry))) (now (tuple .entry)) room (now (list .entry)) (now (work .entry))) (now (list .entry)) (now (work .entry)) ⌝ }
+    ensures { λ r. ⌜ pathFoundOf (pathAs r) (now (list .exit)) (now (work .exit))
+        ≡ listPath (pathAnswer (lent counts (now (states .entry)) (now (arcs .entry))) (now (tuple .entry)) room
+        (now (list .entry)) (now (work .entry))) (now (list .entry)) (now (work .entry)) ⌝ }
 {
     let answer = find(counts, states, arcs, tuple, room, list, work);
     zero(work);
@@ -93,7 +98,9 @@ pub fn path(
     list: &mut [u8],
     work: &mut [u8],
 ) -> PathAnswer
-    ensures { λ r. ⌜ pathFoundOf (pathAs r) (now (list .exit)) (now (work .exit)) ≡ pathOutcome (lent counts (now (states .entry)) (now (arcs .entry))) (now (tuple .entry)) (now (list .entry)) (now (work .entry)) ⌝ }
+    ensures { λ r. ⌜ pathFoundOf (pathAs r) (now (list .exit)) (now (work .exit)) ≡ pathOutcome
+        (lent counts (now (states .entry)) (now (arcs .entry))) (now (tuple .entry)) (now (list .entry))
+        (now (work .entry)) ⌝ }
 {
     find_cleared(counts, states, arcs, tuple, true, list, work)
 }

@@ -51,7 +51,9 @@ pub fn path_into(
     list: &mut [u8],
     work: &mut [u8],
 ) -> PathAnswer
-    ensures { λ r. ⌜ pathRecordedOf (pathAs r) (now (result .exit)) (now (list .exit)) (now (work .exit)) ≡ pathRecorded (lent counts (now (states .entry)) (now (arcs .entry))) (now (tuple .entry)) (now (result .entry)) (now (list .entry)) (now (work .entry)) ⌝ }
+    ensures { λ r. ⌜ pathRecordedOf (pathAs r) (now (result .exit)) (now (list .exit)) (now (work .exit))
+        ≡ pathRecorded (lent counts (now (states .entry)) (now (arcs .entry))) (now (tuple .entry))
+        (now (result .entry)) (now (list .entry)) (now (work .entry)) ⌝ }
 {
     let answer = find_cleared(
         counts,

@@ -16,7 +16,9 @@ pub const NO_ARC: usize = 65535;
 // A cell, found by arc e, behind the `found` ones, unless it is one of them. Tells how many are found.
 pub fn enter_cell(work: &mut [u8], cells: usize, cell: usize, e: usize, found: usize) -> usize
     requires { ⌜ Kept cells (searchOf (cellsOf (now work)) found) × (cell < cells) ⌝ }
-    ensures { λ r. ⌜ (searchOf (cellsOf (now (work .exit))) r ≡ enter cells e cell (searchOf (cellsOf (now (work .entry))) found)) × (length (now (work .exit)) ≡ length (now (work .entry))) ⌝ }
+    ensures { λ r. ⌜ (searchOf (cellsOf (now (work .exit))) r
+        ≡ enter cells e cell (searchOf (cellsOf (now (work .entry))) found))
+        × (length (now (work .exit)) ≡ length (now (work .entry))) ⌝ }
 {
     if weight_at(work, cells + cell) < FAR {
         return found;

@@ -29,8 +29,14 @@ fn follow_arc(
     found: usize,
     work: &mut [u8],
 ) -> usize
-    requires { ⌜ Searchable counts (now arcs) (now text) strings spans × Weights (counts .states * spans .all) (now work) × Kept (counts .states * spans .all) (searchOf (cellsOf (now work)) found) × (e < counts .arcs) × (here < counts .states * spans .all) × (sourceOf (now arcs) e ≡ here / spans .all) ⌝ }
-    ensures { λ r. ⌜ (searchOf (cellsOf (now (work .exit))) r ≡ follow (counts .states * spans .all) (nextCell counts (now (arcs .entry)) (now (text .entry)) strings spans (cellsOf (now (work .entry)))) here e (searchOf (cellsOf (now (work .entry))) found)) × (length (now (work .exit)) ≡ length (now (work .entry))) ⌝ }
+    requires { ⌜ Searchable counts (now arcs) (now text) strings spans
+        × Weights (counts .states * spans .all) (now work)
+        × Kept (counts .states * spans .all) (searchOf (cellsOf (now work)) found) × (e < counts .arcs)
+        × (here < counts .states * spans .all) × (sourceOf (now arcs) e ≡ here / spans .all) ⌝ }
+    ensures { λ r. ⌜ (searchOf (cellsOf (now (work .exit))) r
+        ≡ follow (counts .states * spans .all)
+        (nextCell counts (now (arcs .entry)) (now (text .entry)) strings spans (cellsOf (now (work .entry)))) here e
+        (searchOf (cellsOf (now (work .entry))) found)) × (length (now (work .exit)) ≡ length (now (work .entry))) ⌝ }
 {
     let to = here % spans.all + shift_of(counts, arcs, e, spans);
     let step = tight_to(counts, arcs, e, text, strings, spans, to, here, work);
@@ -53,8 +59,16 @@ pub fn follow_arcs(
     found: usize,
     work: &mut [u8],
 ) -> usize
-    requires { ⌜ Searchable counts (now arcs) (now text) strings spans × Weights (counts .states * spans .all) (now work) × Kept (counts .states * spans .all) (searchOf (cellsOf (now work)) found) × Chained (counts .states) (counts .arcs) (now arcs) (now first) (now next) × (here < counts .states * spans .all) ⌝ }
-    ensures { λ r. ⌜ (searchOf (cellsOf (now (work .exit))) r ≡ followArcs (counts .states * spans .all) (nextCell counts (now (arcs .entry)) (now (text .entry)) strings spans (cellsOf (now (work .entry)))) (counts .arcs) here 0 (searchOf (cellsOf (now (work .entry))) found)) × (length (now (work .exit)) ≡ length (now (work .entry))) ⌝ }
+    requires { ⌜ Searchable counts (now arcs) (now text) strings spans
+        × Weights (counts .states * spans .all) (now work)
+        × Kept (counts .states * spans .all) (searchOf (cellsOf (now work)) found)
+        × Chained (counts .states) (counts .arcs) (now arcs) (now first) (now next)
+        × (here < counts .states * spans .all) ⌝ }
+    ensures { λ r. ⌜ (searchOf (cellsOf (now (work .exit))) r
+        ≡ followArcs (counts .states * spans .all)
+        (nextCell counts (now (arcs .entry)) (now (text .entry)) strings spans (cellsOf (now (work .entry))))
+        (counts .arcs) here 0 (searchOf (cellsOf (now (work .entry))) found))
+        × (length (now (work .exit)) ≡ length (now (work .entry))) ⌝ }
 {
     let mut count = found;
     let mut e = first[here / spans.all] as usize;

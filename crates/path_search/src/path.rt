@@ -51,8 +51,19 @@ fn search_cells(
     least: u64,
     work: &mut [u8],
 ) -> Searched
-    requires { ⌜ (stateSize * counts .states ≤ length (now states)) × Searchable counts (now arcs) (now text) strings spans × Chainable (counts .states) (counts .arcs) (now arcs) 1024 8192 × Weights (counts .states * spans .all) (now work) × Kept (counts .states * spans .all) (searchOf (cellsOf (now work)) 0) ⌝ }
-    ensures { λ r. ⌜ ((reachedAs (r .end), searchOf (cellsOf (now (work .exit))) (r .found)) ≡ searchFrom (counts .states * spans .all) (nextCell counts (now (arcs .entry)) (now (text .entry)) strings spans (cellsOf (now (work .entry)))) (counts .arcs) (endCell (now (states .entry)) (spans .all) (cellsOf (now (work .entry)))) (counts .states * spans .all) 0 (enterStarts (counts .states * spans .all) (startCell (counts .states) (now (states .entry)) (spans .all) (cellsOf (now (work .entry))) least) (counts .states) 0 (searchOf (cellsOf (now (work .entry))) 0))) × (length (now (work .exit)) ≡ length (now (work .entry))) ⌝ }
+    requires { ⌜ (stateSize * counts .states ≤ length (now states))
+        × Searchable counts (now arcs) (now text) strings spans
+        × Chainable (counts .states) (counts .arcs) (now arcs) 1024 8192
+        × Weights (counts .states * spans .all) (now work)
+        × Kept (counts .states * spans .all) (searchOf (cellsOf (now work)) 0) ⌝ }
+    ensures { λ r. ⌜ ((reachedAs (r .end), searchOf (cellsOf (now (work .exit))) (r .found))
+        ≡ searchFrom (counts .states * spans .all)
+        (nextCell counts (now (arcs .entry)) (now (text .entry)) strings spans (cellsOf (now (work .entry))))
+        (counts .arcs) (endCell (now (states .entry)) (spans .all) (cellsOf (now (work .entry))))
+        (counts .states * spans .all) 0 (enterStarts (counts .states * spans .all)
+        (startCell (counts .states) (now (states .entry)) (spans .all) (cellsOf (now (work .entry))) least)
+        (counts .states) 0 (searchOf (cellsOf (now (work .entry))) 0)))
+        × (length (now (work .exit)) ≡ length (now (work .entry))) ⌝ }
 {
     let mut first = [0u16; 1024];
     let mut next = [0u16; 8192];
@@ -84,8 +95,15 @@ fn list_path(
     list: &mut [u8],
     work: &[u8],
 ) -> PathAnswer
-    requires { ⌜ Retraceable counts (now arcs) spans × (24 * (counts .states * spans .all) ≤ length (now work)) × CanCount counts (now arcs) spans (cellsOf (now work)) found end × CanWalk counts (now arcs) spans (cellsOf (now work)) (countBack counts (now arcs) spans (cellsOf (now work)) found end) end ⌝ }
-    ensures { λ r. ⌜ (pathAs r ≡ toldAnswer (listed (placesIn (now (list .entry))) (some (traced counts (now (arcs .entry)) spans (cellsOf (now (work .entry))) weight found end)))) × (now (list .exit) ≡ pathIn (listed (placesIn (now (list .entry))) (some (traced counts (now (arcs .entry)) spans (cellsOf (now (work .entry))) weight found end))) (now (list .entry))) ⌝ }
+    requires { ⌜ Retraceable counts (now arcs) spans × (24 * (counts .states * spans .all) ≤ length (now work))
+        × CanCount counts (now arcs) spans (cellsOf (now work)) found end
+        × CanWalk counts (now arcs) spans (cellsOf (now work))
+        (countBack counts (now arcs) spans (cellsOf (now work)) found end) end ⌝ }
+    ensures { λ r. ⌜ (pathAs r ≡ toldAnswer (listed (placesIn (now (list .entry)))
+        (some (traced counts (now (arcs .entry)) spans (cellsOf (now (work .entry))) weight found end))))
+        × (now (list .exit) ≡ pathIn (listed (placesIn (now (list .entry)))
+        (some (traced counts (now (arcs .entry)) spans (cellsOf (now (work .entry))) weight found end)))
+        (now (list .entry))) ⌝ }
 {
     let count = count_arcs(counts, arcs, spans, end, found, work);
     if list.len() / 2 < count {
@@ -111,7 +129,11 @@ pub fn find_path(
     work: &mut [u8],
 ) -> PathAnswer
     requires { ⌜ Traceable (lent counts (now states) (now arcs)) (now text) strings (length (now work)) ⌝ }
-    ensures { λ r. ⌜ ((t : Tuple) → Stands (now (text .entry)) t strings → length t ≡ counts .tapes → (pathAs r ≡ toldAnswer (listed (placesIn (now (list .entry))) (leastPath ℕ-sum (tableOf (lent counts (now (states .entry)) (now (arcs .entry)))) t))) × (now (list .exit) ≡ pathIn (listed (placesIn (now (list .entry))) (leastPath ℕ-sum (tableOf (lent counts (now (states .entry)) (now (arcs .entry)))) t)) (now (list .entry)))) ⌝ }
+    ensures { λ r. ⌜ ((t : Tuple) → Stands (now (text .entry)) t strings → length t ≡ counts .tapes
+        → (pathAs r ≡ toldAnswer (listed (placesIn (now (list .entry)))
+        (leastPath ℕ-sum (tableOf (lent counts (now (states .entry)) (now (arcs .entry)))) t)))
+        × (now (list .exit) ≡ pathIn (listed (placesIn (now (list .entry)))
+        (leastPath ℕ-sum (tableOf (lent counts (now (states .entry)) (now (arcs .entry)))) t)) (now (list .entry)))) ⌝ }
 {
     fill_cells(counts, states, arcs, text, strings, work);
     let spans = spans_of(strings);

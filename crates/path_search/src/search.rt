@@ -36,8 +36,11 @@ fn enter_start(
     found: usize,
     work: &mut [u8],
 ) -> usize
-    requires { ⌜ (stateSize * count ≤ length (now states)) × (q < count) × (0 < all) × Weights (count * all) (now work) × Kept (count * all) (searchOf (cellsOf (now work)) found) ⌝ }
-    ensures { λ r. ⌜ (searchOf (cellsOf (now (work .exit))) r ≡ entered (count * all) noArc (startCell count (now (states .entry)) all (cellsOf (now (work .entry))) least q) (searchOf (cellsOf (now (work .entry))) found)) × (length (now (work .exit)) ≡ length (now (work .entry))) ⌝ }
+    requires { ⌜ (stateSize * count ≤ length (now states)) × (q < count) × (0 < all) × Weights (count * all) (now work)
+        × Kept (count * all) (searchOf (cellsOf (now work)) found) ⌝ }
+    ensures { λ r. ⌜ (searchOf (cellsOf (now (work .exit))) r
+        ≡ entered (count * all) noArc (startCell count (now (states .entry)) all (cellsOf (now (work .entry))) least q)
+        (searchOf (cellsOf (now (work .entry))) found)) × (length (now (work .exit)) ≡ length (now (work .entry))) ⌝ }
 {
     if from_state(states, q, all, work) != least {
         return found;
@@ -48,8 +51,12 @@ fn enter_start(
 
 // Those of so many states.
 pub fn enter_starts(states: &[u8], count: usize, all: usize, least: u64, work: &mut [u8]) -> usize
-    requires { ⌜ (stateSize * count ≤ length (now states)) × (0 < all) × Weights (count * all) (now work) × Kept (count * all) (searchOf (cellsOf (now work)) 0) ⌝ }
-    ensures { λ r. ⌜ (searchOf (cellsOf (now (work .exit))) r ≡ enterStarts (count * all) (startCell count (now (states .entry)) all (cellsOf (now (work .entry))) least) count 0 (searchOf (cellsOf (now (work .entry))) 0)) × (length (now (work .exit)) ≡ length (now (work .entry))) ⌝ }
+    requires { ⌜ (stateSize * count ≤ length (now states)) × (0 < all) × Weights (count * all) (now work)
+        × Kept (count * all) (searchOf (cellsOf (now work)) 0) ⌝ }
+    ensures { λ r. ⌜ (searchOf (cellsOf (now (work .exit))) r
+        ≡ enterStarts (count * all) (startCell count (now (states .entry)) all (cellsOf (now (work .entry))) least)
+        count 0 (searchOf (cellsOf (now (work .entry))) 0))
+        × (length (now (work .exit)) ≡ length (now (work .entry))) ⌝ }
 {
     let mut found: usize = 0;
     let mut q: usize = 0;
@@ -62,7 +69,8 @@ pub fn enter_starts(states: &[u8], count: usize, all: usize, least: u64, work: &
 
 // Whether a least path ends at a cell.
 fn is_end(states: &[u8], all: usize, here: usize, work: &[u8]) -> bool
-    requires { ⌜ (0 < all) × (stateSize * (here / all) + stateSize ≤ length (now states)) × (8 * here + 8 ≤ length (now work)) ⌝ }
+    requires { ⌜ (0 < all) × (stateSize * (here / all) + stateSize ≤ length (now states))
+        × (8 * here + 8 ≤ length (now work)) ⌝ }
     ensures { λ r. ⌜ r ≡ endCell (now (states .entry)) all (cellsOf (now (work .entry))) here ⌝ }
 {
     let state = load_state(states, STATE_SIZE * (here / all));
@@ -89,8 +97,16 @@ pub fn search(
     found: usize,
     work: &mut [u8],
 ) -> Searched
-    requires { ⌜ (stateSize * counts .states ≤ length (now states)) × Searchable counts (now arcs) (now text) strings spans × Weights (counts .states * spans .all) (now work) × Kept (counts .states * spans .all) (searchOf (cellsOf (now work)) found) × Chained (counts .states) (counts .arcs) (now arcs) (now first) (now next) ⌝ }
-    ensures { λ r. ⌜ ((reachedAs (r .end), searchOf (cellsOf (now (work .exit))) (r .found)) ≡ searchFrom (counts .states * spans .all) (nextCell counts (now (arcs .entry)) (now (text .entry)) strings spans (cellsOf (now (work .entry)))) (counts .arcs) (endCell (now (states .entry)) (spans .all) (cellsOf (now (work .entry)))) (counts .states * spans .all) 0 (searchOf (cellsOf (now (work .entry))) found)) × (length (now (work .exit)) ≡ length (now (work .entry))) ⌝ }
+    requires { ⌜ (stateSize * counts .states ≤ length (now states))
+        × Searchable counts (now arcs) (now text) strings spans × Weights (counts .states * spans .all) (now work)
+        × Kept (counts .states * spans .all) (searchOf (cellsOf (now work)) found)
+        × Chained (counts .states) (counts .arcs) (now arcs) (now first) (now next) ⌝ }
+    ensures { λ r. ⌜ ((reachedAs (r .end), searchOf (cellsOf (now (work .exit))) (r .found))
+        ≡ searchFrom (counts .states * spans .all)
+        (nextCell counts (now (arcs .entry)) (now (text .entry)) strings spans (cellsOf (now (work .entry))))
+        (counts .arcs) (endCell (now (states .entry)) (spans .all) (cellsOf (now (work .entry))))
+        (counts .states * spans .all) 0 (searchOf (cellsOf (now (work .entry))) found))
+        × (length (now (work .exit)) ≡ length (now (work .entry))) ⌝ }
 {
     let cells = counts.states * spans.all;
     let mut count = found;

@@ -53,7 +53,8 @@ fn ends_at(
     to: usize,
 ) -> bool
     requires { ⌜ Searchable counts (now arcs) (now text) strings spans × (e < counts .arcs) × (to < spans .all) ⌝ }
-    ensures { λ r. ⌜ r ≡ endThere (backBy (counts .tapes) e (now (arcs .entry)) (now (text .entry)) (spotOf strings spans to)) ⌝ }
+    ensures { λ r. ⌜ r ≡ endThere (backBy (counts .tapes) e (now (arcs .entry)) (now (text .entry))
+        (spotOf strings spans to)) ⌝ }
 {
     let spot = spot_at(strings, spans, to);
     let starts = spot.starts;
@@ -86,8 +87,11 @@ pub fn tight_to(
     here: usize,
     work: &[u8],
 ) -> Reached
-    requires { ⌜ Searchable counts (now arcs) (now text) strings spans × Weights (counts .states * spans .all) (now work) × (e < counts .arcs) × (here < counts .states * spans .all) ⌝ }
-    ensures { λ r. ⌜ reachedAs r ≡ tightTo counts (now (arcs .entry)) (now (text .entry)) strings spans (cellsOf (now (work .entry))) to here e ⌝ }
+    requires { ⌜ Searchable counts (now arcs) (now text) strings spans
+        × Weights (counts .states * spans .all) (now work) × (e < counts .arcs)
+        × (here < counts .states * spans .all) ⌝ }
+    ensures { λ r. ⌜ reachedAs r ≡ tightTo counts (now (arcs .entry)) (now (text .entry)) strings spans
+        (cellsOf (now (work .entry))) to here e ⌝ }
 {
     if spans.all <= to {
         return Reached::Nowhere;

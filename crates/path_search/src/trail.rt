@@ -36,7 +36,8 @@ pub fn count_arcs(
     found: usize,
     work: &[u8],
 ) -> usize
-    requires { ⌜ Retraceable counts (now arcs) spans × (24 * (counts .states * spans .all) ≤ length (now work)) × CanCount counts (now arcs) spans (cellsOf (now work)) found end ⌝ }
+    requires { ⌜ Retraceable counts (now arcs) spans × (24 * (counts .states * spans .all) ≤ length (now work))
+        × CanCount counts (now arcs) spans (cellsOf (now work)) found end ⌝ }
     ensures { λ r. ⌜ r ≡ countBack counts (now (arcs .entry)) spans (cellsOf (now (work .entry))) found end ⌝ }
 {
     let cells = counts.states * spans.all;
@@ -66,8 +67,12 @@ pub fn write_arcs(
     list: &mut [u8],
     work: &[u8],
 ) -> usize
-    requires { ⌜ Retraceable counts (now arcs) spans × (24 * (counts .states * spans .all) ≤ length (now work)) × CanWalk counts (now arcs) spans (cellsOf (now work)) count end × (2 * count ≤ length (now list)) ⌝ }
-    ensures { λ r. ⌜ (now (list .exit) ≡ overwrite (entries (runBack counts (now (arcs .entry)) spans (cellsOf (now (work .entry))) count end [] .0)) (now (list .entry))) × (r ≡ runBack counts (now (arcs .entry)) spans (cellsOf (now (work .entry))) count end [] .1) ⌝ }
+    requires { ⌜ Retraceable counts (now arcs) spans × (24 * (counts .states * spans .all) ≤ length (now work))
+        × CanWalk counts (now arcs) spans (cellsOf (now work)) count end × (2 * count ≤ length (now list)) ⌝ }
+    ensures { λ r. ⌜ (now (list .exit) ≡ overwrite
+        (entries (runBack counts (now (arcs .entry)) spans (cellsOf (now (work .entry))) count end [] .0))
+        (now (list .entry))) × (r ≡ runBack counts (now (arcs .entry)) spans
+        (cellsOf (now (work .entry))) count end [] .1) ⌝ }
 {
     let cells = counts.states * spans.all;
     let mut at = end;

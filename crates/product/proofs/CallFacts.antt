@@ -35,7 +35,7 @@ use Rattle.product_search.specs.declared.plan.Plan.{Plan}
 use Rattle.product_search.specs.declared.head.Head.{Head}
 use Rattle.product_search.specs.Plans.{Explorable, firstIn, secondIn}
 use Rattle.product_search.specs.Exploring.{Explored}
-use Rattle.product.specs.Settled.{Settleable}
+use Rattle.product.specs.Answered.{Answerable}
 use Rattle.product.specs.Multiplied.{Multipliable}
 use Rattle.product.specs.Prepared.{spaceFor, planOf, Prepares}
 
@@ -163,9 +163,9 @@ module _ (first second : Counts) (s1 a1 s2 a2 : List ℕ) (forStates forArcs siz
   pub limited : (Explorable p s1 a1 s2 a2 size) × (p .limit ≡ p .arcs)
   limited = (explorable, rw e)
 
-  -- and settles the answer
-  pub settleable : (v w : List ℕ) (r : Head) → size ≡ length v → Explored p s1 a1 s2 a2 v r w → Settleable p s1 a1 s2 a2 r w forStates forArcs
-  settleable v w r l x = record {
+  -- and can be answered
+  pub answerable : (v w : List ℕ) (r : Head) → size ≡ length v → Explored p s1 a1 s2 a2 v r w → Answerable p s1 a1 s2 a2 r w forStates forArcs
+  answerable v w r l x = record {
     explorable = subst (λ (n : ℕ). Explorable p s1 a1 s2 a2 n) (l ∙ sym (x .same-length)) explorable;
     tapes-fit = rw e (m .tapes-fit);
     state-cap = rw e;

@@ -2,5 +2,5 @@
 pub mod SideModel
 pub mod MoveModel
 pub mod CrossFacts
-pub mod SettleFacts
+pub mod AnswerFacts
 pub mod CallFacts

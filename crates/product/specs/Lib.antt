@@ -1,4 +1,4 @@
 -- What the contracts of the aligned product as it is called cite.
-pub mod Settled
+pub mod Answered
 pub mod Multiplied
 pub mod Prepared

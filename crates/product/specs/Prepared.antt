@@ -27,7 +27,8 @@ spaceFor states arcs = record { states = states; arcs = arcs }
 abbrev pub planOf : Counts → Counts → ℕ → ℕ → Plan
 planOf first second states arcs = record { first = first; second = second; states = min states 1024; arcs = min arcs 8192; base = vertexSize * states; limit = min arcs 8192 }
 
--- The first refusal is the call's, and where there is none the call goes on to the product; what then is known of its parts.
+-- The first refusal is the call's, and where there is none the call goes on to the product; what then is known of its
+-- parts.
 pub record Prepares (a b : Memory) (states arcs work : ℕ) (r : Judged) : Type 0 where
   pub answer : (w : List ℕ) → length w ≡ work → productAnswer a b (spaceFor states arcs) w
       ≡ (judgedAs r >>= λ (u : Unit {0}). crossProduct ℕ-sum weightFits (spaceFor states arcs) (tableOf a) (tableOf b))

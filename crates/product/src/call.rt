@@ -1,4 +1,4 @@
-// The call: a refusal before any state is reached, the search, the answer that it settles, and work space cleared.
+// The call: a refusal before any state is reached, the search, the answer by it, and work space cleared.
 use crate::finish::answer_search;
 use crate::prepare::plan_for;
 use crate::prepare::prepare;
@@ -30,8 +30,13 @@ pub fn product_step(
     out_arcs: &mut [u8],
     work: &mut [u8],
 ) -> TableAnswer
-    requires { ⌜ Multipliable (lent first (now «first_states») (now «first_arcs»)) (lent second (now «second_states») (now «second_arcs»)) (length (now «out_states»)) (length (now «out_arcs»)) (length (now work)) ⌝ }
-    ensures { λ r. ⌜ madeOf (tableAs r) (now («out_states» .exit)) (now («out_arcs» .exit)) ≡ productStep (tableOf (lent first (now («first_states» .entry)) (now («first_arcs» .entry)))) (tableOf (lent second (now («second_states» .entry)) (now («second_arcs» .entry)))) (slicesOf (now («out_states» .entry)) (now («out_arcs» .entry))) ⌝ }
+    requires { ⌜ Multipliable (lent first (now «first_states») (now «first_arcs»))
+        (lent second (now «second_states») (now «second_arcs»)) (length (now «out_states»)) (length (now «out_arcs»))
+        (length (now work)) ⌝ }
+    ensures { λ r. ⌜ madeOf (tableAs r) (now («out_states» .exit)) (now («out_arcs» .exit))
+        ≡ productStep (tableOf (lent first (now («first_states» .entry)) (now («first_arcs» .entry))))
+        (tableOf (lent second (now («second_states» .entry)) (now («second_arcs» .entry))))
+        (slicesOf (now («out_states» .entry)) (now («out_arcs» .entry))) ⌝ }
 {
     let plan = plan_for(
         first,
@@ -72,7 +77,11 @@ fn multiply(
     out_arcs: &mut [u8],
     work: &mut [u8],
 ) -> TableAnswer
-    ensures { λ r. ⌜ madeOf (tableAs r) (now («out_states» .exit)) (now («out_arcs» .exit)) ≡ put (productAnswer (lent first (now («first_states» .entry)) (now («first_arcs» .entry))) (lent second (now («second_states» .entry)) (now («second_arcs» .entry))) (spaceOf (slicesOf (now («out_states» .entry)) (now («out_arcs» .entry)))) (now (work .entry))) (slicesOf (now («out_states» .entry)) (now («out_arcs» .entry))) ⌝ }
+    ensures { λ r. ⌜ madeOf (tableAs r) (now («out_states» .exit)) (now («out_arcs» .exit))
+        ≡ put (productAnswer (lent first (now («first_states» .entry)) (now («first_arcs» .entry)))
+        (lent second (now («second_states» .entry)) (now («second_arcs» .entry)))
+        (spaceOf (slicesOf (now («out_states» .entry)) (now («out_arcs» .entry)))) (now (work .entry)))
+        (slicesOf (now («out_states» .entry)) (now («out_arcs» .entry))) ⌝ }
 {
     let judged = prepare(
         first,
@@ -101,7 +110,8 @@ fn multiply(
     }
 }
 
-// The aligned product of the first table and the second, into `out_states` and `out_arcs`. Work space is zero afterwards.
+// The aligned product of the first table and the second, into `out_states` and `out_arcs`. Work space is zero
+// afterwards.
 pub fn product(
     first: Counts,
     first_states: &[u8],
@@ -113,7 +123,10 @@ pub fn product(
     out_arcs: &mut [u8],
     work: &mut [u8],
 ) -> TableAnswer
-    ensures { λ r. ⌜ builtOf (tableAs r) (now («out_states» .exit)) (now («out_arcs» .exit)) (now (work .exit)) ≡ productOutcome (lent first (now («first_states» .entry)) (now («first_arcs» .entry))) (lent second (now («second_states» .entry)) (now («second_arcs» .entry))) (slicesOf (now («out_states» .entry)) (now («out_arcs» .entry))) (now (work .entry)) ⌝ }
+    ensures { λ r. ⌜ builtOf (tableAs r) (now («out_states» .exit)) (now («out_arcs» .exit)) (now (work .exit))
+        ≡ productOutcome (lent first (now («first_states» .entry)) (now («first_arcs» .entry)))
+        (lent second (now («second_states» .entry)) (now («second_arcs» .entry)))
+        (slicesOf (now («out_states» .entry)) (now («out_arcs» .entry))) (now (work .entry)) ⌝ }
 {
     let answer = multiply(
         first,

@@ -13,10 +13,10 @@ ghost use Rattle.automata.specs.Calls.Outcome.{madeOf, slicesOf};
 ghost use Rattle.automata.specs.Calls.JoinSteps.{productStep};
 ghost use Rattle.table.specs.Answers.{tableAs};
 ghost use Rattle.product_search.specs.Plans.{firstIn, secondIn};
-ghost use Rattle.product.specs.Settled.{Settleable};
+ghost use Rattle.product.specs.Answered.{Answerable};
 
-// The answer: more states than there is room for (8), more arcs (9), a summed weight out of range (11), or the product. Nothing is written
-// before that is known.
+// The answer: more states than there is room for (8), more arcs (9), a summed weight out of range (11), or the product.
+// Nothing is written before that is known.
 pub fn answer_search(
     plan: Plan,
     head: Head,
@@ -28,8 +28,12 @@ pub fn answer_search(
     out_states: &mut [u8],
     out_arcs: &mut [u8],
 ) -> TableAnswer
-    requires { ⌜ Settleable plan (now «first_states») (now «first_arcs») (now «second_states») (now «second_arcs») head (now work) (length (now «out_states»)) (length (now «out_arcs»)) ⌝ }
-    ensures { λ r. ⌜ madeOf (tableAs r) (now («out_states» .exit)) (now («out_arcs» .exit)) ≡ productStep (firstIn plan (now («first_states» .entry)) (now («first_arcs» .entry))) (secondIn plan (now («second_states» .entry)) (now («second_arcs» .entry))) (slicesOf (now («out_states» .entry)) (now («out_arcs» .entry))) ⌝ }
+    requires { ⌜ Answerable plan (now «first_states») (now «first_arcs») (now «second_states») (now «second_arcs») head
+        (now work) (length (now «out_states»)) (length (now «out_arcs»)) ⌝ }
+    ensures { λ r. ⌜ madeOf (tableAs r) (now («out_states» .exit)) (now («out_arcs» .exit))
+        ≡ productStep (firstIn plan (now («first_states» .entry)) (now («first_arcs» .entry)))
+        (secondIn plan (now («second_states» .entry)) (now («second_arcs» .entry)))
+        (slicesOf (now («out_states» .entry)) (now («out_arcs» .entry))) ⌝ }
 {
     if head.full {
         return TableAnswer::Refused(Refusal::StatesFull);

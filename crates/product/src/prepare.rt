@@ -1,4 +1,5 @@
-// What is judged before any state of a product is reached: both tables, their tapes together, the work space; and the plan of the search.
+// What is judged before any state of a product is reached: both tables, their tapes together, the work space; and the
+// plan of the search.
 use product_search::plan::Plan;
 use table::answer::Counts;
 use table::answer::Judged;
@@ -38,7 +39,8 @@ pub fn plan_for(first: Counts, second: Counts, states: usize, arcs: usize) -> Pl
     }
 }
 
-// Whether so many bytes of work space are enough for so many states and arcs lent. No product is made before it is known to fit.
+// Whether so many bytes of work space are enough for so many states and arcs lent. No product is made before it is
+// known to fit.
 fn enough_work(states: usize, arcs: usize, work: usize) -> bool
     ensures { λ r. ⌜ r ≡ leb (productWork (spaceFor states arcs)) work ⌝ }
 {
@@ -60,7 +62,8 @@ pub fn prepare(
     arcs: usize,
     work: usize,
 ) -> Judged
-    ensures { λ r. ⌜ Prepares (lent first (now («first_states» .entry)) (now («first_arcs» .entry))) (lent second (now («second_states» .entry)) (now («second_arcs» .entry))) states arcs work r ⌝ }
+    ensures { λ r. ⌜ Prepares (lent first (now («first_states» .entry)) (now («first_arcs» .entry)))
+        (lent second (now («second_states» .entry)) (now («second_arcs» .entry))) states arcs work r ⌝ }
 {
     let one = judge(first, first_states, first_arcs);
     let Judged::Fine = one else {

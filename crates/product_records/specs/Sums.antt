@@ -1,4 +1,5 @@
--- The states and the arcs of a product by the bytes of the two tables: which weights are added, and which labels stand side by side.
+-- The states and the arcs of a product by the bytes of the two tables: which weights are added, and which labels stand
+-- side by side.
 use mathlib.Core.Path.{_≡_}
 use mathlib.Core.Bool.{Bool}
 use mathlib.Core.List.{List, [], _∷_, _++_}
@@ -57,7 +58,8 @@ abbrev pub amount : Weight → ℕ
 amount Absent = 0
 amount (Present w) = w
 
--- what a side adds to the weight of a move: that of its arc, or the final weight of its place where its path ends or has ended
+-- what a side adds to the weight of a move: that of its arc, or the final weight of its place where its path ends or
+-- has ended
 unfoldable pub sideSum : List ℕ → List ℕ → ℕ → ℕ → ℕ
 sideSum states arcs k place = if (eqb k noArc) (amount (placeState states place .last)) (arcWeight arcs k)
 

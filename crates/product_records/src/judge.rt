@@ -16,8 +16,10 @@ ghost use Rattle.product_records.specs.Results.{statesFit, Vertices, mov
 
 // Whether the weights of the first `count` states in `work` are in range.
 fn states_fit(work: &[u8], count: usize, first_states: &[u8], second_states: &[u8]) -> bool
-    requires { ⌜ (vertexSize * count ≤ length (now work)) × Vertices (now «first_states») (now «second_states») (verticesAt 0 count (now work)) ⌝ }
-    ensures { λ r. ⌜ r ≡ statesFit (now («first_states» .entry)) (now («second_states» .entry)) (verticesAt 0 count (now (work .entry))) ⌝ }
+    requires { ⌜ (vertexSize * count ≤ length (now work))
+        × Vertices (now «first_states») (now «second_states») (verticesAt 0 count (now work)) ⌝ }
+    ensures { λ r. ⌜ r ≡ statesFit (now («first_states» .entry)) (now («second_states» .entry))
+        (verticesAt 0 count (now (work .entry))) ⌝ }
 {
     let mut left = count;
     let mut at: usize = 0;
@@ -43,8 +45,12 @@ fn moves_fit(
     second_states: &[u8],
     second_arcs: &[u8],
 ) -> bool
-    requires { ⌜ (base + stepSize * count ≤ length (now work)) × Moves (now «first_states») (now «first_arcs») (now «second_states») (now «second_arcs») (now work) (movesAt base count (now work)) ⌝ }
-    ensures { λ r. ⌜ r ≡ movesFit (now («first_states» .entry)) (now («first_arcs» .entry)) (now («second_states» .entry)) (now («second_arcs» .entry)) (now (work .entry)) (movesAt base count (now (work .entry))) ⌝ }
+    requires { ⌜ (base + stepSize * count ≤ length (now work))
+        × Moves (now «first_states») (now «first_arcs») (now «second_states») (now «second_arcs») (now work)
+        (movesAt base count (now work)) ⌝ }
+    ensures { λ r. ⌜ r ≡ movesFit (now («first_states» .entry)) (now («first_arcs» .entry))
+        (now («second_states» .entry)) (now («second_arcs» .entry)) (now (work .entry))
+        (movesAt base count (now (work .entry))) ⌝ }
 {
     let mut left = count;
     let mut at = base;
@@ -78,8 +84,15 @@ pub fn sums_fit(
     second_states: &[u8],
     second_arcs: &[u8],
 ) -> bool
-    requires { ⌜ (vertexSize * reached ≤ length (now work)) × Vertices (now «first_states») (now «second_states») (verticesAt 0 reached (now work)) × (base + stepSize * arcs ≤ length (now work)) × Moves (now «first_states») (now «first_arcs») (now «second_states») (now «second_arcs») (now work) (movesAt base arcs (now work)) ⌝ }
-    ensures { λ r. ⌜ r ≡ and (statesFit (now («first_states» .entry)) (now («second_states» .entry)) (verticesAt 0 reached (now (work .entry)))) (movesFit (now («first_states» .entry)) (now («first_arcs» .entry)) (now («second_states» .entry)) (now («second_arcs» .entry)) (now (work .entry)) (movesAt base arcs (now (work .entry)))) ⌝ }
+    requires { ⌜ (vertexSize * reached ≤ length (now work))
+        × Vertices (now «first_states») (now «second_states») (verticesAt 0 reached (now work))
+        × (base + stepSize * arcs ≤ length (now work))
+        × Moves (now «first_states») (now «first_arcs») (now «second_states») (now «second_arcs») (now work)
+        (movesAt base arcs (now work)) ⌝ }
+    ensures { λ r. ⌜ r ≡ and (statesFit (now («first_states» .entry)) (now («second_states» .entry))
+        (verticesAt 0 reached (now (work .entry))))
+        (movesFit (now («first_states» .entry)) (now («first_arcs» .entry)) (now («second_states» .entry))
+        (now («second_arcs» .entry)) (now (work .entry)) (movesAt base arcs (now (work .entry)))) ⌝ }
 {
     if !states_fit(work, reached, first_states, second_states) {
         return false;

@@ -52,7 +52,8 @@ fn clear_labels(out: &mut [u8], to: usize)
 
 // The labels of a side's arc on so many tapes; nothing where its path has ended.
 fn store_side(arcs: &[u8], arc: u16, tapes: usize, out: &mut [u8], to: usize)
-    requires { ⌜ ((arc ≡ noArc → ⊥) → arcSize * arc + arcSize ≤ length (now arcs)) × (tapes ≤ 8) × (to + labelSize * tapes ≤ length (now out)) ⌝ }
+    requires { ⌜ ((arc ≡ noArc → ⊥) → arcSize * arc + arcSize ≤ length (now arcs)) × (tapes ≤ 8)
+        × (to + labelSize * tapes ≤ length (now out)) ⌝ }
     ensures { λ _. ⌜ now (out .exit) ≡ sideOver (now (arcs .entry)) tapes arc to (now (out .entry)) ⌝ }
 {
     if arc == NO_ARC {
@@ -79,8 +80,13 @@ fn store_labels(
     out: &mut [u8],
     to: usize,
 )
-    requires { ⌜ ((m .first ≡ noArc → ⊥) → arcSize * m .first + arcSize ≤ length (now «first_arcs»)) × ((m .second ≡ noArc → ⊥) → arcSize * m .second + arcSize ≤ length (now «second_arcs»)) × («first_tapes» + «second_tapes» ≤ 8) × (to + labelsSize ≤ length (now out)) ⌝ }
-    ensures { λ _. ⌜ (now (out .exit) ≡ splice to (moveLabels (now («first_arcs» .entry)) (now («second_arcs» .entry)) «first_tapes» «second_tapes» m) (now (out .entry))) × (length (moveLabels (now («first_arcs» .entry)) (now («second_arcs» .entry)) «first_tapes» «second_tapes» m) ≡ labelsSize) ⌝ }
+    requires { ⌜ ((m .first ≡ noArc → ⊥) → arcSize * m .first + arcSize ≤ length (now «first_arcs»))
+        × ((m .second ≡ noArc → ⊥) → arcSize * m .second + arcSize ≤ length (now «second_arcs»))
+        × («first_tapes» + «second_tapes» ≤ 8) × (to + labelsSize ≤ length (now out)) ⌝ }
+    ensures { λ _. ⌜ (now (out .exit) ≡ splice to (moveLabels (now («first_arcs» .entry))
+        (now («second_arcs» .entry)) «first_tapes» «second_tapes» m) (now (out .entry)))
+        × (length (moveLabels (now («first_arcs» .entry)) (now («second_arcs» .entry)) «first_tapes» «second_tapes» m)
+        ≡ labelsSize) ⌝ }
 {
     clear_labels(out, to);
     store_side(first_arcs, m.first, first_tapes, out, to);
@@ -115,8 +121,13 @@ pub fn store_move(
     out: &mut [u8],
     to: usize,
 )
-    requires { ⌜ MoveFits (now «first_states») (now «first_arcs») (now «second_states») (now «second_arcs») (now work) m × («first_tapes» + «second_tapes» ≤ 8) × (to + arcSize ≤ length (now out)) ⌝ }
-    ensures { λ _. ⌜ (now (out .exit) ≡ splice to (moveRecord (now («first_states» .entry)) (now («first_arcs» .entry)) (now («second_states» .entry)) (now («second_arcs» .entry)) (now (work .entry)) «first_tapes» «second_tapes» m) (now (out .entry))) × (length (moveRecord (now («first_states» .entry)) (now («first_arcs» .entry)) (now («second_states» .entry)) (now («second_arcs» .entry)) (now (work .entry)) «first_tapes» «second_tapes» m) ≡ arcSize) ⌝ }
+    requires { ⌜ MoveFits (now «first_states») (now «first_arcs») (now «second_states») (now «second_arcs») (now work) m
+        × («first_tapes» + «second_tapes» ≤ 8) × (to + arcSize ≤ length (now out)) ⌝ }
+    ensures { λ _. ⌜ (now (out .exit) ≡ splice to (moveRecord (now («first_states» .entry)) (now («first_arcs» .entry))
+        (now («second_states» .entry)) (now («second_arcs» .entry)) (now (work .entry)) «first_tapes» «second_tapes» m)
+        (now (out .entry))) × (length (moveRecord (now («first_states» .entry)) (now («first_arcs» .entry))
+        (now («second_states» .entry)) (now («second_arcs» .entry)) (now (work .entry)) «first_tapes» «second_tapes» m)
+        ≡ arcSize) ⌝ }
 {
     let weight = move_weight(
         m,

@@ -24,8 +24,11 @@ pub fn write_states(
     second_states: &[u8],
     out: &mut [u8],
 )
-    requires { ⌜ (vertexSize * count ≤ length (now work)) × Vertices (now «first_states») (now «second_states») (verticesAt 0 count (now work)) × (stateSize * count ≤ length (now out)) ⌝ }
-    ensures { λ _. ⌜ now (out .exit) ≡ overwrite (stateRecords (now («first_states» .entry)) (now («second_states» .entry)) (verticesAt 0 count (now (work .entry)))) (now (out .entry)) ⌝ }
+    requires { ⌜ (vertexSize * count ≤ length (now work))
+        × Vertices (now «first_states») (now «second_states») (verticesAt 0 count (now work))
+        × (stateSize * count ≤ length (now out)) ⌝ }
+    ensures { λ _. ⌜ now (out .exit) ≡ overwrite (stateRecords (now («first_states» .entry))
+        (now («second_states» .entry)) (verticesAt 0 count (now (work .entry)))) (now (out .entry)) ⌝ }
 {
     let mut left = count;
     let mut at: usize = 0;
@@ -53,8 +56,13 @@ pub fn write_moves(
     second_arcs: &[u8],
     out: &mut [u8],
 )
-    requires { ⌜ (base + stepSize * count ≤ length (now work)) × Moves (now «first_states») (now «first_arcs») (now «second_states») (now «second_arcs») (now work) (movesAt base count (now work)) × («first_tapes» + «second_tapes» ≤ 8) × (arcSize * count ≤ length (now out)) ⌝ }
-    ensures { λ _. ⌜ now (out .exit) ≡ overwrite (moveRecords (now («first_states» .entry)) (now («first_arcs» .entry)) (now («second_states» .entry)) (now («second_arcs» .entry)) (now (work .entry)) «first_tapes» «second_tapes» (movesAt base count (now (work .entry)))) (now (out .entry)) ⌝ }
+    requires { ⌜ (base + stepSize * count ≤ length (now work))
+        × Moves (now «first_states») (now «first_arcs») (now «second_states») (now «second_arcs») (now work)
+        (movesAt base count (now work)) × («first_tapes» + «second_tapes» ≤ 8)
+        × (arcSize * count ≤ length (now out)) ⌝ }
+    ensures { λ _. ⌜ now (out .exit) ≡ overwrite (moveRecords (now («first_states» .entry)) (now («first_arcs» .entry))
+        (now («second_states» .entry)) (now («second_arcs» .entry)) (now (work .entry)) «first_tapes» «second_tapes»
+        (movesAt base count (now (work .entry)))) (now (out .entry)) ⌝ }
 {
     let mut left = count;
     let mut at = base;

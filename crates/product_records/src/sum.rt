@@ -98,7 +98,8 @@ fn weight_amount(w: Weight) -> u32
     }
 }
 
-// What a side adds to the weight of a move: that of its arc, or the final weight of its place where its path ends or has ended.
+// What a side adds to the weight of a move: that of its arc, or the final weight of its place where its path ends or
+// has ended.
 fn side_weight(states: &[u8], arcs: &[u8], arc: u16, place: InputState) -> u32
     requires { ⌜ SideFits (now states) (now arcs) arc (place .0) ⌝ }
     ensures { λ r. ⌜ (r ≡ sideSum (now (states .entry)) (now (arcs .entry)) arc (place .0)) × (r ≤ 999999999) ⌝ }
@@ -120,8 +121,10 @@ pub fn move_weight(
     second_states: &[u8],
     second_arcs: &[u8],
 ) -> u32
-    requires { ⌜ MoveFits (now «first_states») (now «first_arcs») (now «second_states») (now «second_arcs») (now work) m ⌝ }
-    ensures { λ r. ⌜ r ≡ moveSum (now («first_states» .entry)) (now («first_arcs» .entry)) (now («second_states» .entry)) (now («second_arcs» .entry)) (now (work .entry)) m ⌝ }
+    requires { ⌜ MoveFits (now «first_states») (now «first_arcs») (now «second_states») (now «second_arcs»)
+        (now work) m ⌝ }
+    ensures { λ r. ⌜ r ≡ moveSum (now («first_states» .entry)) (now («first_arcs» .entry))
+        (now («second_states» .entry)) (now («second_arcs» .entry)) (now (work .entry)) m ⌝ }
 {
     let v = load_vertex(work, VERTEX_SIZE * m.from.0 as usize);
     let first = side_weight(first_states, first_arcs, m.first, v.first);

@@ -17,11 +17,12 @@ use Rattle.table.specs.Records.{stateAs, stateAt}
 use Rattle.product_search.specs.declared.plan.Plan.{Plan}
 use Rattle.product_search.specs.declared.head.Head.{Head}
 use Rattle.product_search.specs.Reading.{StatesLent, ReadsStates}
-use Rattle.product_search.specs.Searching.{Comes}
+use Rattle.product_search.specs.Searching.{progress, Comes}
 use Rattle.product_search.specs.Starting.{Enters, Open, Widens, StartsAll, StartsBoth, Beginnable, Begun, startsOf}
+use Rattle.search_rows.proofs.ProgressFacts.{widens-none, widens-then}
 use Rattle.product_search.proofs.ReadFacts.{initial-absent, initial-present}
 use Rattle.product_search.proofs.HeldFacts.{moves-none}
-use Rattle.product_search.proofs.StartFacts.{widens-none, widens-then, enters-none, enters-then, enters-full, enters-same, initials-suc, initials-split, pairs-append, one-absent, one-present}
+use Rattle.product_search.proofs.StartFacts.{enters-none, enters-then, enters-full, enters-same, initials-suc, initials-split, pairs-append, one-absent, one-present}
 
 -- ---- one state of the first side
 
@@ -32,7 +33,7 @@ module _ (p : Plan) (h : Head) (s1 : List ℕ) (q : ℕ) (s2 : List ℕ) (v : Li
   -- no path starts in it
   pub both-not : getD s1 (stateSize * q) 0 ≡ 0 → StartsBoth p h s1 q s2 v h v
   both-not z = record {
-    widens = widens-none p h v (k .fits);
+    widens = widens-none (p .states) (progress h) v (k .fits);
     meaning = λ A B a b. enters-same p A B [] (allPairs (initialsFrom q (state ∷ [])) (initialsFrom zero (B .states))) h h v v
         (sym (ap (λ (is : List ℕ). allPairs is (initialsFrom zero (B .states))) (one-absent q state (initial-absent q s1 z)))) (enters-none p A B h v);
   }
@@ -77,7 +78,7 @@ begun-from p A B g v w c e = e (record { vertices = []; edges = [] }) (nothing-h
 
 module _ (p : Plan) (s1 s2 : List ℕ) (v : List ℕ) (k : Beginnable p s1 s2 (length v)) where
   pub begin-start : Beginning p s1 s2 v (record { taken = 0; reached = 0; arcs = 0; full = false }) v 0
-  begin-start = record { within = omega arith; opened = refl; widens = widens-none p noHead v (omega arith); meaning = λ A B a b. enters-none p A B noHead v }
+  begin-start = record { within = omega arith; opened = refl; widens = widens-none (p .states) (progress noHead) v (omega arith); meaning = λ A B a b. enters-none p A B noHead v }
 
   module _ (g : Head) (w : List ℕ) (q : ℕ) (t : Beginning p s1 s2 v g w q) where
     pub begin-requires : q < p .first .states
@@ -92,7 +93,7 @@ module _ (p : Plan) (s1 s2 : List ℕ) (v : List ℕ) (k : Beginnable p s1 s2 (l
 
     module _ (b : q < p .first .states) (r : Head) (u : List ℕ) (z : StartsBoth p g s1 q s2 w r u) where
       next-widens : Widens p noHead v r u
-      next-widens = widens-then p noHead g r v w u (t .widens) (z .widens)
+      next-widens = widens-then (p .states) (progress noHead) (progress g) (progress r) v w u (t .widens) (z .widens)
 
       next-means : (A B : Automaton ℕ) → ReadsStates (p .first) s1 A → ReadsStates (p .second) s2 B
           → Enters p A B (allPairs (initialsFrom zero (take (q + 1) (A .states))) (initialsFrom zero (B .states))) noHead v r u

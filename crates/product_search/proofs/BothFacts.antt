@@ -23,8 +23,9 @@ use Rattle.table.specs.Arcs.{sourceOf}
 use Rattle.table_adjacency.specs.Chains.{inChain, FirstIn, firstFor}
 use Rattle.table_adjacency.proofs.ChainFacts.{first-for, next-for}
 use Rattle.product_search.specs.Reading.{ArcsLent, ReadsArcs, LinkedArcs, chainedArcs, chainedOnly}
-use Rattle.product_search.specs.Searching.{Step, Notes, Ready, Grows, outBy, onSecond, PassesSecond, Indexed, TriesBoth, PassesBoth}
-use Rattle.product_search.proofs.NoteFacts.{grows-none, grows-then, grows-wider, ready-on, notes-none, notes-same}
+use Rattle.product_search.specs.Searching.{progress, Step, Notes, Ready, Grows, outBy, onSecond, PassesSecond, Indexed, TriesBoth, PassesBoth}
+use Rattle.search_rows.proofs.ProgressFacts.{grows-none, grows-then, grows-wider}
+use Rattle.product_search.proofs.NoteFacts.{ready-on, notes-none, notes-same}
 use Rattle.product_search.proofs.ReadFacts.{source-at, target-at, out-one, out-away, out-all, at-source, turn-start, turn-more, turn-pass, turn-full, turn-all}
 
 -- the pairs of steps of two lists and of a third
@@ -42,7 +43,7 @@ module _ (p : Plan) (h : Head) (c : Vertex) (a1 a2 n2 : List ℕ) (i : ℕ) (v :
   -- it leaves another state
   pub both-away : (x ≡ c .first .0 → ⊥) → TriesBoth p h c a1 a2 n2 i v h v
   both-away n = record {
-    grows = grows-none p 8192 h v (q .fits);
+    grows = grows-none (p .states) 8192 (progress h) v (q .fits);
     meaning = λ A B b k l e.
         let rs = outAt ℕ-sum (system (chainedOnly n2 B)) (b .1) in
         let o : outBy (arc ∷ []) (b .0) ≡ [] = out-away arc (b .0) (λ z. n (source-is ∙ sym (source-at (arcSize * i) a1) ∙ z ∙ sym (ap (λ (y : Vertex). y .first .0) e))) in
@@ -115,7 +116,7 @@ module _ (p : Plan) (h : Head) (c : Vertex) (a1 f1 n1 a2 f2 n2 : List ℕ) (v : 
         turned = record {
           within = f .within;
           opened = t .opened;
-          grows = grows-wider p (8192 * k) (8192 * i) h g v w (t .grows) (omega (arith, b));
+          grows = grows-wider (p .states) (8192 * k) (8192 * i) (progress h) (progress g) v w (t .grows) (omega (arith, b));
           meaning = λ A B d y l e.
               turn-pass (pairsWith n2 B d) refl (both-append (outAt ℕ-sum (system (chainedOnly n2 B)) (d .1))) p A B d n1 (A .arcs) (d .0) h v (i - k) k i g w (omega (arith, b)) (omega (arith, f .within, y .count))
               (λ n a m x z o s. f .between n m x o (at-source (p .first) a1 A y n a (omega (arith, x, f .within)) z ∙ s ∙ sym (ap (λ (o : Vertex). o .first .0) e))) (t .meaning A B d y l e);
@@ -128,7 +129,7 @@ module _ (p : Plan) (h : Head) (c : Vertex) (a1 f1 n1 a2 f2 n2 : List ℕ) (v : 
       (record {
         within = omega arith;
         opened = f;
-        grows = grows-none p (8192 * 0) h v (q .fits);
+        grows = grows-none (p .states) (8192 * 0) (progress h) v (q .fits);
         meaning = λ A B b k l e. turn-start (pairsWith n2 B b) refl (both-append (outAt ℕ-sum (system (chainedOnly n2 B)) (b .1))) p A B b n1 (A .arcs) (b .0) h v;
       })
       (subst (FirstIn a1 n1 (c .first .0) (p .first .arcs) 0) (sym e) (first-for (p .first .states) (p .first .arcs) a1 f1 n1 (indexed .first) (c .first .0)))
@@ -152,7 +153,7 @@ module _ (p : Plan) (h : Head) (c : Vertex) (a1 f1 n1 a2 f2 n2 : List ℕ) (v : 
 
       module _ (r : Head) (u : List ℕ) (z : TriesBoth p g c a1 a2 n2 i w r u) where
         next-grows : Grows p (8192 * (i + 1)) h v r u
-        next-grows = grows-then p (8192 * i) 8192 (8192 * (i + 1)) h g r v w u (t .turned .grows) (z .grows) (omega arith)
+        next-grows = grows-then (p .states) (8192 * i) 8192 (8192 * (i + 1)) (progress h) (progress g) (progress r) v w u (t .turned .grows) (z .grows) (omega arith)
 
         next-means : (A B : Automaton ℕ) (d : automata.Vertex) → ReadsArcs (p .first) a1 A → ReadsArcs (p .second) a2 B → c ≡ vertexOf d
             → Notes p A B d (pairsWith n2 B d (outBy (chainedArcs n1 0 (take (i + 1) (A .arcs))) (d .0))) h v r u
@@ -164,14 +165,14 @@ module _ (p : Plan) (h : Head) (c : Vertex) (a1 f1 n1 a2 f2 n2 : List ℕ) (v : 
 
         pub both-full : r .full ≡ true → PassesBoth p h c a1 n1 a2 n2 v r u
         both-full f = record {
-          grows = grows-wider p (8192 * (i + 1)) 67108864 h r v u next-grows (omega (arith, b, lent-first .few));
+          grows = grows-wider (p .states) (8192 * (i + 1)) 67108864 (progress h) (progress r) v u next-grows (omega (arith, b, lent-first .few));
           meaning = λ A B d k l e. subst (λ (ss : List (Content ℕ × ℕ)). Notes p A B d (pairsWith n2 B d ss) h v r u) (out-all (chainedOnly n1 A) (d .0))
               (turn-full (pairsWith n2 B d) refl (both-append (outAt ℕ-sum (system (chainedOnly n2 B)) (d .1))) p A B d n1 (A .arcs) (d .0) h v (i + 1) r u f (next-means A B d k l e));
         }
 
     pub both-end : p .first .arcs ≤ i → PassesBoth p h c a1 n1 a2 n2 v g w
     both-end b = record {
-      grows = grows-wider p (8192 * i) 67108864 h g v w (t .turned .grows) (omega (arith, t .turned .within, lent-first .few));
+      grows = grows-wider (p .states) (8192 * i) 67108864 (progress h) (progress g) v w (t .turned .grows) (omega (arith, t .turned .within, lent-first .few));
       meaning = λ A B d k l e. subst (λ (ss : List (Content ℕ × ℕ)). Notes p A B d (pairsWith n2 B d ss) h v g w) (out-all (chainedOnly n1 A) (d .0))
           (turn-all (pairsWith n2 B d) refl (both-append (outAt ℕ-sum (system (chainedOnly n2 B)) (d .1))) p A B d n1 (A .arcs) (d .0) h v i g w (omega (arith, b, k .count)) (t .turned .meaning A B d k l e));
     }

@@ -21,8 +21,9 @@ use Rattle.product_search.specs.declared.head.Head.{Head}
 use Rattle.product_search.specs.Vertices.{ended, vertexOf, VertexBelow}
 use Rattle.product_search.specs.Moves.{noArc, by-second, by-first}
 use Rattle.product_search.specs.Reading.{StatesLent, ReadsStates, chainedOnly}
-use Rattle.product_search.specs.Searching.{Step, Ready, TellsEnd, onSecond, onFirst, PassesSecond, PassesFirst, EndsFirst, EndsSecond}
-use Rattle.product_search.proofs.NoteFacts.{grows-none, notes-none, notes-over, notes-same}
+use Rattle.product_search.specs.Searching.{progress, Step, Ready, TellsEnd, onSecond, onFirst, PassesSecond, PassesFirst, EndsFirst, EndsSecond}
+use Rattle.search_rows.proofs.ProgressFacts.{grows-none}
+use Rattle.product_search.proofs.NoteFacts.{notes-none, notes-over, notes-same}
 use Rattle.product_search.proofs.ReadFacts.{final-absent, final-present}
 
 -- ---- the test for an end
@@ -65,7 +66,7 @@ module _ (p : Plan) (h : Head) (c : Vertex) (s1 a2 n2 : List ℕ) (v : List ℕ)
   -- the states are full
   pub first-over : h .full ≡ true → EndsFirst p h c s1 a2 n2 v h v
   first-over f = record {
-    grows = grows-none p 8192 h v (q .fits);
+    grows = grows-none (p .states) 8192 (progress h) v (q .fits);
     meaning = λ A B b k l e t. notes-over p A B b (allAfterFirst ℕ-sum (A .tapes) (finalAt ℕ-sum (system A) (b .0)) (outAt ℕ-sum (system (chainedOnly n2 B)) (b .1))) h v f;
   }
 
@@ -77,7 +78,7 @@ module _ (p : Plan) (h : Head) (c : Vertex) (s1 a2 n2 : List ℕ) (v : List ℕ)
     -- its path may not end
     pub first-stays : not x ≡ true → EndsFirst p h c s1 a2 n2 v h v
     first-stays n = record {
-      grows = grows-none p 8192 h v (q .fits);
+      grows = grows-none (p .states) 8192 (progress h) v (q .fits);
       meaning = λ A B b k l e t.
           let rs = outAt ℕ-sum (system (chainedOnly n2 B)) (b .1) in
           let o : finalAt ℕ-sum (system A) (b .0) ≡ none = absent x (finalAt ℕ-sum (system A) (b .0)) n (told A B b k e t) in
@@ -111,7 +112,7 @@ module _ (p : Plan) (h : Head) (c : Vertex) (a1 n1 s2 : List ℕ) (v : List ℕ)
   -- the states are full
   pub second-over : h .full ≡ true → EndsSecond p h c a1 n1 s2 v h v
   second-over f = record {
-    grows = grows-none p 8192 h v (q .fits);
+    grows = grows-none (p .states) 8192 (progress h) v (q .fits);
     meaning = λ A B b k l e t. notes-over p A B b (allAfterSecond ℕ-sum (B .tapes) (finalAt ℕ-sum (system B) (b .1)) (outAt ℕ-sum (system (chainedOnly n1 A)) (b .0))) h v f;
   }
 
@@ -123,7 +124,7 @@ module _ (p : Plan) (h : Head) (c : Vertex) (a1 n1 s2 : List ℕ) (v : List ℕ)
     -- its path may not end
     pub second-stays : not x ≡ true → EndsSecond p h c a1 n1 s2 v h v
     second-stays n = record {
-      grows = grows-none p 8192 h v (q .fits);
+      grows = grows-none (p .states) 8192 (progress h) v (q .fits);
       meaning = λ A B b k l e t.
           let ss = outAt ℕ-sum (system (chainedOnly n1 A)) (b .0) in
           let o : finalAt ℕ-sum (system B) (b .1) ≡ none = absent x (finalAt ℕ-sum (system B) (b .1)) n (told-second A B b l e t) in

@@ -21,8 +21,9 @@ use Rattle.table.specs.Arcs.{sourceOf}
 use Rattle.table_adjacency.specs.Chains.{inChain, FirstIn, firstFor}
 use Rattle.table_adjacency.proofs.ChainFacts.{first-for, next-for}
 use Rattle.product_search.specs.Reading.{ArcsLent, LinkedArcs, chainedArcs, chainedOnly}
-use Rattle.product_search.specs.Searching.{Notes, Ready, Grows, Arrives, outBy, onFirst, ByFirst, TriesFirst, PassesFirst}
-use Rattle.product_search.proofs.NoteFacts.{grows-none, grows-then, grows-wider, ready-on, notes-none, notes-same}
+use Rattle.product_search.specs.Searching.{progress, Notes, Ready, Grows, Arrives, outBy, onFirst, ByFirst, TriesFirst, PassesFirst}
+use Rattle.search_rows.proofs.ProgressFacts.{grows-none, grows-then, grows-wider}
+use Rattle.product_search.proofs.NoteFacts.{ready-on, notes-none, notes-same}
 use Rattle.product_search.proofs.ReadFacts.{source-at, target-at, out-one, out-away, out-all, at-source, turn-start, turn-more, turn-pass, turn-full, turn-all}
 
 -- ---- one arc
@@ -35,7 +36,7 @@ module _ (p : Plan) (h : Head) (c : Vertex) (arcs : List ℕ) (i : ℕ) (v : Lis
   -- it leaves another state
   pub first-away : (x ≡ c .first .0 → ⊥) → TriesFirst p h c arcs i v h v
   first-away n = record {
-    grows = grows-none p 1 h v (q .fits);
+    grows = grows-none (p .states) 1 (progress h) v (q .fits);
     meaning = λ A B b F k.
         let e : outBy (arc ∷ []) (b .0) ≡ [] = out-away arc (b .0) (λ z. n (source-is ∙ sym (source-at (arcSize * i) arcs) ∙ z ∙ sym (k .vertex-is))) in
         notes-same p A B b [] (map (onFirst F) (outBy (arc ∷ []) (b .0))) h h v v (sym (ap (map (onFirst F)) e)) (notes-none p A B b h v);
@@ -94,7 +95,7 @@ module _ (p : Plan) (h : Head) (c : Vertex) (arcs first next : List ℕ) (v : Li
         turned = record {
           within = f .within;
           opened = t .opened;
-          grows = grows-wider p k i h g v w (t .grows) b;
+          grows = grows-wider (p .states) k i (progress h) (progress g) v w (t .grows) b;
           meaning = λ A B d F z.
               turn-pass (map (onFirst F)) refl (ListFacts.map-append (onFirst F)) p A B d next (A .arcs) (d .0) h v (i - k) k i g w (omega (arith, b)) (omega (arith, f .within, z .reads .count))
               (λ n a l m e y s. f .between n l m y (at-source (p .first) arcs A (z .reads) n a (omega (arith, m, f .within)) e ∙ s ∙ sym (z .vertex-is))) (t .meaning A B d F z);
@@ -107,7 +108,7 @@ module _ (p : Plan) (h : Head) (c : Vertex) (arcs first next : List ℕ) (v : Li
       (record {
         within = omega arith;
         opened = f;
-        grows = grows-none p 0 h v (q .fits);
+        grows = grows-none (p .states) 0 (progress h) v (q .fits);
         meaning = λ A B b F k. turn-start (map (onFirst F)) refl (ListFacts.map-append (onFirst F)) p A B b next (A .arcs) (b .0) h v;
       })
       (subst (FirstIn arcs next (c .first .0) (p .first .arcs) 0) (sym e) (first-for (p .first .states) (p .first .arcs) arcs first next linked (c .first .0)))
@@ -130,7 +131,7 @@ module _ (p : Plan) (h : Head) (c : Vertex) (arcs first next : List ℕ) (v : Li
 
       module _ (r : Head) (u : List ℕ) (z : TriesFirst p g c arcs i w r u) where
         next-grows : Grows p (i + 1) h v r u
-        next-grows = grows-then p i 1 (i + 1) h g r v w u (t .turned .grows) (z .grows) (omega arith)
+        next-grows = grows-then (p .states) i 1 (i + 1) (progress h) (progress g) (progress r) v w u (t .turned .grows) (z .grows) (omega arith)
 
         next-means : (A B : Automaton ℕ) (d : automata.Vertex) (F : Content ℕ → Content ℕ) → ByFirst p arcs c A B d F
             → Notes p A B d (map (onFirst F) (outBy (chainedArcs next 0 (take (i + 1) (A .arcs))) (d .0))) h v r u
@@ -142,14 +143,14 @@ module _ (p : Plan) (h : Head) (c : Vertex) (arcs first next : List ℕ) (v : Li
 
         pub first-full : r .full ≡ true → PassesFirst p h c arcs next v r u
         first-full f = record {
-          grows = grows-wider p (i + 1) 8192 h r v u next-grows (omega (arith, b, lent .few));
+          grows = grows-wider (p .states) (i + 1) 8192 (progress h) (progress r) v u next-grows (omega (arith, b, lent .few));
           meaning = λ A B d F k. subst (λ (l : List (Content ℕ × ℕ)). Notes p A B d (map (onFirst F) l) h v r u) (out-all (chainedOnly next A) (d .0))
               (turn-full (map (onFirst F)) refl (ListFacts.map-append (onFirst F)) p A B d next (A .arcs) (d .0) h v (i + 1) r u f (next-means A B d F k));
         }
 
     pub first-end : p .first .arcs ≤ i → PassesFirst p h c arcs next v g w
     first-end b = record {
-      grows = grows-wider p i 8192 h g v w (t .turned .grows) (omega (arith, t .turned .within, lent .few));
+      grows = grows-wider (p .states) i 8192 (progress h) (progress g) v w (t .turned .grows) (omega (arith, t .turned .within, lent .few));
       meaning = λ A B d F k. subst (λ (l : List (Content ℕ × ℕ)). Notes p A B d (map (onFirst F) l) h v g w) (out-all (chainedOnly next A) (d .0))
           (turn-all (map (onFirst F)) refl (ListFacts.map-append (onFirst F)) p A B d next (A .arcs) (d .0) h v i g w (omega (arith, b, k .reads .count)) (t .turned .meaning A B d F k));
     }

@@ -21,24 +21,6 @@ use Rattle.product_search.specs.Searching.{VertexSearch, Step, Exceeds, 
 
 -- ---- the bounds
 
--- nothing happened
-pub grows-none : (p : Plan) (n : ℕ) (h : Head) (v : List ℕ) → h .reached ≤ p .states → Grows p n h v h v
-grows-none p n h v f = record { taken = refl; grown = omega arith; fits = f; few = omega arith; same-length = refl }
-
--- one after the other
-pub grows-then : (p : Plan) (n m k : ℕ) (h g r : Head) (v u w : List ℕ) → Grows p n h v g u → Grows p m g u r w → n + m ≤ k → Grows p k h v r w
-grows-then p n m k h g r v u w a b l = record {
-  taken = b .taken ∙ a .taken;
-  grown = omega (arith, a .grown, b .grown);
-  fits = b .fits;
-  few = omega (arith, a .few, b .few, l);
-  same-length = b .same-length ∙ a .same-length;
-}
-
--- with a wider bound
-pub grows-wider : (p : Plan) (n k : ℕ) (h r : Head) (v w : List ℕ) → Grows p n h v r w → n ≤ k → Grows p k h v r w
-grows-wider p n k h r v w a l = record { taken = a .taken; grown = a .grown; fits = a .fits; few = omega (arith, a .few, l); same-length = a .same-length }
-
 -- the search may go on, with fewer moves left
 pub ready-on : (p : Plan) (n m k : ℕ) (h r : Head) (v w : List ℕ) → Ready p h k (length v) → Grows p n h v r w → n + m ≤ k → Ready p r m (length w)
 ready-on p n m k h r v w a b l = record {

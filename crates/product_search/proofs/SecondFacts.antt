@@ -20,8 +20,9 @@ use Rattle.table.specs.Arcs.{sourceOf}
 use Rattle.table_adjacency.specs.Chains.{inChain, FirstIn, firstFor}
 use Rattle.table_adjacency.proofs.ChainFacts.{first-for, next-for}
 use Rattle.product_search.specs.Reading.{ArcsLent, LinkedArcs, chainedArcs, chainedOnly}
-use Rattle.product_search.specs.Searching.{Notes, Ready, Grows, Arrives, outBy, onSecond, BySecond, TriesSecond, PassesSecond}
-use Rattle.product_search.proofs.NoteFacts.{grows-none, grows-then, grows-wider, ready-on, notes-none, notes-same}
+use Rattle.product_search.specs.Searching.{progress, Notes, Ready, Grows, Arrives, outBy, onSecond, BySecond, TriesSecond, PassesSecond}
+use Rattle.search_rows.proofs.ProgressFacts.{grows-none, grows-then, grows-wider}
+use Rattle.product_search.proofs.NoteFacts.{ready-on, notes-none, notes-same}
 use Rattle.product_search.proofs.ReadFacts.{source-at, target-at, out-one, out-away, out-all, at-source, turn-start, turn-more, turn-pass, turn-full, turn-all}
 
 -- ---- one arc
@@ -34,7 +35,7 @@ module _ (p : Plan) (h : Head) (c : Vertex) (i to : ℕ) (arcs : List ℕ) (j : 
   -- it leaves another state
   pub second-away : (x ≡ c .second .0 → ⊥) → TriesSecond p h c i to arcs j v h v
   second-away n = record {
-    grows = grows-none p 1 h v (q .fits);
+    grows = grows-none (p .states) 1 (progress h) v (q .fits);
     meaning = λ A B b F y k.
         let e : outBy (arc ∷ []) (b .1) ≡ [] = out-away arc (b .1) (λ z. n (source-is ∙ sym (source-at (arcSize * j) arcs) ∙ z ∙ sym (k .vertex-is))) in
         notes-same p A B b [] (map (onSecond F y) (outBy (arc ∷ []) (b .1))) h h v v (sym (ap (map (onSecond F y)) e)) (notes-none p A B b h v);
@@ -93,7 +94,7 @@ module _ (p : Plan) (h : Head) (c : Vertex) (i to : ℕ) (arcs first next : List
         turned = record {
           within = f .within;
           opened = t .opened;
-          grows = grows-wider p k j h g v w (t .grows) b;
+          grows = grows-wider (p .states) k j (progress h) (progress g) v w (t .grows) b;
           meaning = λ A B d F x z.
               turn-pass (map (onSecond F x)) refl (ListFacts.map-append (onSecond F x)) p A B d next (B .arcs) (d .1) h v (j - k) k j g w (omega (arith, b)) (omega (arith, f .within, z .reads .count))
               (λ n a l m e y s. f .between n l m y (at-source (p .second) arcs B (z .reads) n a (omega (arith, m, f .within)) e ∙ s ∙ sym (z .vertex-is))) (t .meaning A B d F x z);
@@ -106,7 +107,7 @@ module _ (p : Plan) (h : Head) (c : Vertex) (i to : ℕ) (arcs first next : List
       (record {
         within = omega arith;
         opened = f;
-        grows = grows-none p 0 h v (q .fits);
+        grows = grows-none (p .states) 0 (progress h) v (q .fits);
         meaning = λ A B b F x k. turn-start (map (onSecond F x)) refl (ListFacts.map-append (onSecond F x)) p A B b next (B .arcs) (b .1) h v;
       })
       (subst (FirstIn arcs next (c .second .0) (p .second .arcs) 0) (sym e) (first-for (p .second .states) (p .second .arcs) arcs first next linked (c .second .0)))
@@ -129,7 +130,7 @@ module _ (p : Plan) (h : Head) (c : Vertex) (i to : ℕ) (arcs first next : List
 
       module _ (r : Head) (u : List ℕ) (z : TriesSecond p g c i to arcs j w r u) where
         next-grows : Grows p (j + 1) h v r u
-        next-grows = grows-then p j 1 (j + 1) h g r v w u (t .turned .grows) (z .grows) (omega arith)
+        next-grows = grows-then (p .states) j 1 (j + 1) (progress h) (progress g) (progress r) v w u (t .turned .grows) (z .grows) (omega arith)
 
         next-means : (A B : Automaton ℕ) (d : automata.Vertex) (F : Content ℕ → Content ℕ) (x : Option ℕ) → BySecond p arcs c i to A B d F x
             → Notes p A B d (map (onSecond F x) (outBy (chainedArcs next 0 (take (j + 1) (B .arcs))) (d .1))) h v r u
@@ -141,14 +142,14 @@ module _ (p : Plan) (h : Head) (c : Vertex) (i to : ℕ) (arcs first next : List
 
         pub second-full : r .full ≡ true → PassesSecond p h c i to arcs next v r u
         second-full f = record {
-          grows = grows-wider p (j + 1) 8192 h r v u next-grows (omega (arith, b, lent .few));
+          grows = grows-wider (p .states) (j + 1) 8192 (progress h) (progress r) v u next-grows (omega (arith, b, lent .few));
           meaning = λ A B d F x k. subst (λ (l : List (Content ℕ × ℕ)). Notes p A B d (map (onSecond F x) l) h v r u) (out-all (chainedOnly next B) (d .1))
               (turn-full (map (onSecond F x)) refl (ListFacts.map-append (onSecond F x)) p A B d next (B .arcs) (d .1) h v (j + 1) r u f (next-means A B d F x k));
         }
 
     pub second-end : p .second .arcs ≤ j → PassesSecond p h c i to arcs next v g w
     second-end b = record {
-      grows = grows-wider p j 8192 h g v w (t .turned .grows) (omega (arith, t .turned .within, lent .few));
+      grows = grows-wider (p .states) j 8192 (progress h) (progress g) v w (t .turned .grows) (omega (arith, t .turned .within, lent .few));
       meaning = λ A B d F x k. subst (λ (l : List (Content ℕ × ℕ)). Notes p A B d (map (onSecond F x) l) h v g w) (out-all (chainedOnly next B) (d .1))
           (turn-all (map (onSecond F x)) refl (ListFacts.map-append (onSecond F x)) p A B d next (B .arcs) (d .1) h v j g w (omega (arith, b, k .reads .count)) (t .turned .meaning A B d F x k));
     }

@@ -25,20 +25,15 @@ use Rattle.product_search.specs.declared.plan.Plan.{Plan}
 use Rattle.product_search.specs.declared.head.Head.{Head}
 use Rattle.product_search.specs.Vertices.{EntersVertex}
 use Rattle.product_search.specs.Reading.{StatesLent, ReadsStates}
-use Rattle.product_search.specs.Searching.{withReached, Comes}
+use Rattle.product_search.specs.Searching.{progress, withReached, Comes}
 use Rattle.product_search.specs.Starting.{withVertices, Enters, Open, Widens, Admits, StartsOne, StartsAll}
+use Rattle.search_rows.proofs.ProgressFacts.{widens-none, widens-then}
 use Rattle.search_rows.proofs.SearchFacts.{inserted-longer}
 use Rattle.product_search.proofs.HeldFacts.{was-at, was-new, was-full, inserted-held}
 use Rattle.product_search.proofs.NoteFacts.{exceeds-on}
 use Rattle.product_search.proofs.ReadFacts.{initial-absent, initial-present}
 
 -- ---- states entered one after the other, and the bounds
-
-pub widens-none : (p : Plan) (h : Head) (v : List ℕ) → h .reached ≤ p .states → Widens p h v h v
-widens-none p h v f = record { taken = refl; arcs = refl; fits = f; same-length = refl }
-
-pub widens-then : (p : Plan) (h g r : Head) (v u w : List ℕ) → Widens p h v g u → Widens p g u r w → Widens p h v r w
-widens-then p h g r v u w a b = record { taken = b .taken ∙ a .taken; arcs = b .arcs ∙ a .arcs; fits = b .fits; same-length = b .same-length ∙ a .same-length }
 
 pub open-on : (p : Plan) (h r : Head) (v w : List ℕ) → Open p h (length v) → Widens p h v r w → Open p r (length w)
 open-on p h r v w a b = record { vertices-fit = a .vertices-fit; moves-fit = omega (arith, a .moves-fit, b .same-length); few-states = a .few-states; fits = b .fits }
@@ -153,7 +148,7 @@ module _ (p : Plan) (h : Head) (x : ℕ) (states : List ℕ) (q : ℕ) (v : List
   -- no path starts in it
   pub one-not : getD states (stateSize * q) 0 ≡ 0 → StartsOne p h x states q v h v
   one-not z = record {
-    widens = widens-none p h v (k .fits);
+    widens = widens-none (p .states) (progress h) v (k .fits);
     meaning = λ A B la b l. enters-same p A B [] (allPairs (x ∷ []) (initialsFrom q (state ∷ []))) h h v v
         (sym (ap (allPairs (x ∷ [])) (one-absent q state (initial-absent q states z)))) (enters-none p A B h v);
   }
@@ -181,7 +176,7 @@ pub record StartingAll (p : Plan) (h : Head) (x : ℕ) (states : List ℕ) (v : 
 
 module _ (p : Plan) (h : Head) (x : ℕ) (states : List ℕ) (v : List ℕ) (k : Open p h (length v)) (lent : StatesLent (p .second) states) where
   pub all-start : h .full ≡ false → StartingAll p h x states v h v 0
-  all-start f = record { within = omega arith; opened = f; widens = widens-none p h v (k .fits); meaning = λ A B la b l. enters-none p A B h v }
+  all-start f = record { within = omega arith; opened = f; widens = widens-none (p .states) (progress h) v (k .fits); meaning = λ A B la b l. enters-none p A B h v }
 
   module _ (g : Head) (w : List ℕ) (q : ℕ) (t : StartingAll p h x states v g w q) where
     pub all-requires : q < p .second .states → (Open p g (length w)) × (g .full ≡ false) × (StatesLent (p .second) states) × (q < p .second .states)
@@ -189,7 +184,7 @@ module _ (p : Plan) (h : Head) (x : ℕ) (states : List ℕ) (v : List ℕ) (k :
 
     module _ (b : q < p .second .states) (r : Head) (u : List ℕ) (z : StartsOne p g x states q w r u) where
       next-widens : Widens p h v r u
-      next-widens = widens-then p h g r v w u (t .widens) (z .widens)
+      next-widens = widens-then (p .states) (progress h) (progress g) (progress r) v w u (t .widens) (z .widens)
 
       next-means : (A B : Automaton ℕ) → length (A .states) ≤ 1024 → ReadsStates (p .second) states B → x < length (A .states)
           → Enters p A B (allPairs (x ∷ []) (initialsFrom zero (take (q + 1) (B .states)))) h v r u

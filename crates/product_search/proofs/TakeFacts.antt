@@ -23,8 +23,9 @@ use Rattle.product_search.specs.declared.plan.Plan.{Plan}
 use Rattle.product_search.specs.declared.head.Head.{Head}
 use Rattle.product_search.specs.Vertices.{vertexAt, vertexOf, VertexBelow}
 use Rattle.product_search.specs.Reading.{StatesLent, ArcsLent, LinkedArcs, chainedOnly}
-use Rattle.product_search.specs.Searching.{VertexSearch, Step, Comes, Ready, Grows, PassesBoth, EndsFirst, EndsSecond, Tables, Indexed, Reads, chainedOut, CountsMoves, TakesUp}
-use Rattle.product_search.proofs.NoteFacts.{grows-then, ready-less, ready-on, notes-then}
+use Rattle.product_search.specs.Searching.{progress, VertexSearch, Step, Comes, Ready, Grows, PassesBoth, EndsFirst, EndsSecond, Tables, Indexed, Reads, chainedOut, CountsMoves, TakesUp}
+use Rattle.search_rows.proofs.ProgressFacts.{grows-then}
+use Rattle.product_search.proofs.NoteFacts.{ready-less, ready-on, notes-then}
 use Rattle.product_search.proofs.FormFacts.{loaded}
 
 module _ (p : Plan) (h : Head) (s1 a1 f1 n1 s2 a2 f2 n2 : List ℕ) (v : List ℕ) (q : Ready p h 67125248 (length v)) (opened : h .full ≡ false) (tables : Tables p s1 a1 s2 a2)
@@ -67,14 +68,14 @@ module _ (p : Plan) (h : Head) (s1 a1 f1 n1 s2 a2 f2 n2 : List ℕ) (v : List �
 
     module _ (h2 : Head) (w2 : List ℕ) (z2 : EndsFirst p h1 c s1 a2 n2 w1 h2 w2) where
       both-grow : Grows p 67117056 h v h2 w2
-      both-grow = grows-then p 67108864 8192 67117056 h h1 h2 v w1 w2 (z1 .grows) (z2 .grows) (omega arith)
+      both-grow = grows-then (p .states) 67108864 8192 67117056 (progress h) (progress h1) (progress h2) v w1 w2 (z1 .grows) (z2 .grows) (omega arith)
 
       pub take-second : (Ready p h2 8192 (length w2)) × (ArcsLent (p .first) a1) × (StatesLent (p .second) s2) × (LinkedArcs (p .first) a1 f1 n1)
       take-second = (ready-on p 67117056 8192 67125248 h h2 v w2 q both-grow (omega arith), tables .first-arcs, tables .second-states, indexed .first)
 
       module _ (h3 : Head) (w3 : List ℕ) (z3 : EndsSecond p h2 c a1 n1 s2 w2 h3 w3) where
         all-grow : Grows p 67125248 h v h3 w3
-        all-grow = grows-then p 67117056 8192 67125248 h h2 h3 v w2 w3 both-grow (z3 .grows) (omega arith)
+        all-grow = grows-then (p .states) 67117056 8192 67125248 (progress h) (progress h2) (progress h3) v w2 w3 both-grow (z3 .grows) (omega arith)
 
         -- all moves were noted
         all-noted : (A B : Automaton ℕ) (s : VertexSearch) (b : automata.Vertex) → Reads p s1 a1 s2 a2 A B → Comes p A B h s v → getElem? (s .vertices) (h .taken) ≡ some b

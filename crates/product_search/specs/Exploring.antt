@@ -46,7 +46,8 @@ module _ (p : Plan) (A B : Automaton ℕ) where
   abbrev pub chainedStates : List ℕ → List ℕ → List automata.Vertex
   chainedStates n1 n2 = productStates ℕ-sum (p .states) (chainedOnly n1 A) (chainedOnly n2 B)
 
-  -- the head r and the work space w hold them and the moves between them, or the head is full and there are more than there is room for
+  -- the head r and the work space w hold them and the moves between them, or the head is full and there are more than
+  -- there is room for
   abbrev pub ComesToReached : List ℕ → List ℕ → Head → List ℕ → Type 0
   ComesToReached n1 n2 r w = Comes p A B r (record { vertices = chainedStates n1 n2; edges = edges sameVertex (chainedOut n1 n2 A B) (chainedStates n1 n2) }) w
 

@@ -1,5 +1,5 @@
--- Moves between states of a product as records of 8 bytes, each at the front of 16: the number of the state left, of the first side's arc, of the
--- second side's arc, of the state reached, 2 bytes each.
+-- Moves between states of a product as records of 8 bytes, each at the front of 16: the number of the state left, of
+-- the first side's arc, of the second side's arc, of the state reached, 2 bytes each.
 use mathlib.Core.Path.{_≡_}
 use mathlib.Core.Option.{some}
 use mathlib.Core.List.{List, _++_}
@@ -33,8 +33,9 @@ moveAt at w = record {
   to = record { 0 = le (part (at + 6) 2 w) };
 }
 
--- What a move from the state c by the arcs with these numbers carries: the content of a step of both, of a step of the second after the first
--- has ended, or of a step of the first after the second has ended (document 01: "that weight is added to the next arc of the longer").
+-- What a move from the state c by the arcs with these numbers carries: the content of a step of both, of a step of the
+-- second after the first has ended, or of a step of the first after the second has ended (document 01: "that weight is
+-- added to the next arc of the longer").
 pub data Carries (A B : Automaton ℕ) (c : automata.Vertex) : ℕ → ℕ → Content ℕ → Type 0 where
   by-both : {i j : ℕ} {a b : Arc ℕ} → getElem? (A .arcs) i ≡ some a → getElem? (B .arcs) j ≡ some b → Carries A B c i j (bothContent ℕ-sum (content a) (content b))
   by-second : {j f : ℕ} {b : Arc ℕ} → finalAt ℕ-sum (system A) (c .0) ≡ some f → getElem? (B .arcs) j ≡ some b

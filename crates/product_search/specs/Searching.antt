@@ -17,13 +17,18 @@ use Rattle.automata.specs.Product.{sameVertex, allBoth, allAfterFirst, allAfter
 use Rattle.automata.specs.Layout.{arcSize, stepSize, vertexSize}
 use Rattle.table.specs.declared.answer.Counts.{Counts}
 use Rattle.table.specs.Records.{arcAs, arcAt}
-use Rattle.search_rows.specs.Comes as search
+use Rattle.search_rows.specs.Comes as search-comes
+use Rattle.search_rows.specs.Progress as search
 use Rattle.product_search.specs.declared.vertex.Vertex.{Vertex}
 use Rattle.product_search.specs.declared.plan.Plan.{Plan}
 use Rattle.product_search.specs.declared.head.Head.{Head}
 use Rattle.product_search.specs.Vertices.{placeNumber, vertexOf, HoldsVertices, ChainedVertices, PlaceBelow, VertexBelow}
 use Rattle.product_search.specs.Moves.{noArc, Carries, HoldsMoves}
 use Rattle.product_search.specs.Reading.{StatesLent, ArcsLent, ReadsStates, ReadsArcs, LinkedArcs, Walkable, chainedOnly}
+
+-- how far the search is
+abbrev pub progress : Head → search.Progress
+progress h = record { taken = h .taken; reached = h .reached; arcs = h .arcs }
 
 -- a head with so many states
 abbrev pub withReached : ℕ → Head → Head
@@ -67,9 +72,10 @@ Exceeds p r s = (p .states < length (s .vertices)) ⊎ ((p .limit < r .arcs) × 
 -- the head r and the work space w hold the search s, or it was given up, and s has more than there is room for or than
 -- is looked for
 abbrev pub Comes : Plan → Automaton ℕ → Automaton ℕ → Head → VertexSearch → List ℕ → Type 0
-Comes p A B r s w = search.Comes (r .full) (Holds p A B r s w) (Exceeds p r s)
+Comes p A B r s w = search-comes.Comes (r .full) (Holds p A B r s w) (Exceeds p r s)
 
--- From the head h and the work space v to r and w the steps xs out of the state c that is taken up were noted, whatever search was held.
+-- From the head h and the work space v to r and w the steps xs out of the state c that is taken up were noted, whatever
+-- search was held.
 abbrev pub Notes : Plan → Automaton ℕ → Automaton ℕ → automata.Vertex → List Step → Head → List ℕ → Head → List ℕ → Type 0
 Notes p A B c xs h v r w = (s : VertexSearch) → Comes p A B h s v → getElem? (s .vertices) (h .taken) ≡ some c
     → Comes p A B r (noteAll sameVertex (h .taken) s xs) w
@@ -84,12 +90,8 @@ pub record Ready (p : Plan) (h : Head) (n size : ℕ) : Type 0 where
   pub few : h .arcs + n ≤ 1000000000000
 
 -- it went on, within the bounds
-pub record Grows (p : Plan) (n : ℕ) (h : Head) (v : List ℕ) (r : Head) (w : List ℕ) : Type 0 where
-  pub taken : r .taken ≡ h .taken
-  pub grown : h .reached ≤ r .reached
-  pub fits : r .reached ≤ p .states
-  pub few : r .arcs ≤ h .arcs + n
-  pub same-length : length w ≡ length v
+abbrev pub Grows : Plan → ℕ → Head → List ℕ → Head → List ℕ → Type 0
+Grows p n h v r w = search.Grows (p .states) n (progress h) v (progress r) w
 
 -- ---- a move to one state of the product
 
@@ -114,8 +116,8 @@ onSecond F x r = (F (r .0), (x, some (r .1)))
 abbrev pub onFirst : (Content ℕ → Content ℕ) → Content ℕ × ℕ → Step
 onFirst F s = (F (s .0), (some (s .1), none))
 
--- The arcs in these bytes are those of the second side, and with the arc of number i of the first side, which leads to the place x, carry
--- what F tells.
+-- The arcs in these bytes are those of the second side, and with the arc of number i of the first side, which leads to
+-- the place x, carry what F tells.
 pub record BySecond (p : Plan) (arcs : List ℕ) (c : Vertex) (i to : ℕ) (A B : Automaton ℕ) (b : automata.Vertex) (F : Content ℕ → Content ℕ) (x : Option ℕ) : Type 0 where
   pub reads : ReadsArcs (p .second) arcs B
   pub few : length (A .states) ≤ 1024

@@ -10,12 +10,13 @@ use Rattle.automata.specs.Product as automata
 use Rattle.automata.specs.Product.{sameVertex, initialsFrom, allPairs}
 use Rattle.automata.specs.Layout.{stateSize, stepSize, vertexSize}
 use Rattle.table.specs.Records.{stateAs, stateAt}
+use Rattle.search_rows.specs.Progress as search
 use Rattle.product_search.specs.declared.vertex.Vertex.{Vertex}
 use Rattle.product_search.specs.declared.plan.Plan.{Plan}
 use Rattle.product_search.specs.declared.head.Head.{Head}
 use Rattle.product_search.specs.Vertices.{vertexOf, ChainedVertices, VertexBelow}
 use Rattle.product_search.specs.Reading.{StatesLent, ReadsStates}
-use Rattle.product_search.specs.Searching.{VertexSearch, Comes}
+use Rattle.product_search.specs.Searching.{progress, VertexSearch, Comes}
 
 -- the search with further states of the product, and no move more
 abbrev pub withVertices : VertexSearch → List automata.Vertex → VertexSearch
@@ -33,11 +34,8 @@ pub record Open (p : Plan) (h : Head) (size : ℕ) : Type 0 where
   pub fits : h .reached ≤ p .states
 
 -- they were, within the bounds
-pub record Widens (p : Plan) (h : Head) (v : List ℕ) (r : Head) (w : List ℕ) : Type 0 where
-  pub taken : r .taken ≡ h .taken
-  pub arcs : r .arcs ≡ h .arcs
-  pub fits : r .reached ≤ p .states
-  pub same-length : length w ≡ length v
+abbrev pub Widens : Plan → Head → List ℕ → Head → List ℕ → Type 0
+Widens p h v r w = search.Widens (p .states) (progress h) v (progress r) w
 
 -- the state d was entered
 pub record Admits (p : Plan) (h : Head) (d : Vertex) (v : List ℕ) (r : Head) (w : List ℕ) : Type 0 where

@@ -47,8 +47,11 @@ pub fn moves_out(
     second_heads: &[u16],
     second_links: &[u16],
 ) -> usize
-    requires { ⌜ Countable plan (now «first_states») (now «first_heads») (now «first_links») (now «second_states») (now «second_heads») (now «second_links») ⌝ }
-    ensures { λ r. ⌜ CountsMoves plan c (now («first_states» .entry)) (now («first_heads» .entry)) (now («first_links» .entry)) (now («second_states» .entry)) (now («second_heads» .entry)) (now («second_links» .entry)) r ⌝ }
+    requires { ⌜ Countable plan (now «first_states») (now «first_heads») (now «first_links») (now «second_states»)
+        (now «second_heads») (now «second_links») ⌝ }
+    ensures { λ r. ⌜ CountsMoves plan c (now («first_states» .entry)) (now («first_heads» .entry))
+        (now («first_links» .entry)) (now («second_states» .entry)) (now («second_heads» .entry))
+        (now («second_links» .entry)) r ⌝ }
 {
     let first = degree(plan.first, first_heads, first_links, c.first);
     let second = degree(plan.second, second_heads, second_links, c.second);

@@ -41,7 +41,8 @@ impl Head {
 
     // The state with number `q` of the second side, with the state `x` of the first.
     fn start_one(self, plan: Plan, x: InputState, states: &[u8], q: usize, work: &mut [u8]) -> Head
-        requires { ⌜ (Open plan self (length (now work))) × (self .full ≡ false) × (StatesLent (plan .second) (now states)) × (q < plan .second .states) ⌝ }
+        requires { ⌜ (Open plan self (length (now work))) × (self .full ≡ false)
+            × (StatesLent (plan .second) (now states)) × (q < plan .second .states) ⌝ }
         ensures { λ r. ⌜ StartsOne plan self (x .0) (now (states .entry)) q (now (work .entry)) r (now (work .exit)) ⌝ }
     {
         if states[STATE_SIZE * q] == 0 {
@@ -56,7 +57,8 @@ impl Head {
 
     // All states of the second side, with the state `x` of the first.
     fn start_all(mut self, plan: Plan, x: InputState, states: &[u8], work: &mut [u8]) -> Head
-        requires { ⌜ (Open plan self (length (now work))) × (self .full ≡ false) × (StatesLent (plan .second) (now states)) ⌝ }
+        requires { ⌜ (Open plan self (length (now work))) × (self .full ≡ false)
+            × (StatesLent (plan .second) (now states)) ⌝ }
         ensures { λ r. ⌜ StartsAll plan self (x .0) (now (states .entry)) (now (work .entry)) r (now (work .exit)) ⌝ }
     {
         let counts = plan.second;
@@ -80,8 +82,11 @@ impl Head {
         second_states: &[u8],
         work: &mut [u8],
     ) -> Head
-        requires { ⌜ (Open plan self (length (now work))) × (self .full ≡ false) × (StatesLent (plan .first) (now «first_states»)) × (q < plan .first .states) × (StatesLent (plan .second) (now «second_states»)) ⌝ }
-        ensures { λ r. ⌜ StartsBoth plan self (now («first_states» .entry)) q (now («second_states» .entry)) (now (work .entry)) r (now (work .exit)) ⌝ }
+        requires { ⌜ (Open plan self (length (now work))) × (self .full ≡ false)
+            × (StatesLent (plan .first) (now «first_states»)) × (q < plan .first .states)
+            × (StatesLent (plan .second) (now «second_states»)) ⌝ }
+        ensures { λ r. ⌜ StartsBoth plan self (now («first_states» .entry)) q (now («second_states» .entry))
+            (now (work .entry)) r (now (work .exit)) ⌝ }
     {
         if first_states[STATE_SIZE * q] == 0 {
             return self;
@@ -93,7 +98,8 @@ impl Head {
 // All pairs of initial states, the first side's leading.
 fn begin(plan: Plan, first_states: &[u8], second_states: &[u8], work: &mut [u8]) -> Head
     requires { ⌜ Beginnable plan (now «first_states») (now «second_states») (length (now work)) ⌝ }
-    ensures { λ r. ⌜ Begun plan (now («first_states» .entry)) (now («second_states» .entry)) (now (work .entry)) r (now (work .exit)) ⌝ }
+    ensures { λ r. ⌜ Begun plan (now («first_states» .entry)) (now («second_states» .entry)) (now (work .entry)) r
+        (now (work .exit)) ⌝ }
 {
     let counts = plan.first;
     let mut head = Head {
@@ -127,8 +133,12 @@ fn run(
     second_links: &[u16],
     work: &mut [u8],
 ) -> Head
-    requires { ⌜ (Runnable plan start (now «first_states») (now «first_arcs») (now «second_states») (now «second_arcs») (length (now work))) × (Indexed plan (now «first_arcs») (now «first_heads») (now «first_links») (now «second_arcs») (now «second_heads») (now «second_links»)) ⌝ }
-    ensures { λ r. ⌜ Runs plan start (now («first_states» .entry)) (now («first_arcs» .entry)) (now («first_links» .entry)) (now («second_states» .entry)) (now («second_arcs» .entry)) (now («second_links» .entry)) (now (work .entry)) r (now (work .exit)) ⌝ }
+    requires { ⌜ (Runnable plan start (now «first_states») (now «first_arcs») (now «second_states») (now «second_arcs»)
+        (length (now work))) × (Indexed plan (now «first_arcs») (now «first_heads») (now «first_links»)
+        (now «second_arcs») (now «second_heads») (now «second_links»)) ⌝ }
+    ensures { λ r. ⌜ Runs plan start (now («first_states» .entry)) (now («first_arcs» .entry))
+        (now («first_links» .entry)) (now («second_states» .entry)) (now («second_arcs» .entry))
+        (now («second_links» .entry)) (now (work .entry)) r (now (work .exit)) ⌝ }
 {
     if start.full {
         return start;
@@ -168,8 +178,12 @@ fn search(
     second_links: &[u16],
     work: &mut [u8],
 ) -> Head
-    requires { ⌜ (Explorable plan (now «first_states») (now «first_arcs») (now «second_states») (now «second_arcs») (length (now work))) × (Indexed plan (now «first_arcs») (now «first_heads») (now «first_links») (now «second_arcs») (now «second_heads») (now «second_links»)) ⌝ }
-    ensures { λ r. ⌜ Searches plan (now («first_states» .entry)) (now («first_arcs» .entry)) (now («first_links» .entry)) (now («second_states» .entry)) (now («second_arcs» .entry)) (now («second_links» .entry)) (now (work .entry)) r (now (work .exit)) ⌝ }
+    requires { ⌜ (Explorable plan (now «first_states») (now «first_arcs») (now «second_states») (now «second_arcs»)
+        (length (now work))) × (Indexed plan (now «first_arcs») (now «first_heads») (now «first_links»)
+        (now «second_arcs») (now «second_heads») (now «second_links»)) ⌝ }
+    ensures { λ r. ⌜ Searches plan (now («first_states» .entry)) (now («first_arcs» .entry))
+        (now («first_links» .entry)) (now («second_states» .entry)) (now («second_arcs» .entry))
+        (now («second_links» .entry)) (now (work .entry)) r (now (work .exit)) ⌝ }
 {
     clear(work, VERTEX_SIZE, 4, plan.states);
     let head = begin(plan, first_states, second_states, work);
@@ -219,8 +233,11 @@ fn recount(
     second_links: &[u16],
     work: &mut [u8],
 ) -> Head
-    requires { ⌜ (Explorable plan (now «first_states») (now «first_arcs») (now «second_states») (now «second_arcs») (length (now work))) × (AllChained plan (now «first_arcs») (now «first_heads») (now «first_links») (now «second_arcs») (now «second_heads») (now «second_links»)) ⌝ }
-    ensures { λ r. ⌜ Recounts plan (now («first_states» .entry)) (now («first_arcs» .entry)) (now («second_states» .entry)) (now («second_arcs» .entry)) arcs (now (work .entry)) r (now (work .exit)) ⌝ }
+    requires { ⌜ (Explorable plan (now «first_states») (now «first_arcs») (now «second_states») (now «second_arcs»)
+        (length (now work))) × (AllChained plan (now «first_arcs») (now «first_heads») (now «first_links»)
+        (now «second_arcs») (now «second_heads») (now «second_links»)) ⌝ }
+    ensures { λ r. ⌜ Recounts plan (now («first_states» .entry)) (now («first_arcs» .entry))
+        (now («second_states» .entry)) (now («second_arcs» .entry)) arcs (now (work .entry)) r (now (work .exit)) ⌝ }
 {
     let mut heads = [0u16; 1024];
     let mut links = [0u16; 8192];
@@ -275,8 +292,12 @@ fn explore_chained(
     second_links: &[u16],
     work: &mut [u8],
 ) -> Head
-    requires { ⌜ (Explorable plan (now «first_states») (now «first_arcs») (now «second_states») (now «second_arcs») (length (now work))) × (plan .limit ≡ plan .arcs) × (AllChained plan (now «first_arcs») (now «first_heads») (now «first_links») (now «second_arcs») (now «second_heads») (now «second_links»)) ⌝ }
-    ensures { λ r. ⌜ Explored plan (now («first_states» .entry)) (now («first_arcs» .entry)) (now («second_states» .entry)) (now («second_arcs» .entry)) (now (work .entry)) r (now (work .exit)) ⌝ }
+    requires { ⌜ (Explorable plan (now «first_states») (now «first_arcs») (now «second_states») (now «second_arcs»)
+        (length (now work))) × (plan .limit ≡ plan .arcs)
+        × (AllChained plan (now «first_arcs») (now «first_heads») (now «first_links») (now «second_arcs»)
+        (now «second_heads») (now «second_links»)) ⌝ }
+    ensures { λ r. ⌜ Explored plan (now («first_states» .entry)) (now («first_arcs» .entry))
+        (now («second_states» .entry)) (now («second_arcs» .entry)) (now (work .entry)) r (now (work .exit)) ⌝ }
 {
     let head = search(
         plan,
@@ -317,8 +338,10 @@ pub fn explore(
     second_arcs: &[u8],
     work: &mut [u8],
 ) -> Head
-    requires { ⌜ (Explorable plan (now «first_states») (now «first_arcs») (now «second_states») (now «second_arcs») (length (now work))) × (plan .limit ≡ plan .arcs) ⌝ }
-    ensures { λ r. ⌜ Explored plan (now («first_states» .entry)) (now («first_arcs» .entry)) (now («second_states» .entry)) (now («second_arcs» .entry)) (now (work .entry)) r (now (work .exit)) ⌝ }
+    requires { ⌜ (Explorable plan (now «first_states») (now «first_arcs») (now «second_states») (now «second_arcs»)
+        (length (now work))) × (plan .limit ≡ plan .arcs) ⌝ }
+    ensures { λ r. ⌜ Explored plan (now («first_states» .entry)) (now («first_arcs» .entry))
+        (now («second_states» .entry)) (now («second_arcs» .entry)) (now (work .entry)) r (now (work .exit)) ⌝ }
 {
     let mut first_heads = [0u16; 1024];
     let mut first_links = [0u16; 8192];

@@ -74,7 +74,9 @@ impl Head {
     // A move from the state that is taken up, written.
     fn note(self, plan: Plan, work: &mut [u8], i: u16, j: u16, to: Reached)
         requires { ⌜ (plan .base + stepSize * plan .arcs ≤ length (now work)) × (self .taken < 1024) ⌝ }
-        ensures { λ _. ⌜ now (work .exit) ≡ storedWithin (plan .base) (plan .arcs) (self .arcs) (moveBytes (record { from = record { 0 = self .taken }; first = i; second = j; to = to })) (now (work .entry)) ⌝ }
+        ensures { λ _. ⌜ now (work .exit) ≡ storedWithin (plan .base) (plan .arcs) (self .arcs)
+            (moveBytes (record { from = record { 0 = self .taken }; first = i; second = j; to = to }))
+            (now (work .entry)) ⌝ }
     {
         let m = Move {
             from: Reached(self.taken as u16),
@@ -115,8 +117,10 @@ impl Head {
         j: usize,
         work: &mut [u8],
     ) -> Head
-        requires { ⌜ (Ready plan self 1 (length (now work))) × (self .full ≡ false) × (ArcsLent (plan .second) (now arcs)) × (j < plan .second .arcs) ⌝ }
-        ensures { λ r. ⌜ TriesSecond plan self c i (to .0) (now (arcs .entry)) j (now (work .entry)) r (now (work .exit)) ⌝ }
+        requires { ⌜ (Ready plan self 1 (length (now work))) × (self .full ≡ false)
+            × (ArcsLent (plan .second) (now arcs)) × (j < plan .second .arcs) ⌝ }
+        ensures { λ r. ⌜ TriesSecond plan self c i (to .0) (now (arcs .entry)) j (now (work .entry)) r
+            (now (work .exit)) ⌝ }
     {
         let at = ARC_SIZE * j;
         if source_at(arcs, at).0 != c.second.0 {
@@ -140,8 +144,10 @@ impl Head {
         links: &[u16],
         work: &mut [u8],
     ) -> Head
-        requires { ⌜ (Ready plan self 8192 (length (now work))) × (self .full ≡ false) × (ArcsLent (plan .second) (now arcs)) × (LinkedArcs (plan .second) (now arcs) (now heads) (now links)) ⌝ }
-        ensures { λ r. ⌜ PassesSecond plan self c i (to .0) (now (arcs .entry)) (now (links .entry)) (now (work .entry)) r (now (work .exit)) ⌝ }
+        requires { ⌜ (Ready plan self 8192 (length (now work))) × (self .full ≡ false)
+            × (ArcsLent (plan .second) (now arcs)) × (LinkedArcs (plan .second) (now arcs) (now heads) (now links)) ⌝ }
+        ensures { λ r. ⌜ PassesSecond plan self c i (to .0) (now (arcs .entry)) (now (links .entry))
+            (now (work .entry)) r (now (work .exit)) ⌝ }
     {
         let counts = plan.second;
         let mut j = first_arc(counts, heads, c.second.0);
@@ -157,7 +163,8 @@ impl Head {
 
     // The arc with number `i` of the first side, where the second side's path has ended.
     fn try_first(self, plan: Plan, c: Vertex, arcs: &[u8], i: usize, work: &mut [u8]) -> Head
-        requires { ⌜ (Ready plan self 1 (length (now work))) × (self .full ≡ false) × (ArcsLent (plan .first) (now arcs)) × (i < plan .first .arcs) ⌝ }
+        requires { ⌜ (Ready plan self 1 (length (now work))) × (self .full ≡ false)
+            × (ArcsLent (plan .first) (now arcs)) × (i < plan .first .arcs) ⌝ }
         ensures { λ r. ⌜ TriesFirst plan self c (now (arcs .entry)) i (now (work .entry)) r (now (work .exit)) ⌝ }
     {
         let at = ARC_SIZE * i;
@@ -183,8 +190,10 @@ impl Head {
         links: &[u16],
         work: &mut [u8],
     ) -> Head
-        requires { ⌜ (Ready plan self 8192 (length (now work))) × (self .full ≡ false) × (ArcsLent (plan .first) (now arcs)) × (LinkedArcs (plan .first) (now arcs) (now heads) (now links)) ⌝ }
-        ensures { λ r. ⌜ PassesFirst plan self c (now (arcs .entry)) (now (links .entry)) (now (work .entry)) r (now (work .exit)) ⌝ }
+        requires { ⌜ (Ready plan self 8192 (length (now work))) × (self .full ≡ false)
+            × (ArcsLent (plan .first) (now arcs)) × (LinkedArcs (plan .first) (now arcs) (now heads) (now links)) ⌝ }
+        ensures { λ r. ⌜ PassesFirst plan self c (now (arcs .entry)) (now (links .entry)) (now (work .entry)) r
+            (now (work .exit)) ⌝ }
     {
         let counts = plan.first;
         let mut i = first_arc(counts, heads, c.first.0);
@@ -210,8 +219,12 @@ impl Head {
         second_links: &[u16],
         work: &mut [u8],
     ) -> Head
-        requires { ⌜ (Ready plan self 8192 (length (now work))) × (self .full ≡ false) × (ArcsLent (plan .first) (now «first_arcs»)) × (i < plan .first .arcs) × (ArcsLent (plan .second) (now «second_arcs»)) × (LinkedArcs (plan .second) (now «second_arcs») (now «second_heads») (now «second_links»)) ⌝ }
-        ensures { λ r. ⌜ TriesBoth plan self c (now («first_arcs» .entry)) (now («second_arcs» .entry)) (now («second_links» .entry)) i (now (work .entry)) r (now (work .exit)) ⌝ }
+        requires { ⌜ (Ready plan self 8192 (length (now work))) × (self .full ≡ false)
+            × (ArcsLent (plan .first) (now «first_arcs»)) × (i < plan .first .arcs)
+            × (ArcsLent (plan .second) (now «second_arcs»))
+            × (LinkedArcs (plan .second) (now «second_arcs») (now «second_heads») (now «second_links»)) ⌝ }
+        ensures { λ r. ⌜ TriesBoth plan self c (now («first_arcs» .entry)) (now («second_arcs» .entry))
+            (now («second_links» .entry)) i (now (work .entry)) r (now (work .exit)) ⌝ }
     {
         let at = ARC_SIZE * i;
         if source_at(first_arcs, at).0 != c.first.0 {
@@ -243,8 +256,12 @@ impl Head {
         second_links: &[u16],
         work: &mut [u8],
     ) -> Head
-        requires { ⌜ (Ready plan self 67108864 (length (now work))) × (self .full ≡ false) × (ArcsLent (plan .first) (now «first_arcs»)) × (ArcsLent (plan .second) (now «second_arcs»)) × (Indexed plan (now «first_arcs») (now «first_heads») (now «first_links») (now «second_arcs») (now «second_heads») (now «second_links»)) ⌝ }
-        ensures { λ r. ⌜ PassesBoth plan self c (now («first_arcs» .entry)) (now («first_links» .entry)) (now («second_arcs» .entry)) (now («second_links» .entry)) (now (work .entry)) r (now (work .exit)) ⌝ }
+        requires { ⌜ (Ready plan self 67108864 (length (now work))) × (self .full ≡ false)
+            × (ArcsLent (plan .first) (now «first_arcs»)) × (ArcsLent (plan .second) (now «second_arcs»))
+            × (Indexed plan (now «first_arcs») (now «first_heads») (now «first_links») (now «second_arcs»)
+            (now «second_heads») (now «second_links»)) ⌝ }
+        ensures { λ r. ⌜ PassesBoth plan self c (now («first_arcs» .entry)) (now («first_links» .entry))
+            (now («second_arcs» .entry)) (now («second_links» .entry)) (now (work .entry)) r (now (work .exit)) ⌝ }
     {
         let counts = plan.first;
         let mut i = first_arc(counts, first_heads, c.first.0);
@@ -278,8 +295,11 @@ impl Head {
         second_links: &[u16],
         work: &mut [u8],
     ) -> Head
-        requires { ⌜ (Ready plan self 8192 (length (now work))) × (StatesLent (plan .first) (now «first_states»)) × (ArcsLent (plan .second) (now «second_arcs»)) × (LinkedArcs (plan .second) (now «second_arcs») (now «second_heads») (now «second_links»)) ⌝ }
-        ensures { λ r. ⌜ EndsFirst plan self c (now («first_states» .entry)) (now («second_arcs» .entry)) (now («second_links» .entry)) (now (work .entry)) r (now (work .exit)) ⌝ }
+        requires { ⌜ (Ready plan self 8192 (length (now work))) × (StatesLent (plan .first) (now «first_states»))
+            × (ArcsLent (plan .second) (now «second_arcs»))
+            × (LinkedArcs (plan .second) (now «second_arcs») (now «second_heads») (now «second_links»)) ⌝ }
+        ensures { λ r. ⌜ EndsFirst plan self c (now («first_states» .entry)) (now («second_arcs» .entry))
+            (now («second_links» .entry)) (now (work .entry)) r (now (work .exit)) ⌝ }
     {
         if self.full {
             return self;
@@ -310,8 +330,11 @@ impl Head {
         second_states: &[u8],
         work: &mut [u8],
     ) -> Head
-        requires { ⌜ (Ready plan self 8192 (length (now work))) × (ArcsLent (plan .first) (now «first_arcs»)) × (StatesLent (plan .second) (now «second_states»)) × (LinkedArcs (plan .first) (now «first_arcs») (now «first_heads») (now «first_links»)) ⌝ }
-        ensures { λ r. ⌜ EndsSecond plan self c (now («first_arcs» .entry)) (now («first_links» .entry)) (now («second_states» .entry)) (now (work .entry)) r (now (work .exit)) ⌝ }
+        requires { ⌜ (Ready plan self 8192 (length (now work))) × (ArcsLent (plan .first) (now «first_arcs»))
+            × (StatesLent (plan .second) (now «second_states»))
+            × (LinkedArcs (plan .first) (now «first_arcs») (now «first_heads») (now «first_links»)) ⌝ }
+        ensures { λ r. ⌜ EndsSecond plan self c (now («first_arcs» .entry)) (now («first_links» .entry))
+            (now («second_states» .entry)) (now (work .entry)) r (now (work .exit)) ⌝ }
     {
         if self.full {
             return self;
@@ -337,8 +360,13 @@ impl Head {
         second_links: &[u16],
         work: &mut [u8],
     ) -> Head
-        requires { ⌜ (Ready plan self 67125248 (length (now work))) × (self .full ≡ false) × (Tables plan (now «first_states») (now «first_arcs») (now «second_states») (now «second_arcs»)) × (Indexed plan (now «first_arcs») (now «first_heads») (now «first_links») (now «second_arcs») (now «second_heads») (now «second_links»)) × (c ≡ vertexAt (vertexSize * self .taken) (now work)) ⌝ }
-        ensures { λ r. ⌜ TakesUp plan self (now («first_states» .entry)) (now («first_arcs» .entry)) (now («first_links» .entry)) (now («second_states» .entry)) (now («second_arcs» .entry)) (now («second_links» .entry)) (now (work .entry)) r (now (work .exit)) ⌝ }
+        requires { ⌜ (Ready plan self 67125248 (length (now work))) × (self .full ≡ false)
+            × (Tables plan (now «first_states») (now «first_arcs») (now «second_states») (now «second_arcs»))
+            × (Indexed plan (now «first_arcs») (now «first_heads») (now «first_links») (now «second_arcs»)
+            (now «second_heads») (now «second_links»)) × (c ≡ vertexAt (vertexSize * self .taken) (now work)) ⌝ }
+        ensures { λ r. ⌜ TakesUp plan self (now («first_states» .entry)) (now («first_arcs» .entry))
+            (now («first_links» .entry)) (now («second_states» .entry)) (now («second_arcs» .entry))
+            (now («second_links» .entry)) (now (work .entry)) r (now (work .exit)) ⌝ }
     {
         self = self.pass_both(
             plan,
@@ -391,8 +419,13 @@ impl Head {
         second_links: &[u16],
         work: &mut [u8],
     ) -> Head
-        requires { ⌜ (Ready plan self 67125248 (length (now work))) × (self .full ≡ false) × (Tables plan (now «first_states») (now «first_arcs») (now «second_states») (now «second_arcs»)) × (Indexed plan (now «first_arcs») (now «first_heads») (now «first_links») (now «second_arcs») (now «second_heads») (now «second_links»)) ⌝ }
-        ensures { λ r. ⌜ TakesUp plan self (now («first_states» .entry)) (now («first_arcs» .entry)) (now («first_links» .entry)) (now («second_states» .entry)) (now («second_arcs» .entry)) (now («second_links» .entry)) (now (work .entry)) r (now (work .exit)) ⌝ }
+        requires { ⌜ (Ready plan self 67125248 (length (now work))) × (self .full ≡ false)
+            × (Tables plan (now «first_states») (now «first_arcs») (now «second_states») (now «second_arcs»))
+            × (Indexed plan (now «first_arcs») (now «first_heads») (now «first_links») (now «second_arcs»)
+            (now «second_heads») (now «second_links»)) ⌝ }
+        ensures { λ r. ⌜ TakesUp plan self (now («first_states» .entry)) (now («first_arcs» .entry))
+            (now («first_links» .entry)) (now («second_states» .entry)) (now («second_arcs» .entry))
+            (now («second_links» .entry)) (now (work .entry)) r (now (work .exit)) ⌝ }
     {
         let c = load_vertex(work, VERTEX_SIZE * self.taken);
         let count = moves_out(

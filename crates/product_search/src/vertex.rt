@@ -92,7 +92,8 @@ fn find_vertex(work: &[u8], count: u16, bucket: usize, key: u32) -> Found
 
 // A state by its four bytes as a number, in the row behind the last, and at the head of its chain.
 fn append_vertex(work: &mut [u8], count: u16, bucket: usize, key: u32)
-    requires { ⌜ (count * vertexSize + vertexSize ≤ length (now work)) × (bucket * vertexSize + vertexSize ≤ length (now work)) × (count < 65535) ⌝ }
+    requires { ⌜ (count * vertexSize + vertexSize ≤ length (now work))
+        × (bucket * vertexSize + vertexSize ≤ length (now work)) × (count < 65535) ⌝ }
     ensures { λ _. ⌜ now (work .exit) ≡ appended vertexSize count bucket (toLe 4 key) (now (work .entry)) ⌝ }
 {
     let at = count as usize * VERTEX_SIZE;

@@ -78,7 +78,8 @@ pub fn find(
     shape: Shape,
     wanted: &[u8],
 ) -> Found
-    requires { ⌜ (count * stride ≤ length (now work)) × (bucket * stride + stride ≤ length (now work)) × (length (now wanted) + 4 ≤ stride) × Shaped shape (now wanted) ⌝ }
+    requires { ⌜ (count * stride ≤ length (now work)) × (bucket * stride + stride ≤ length (now work))
+        × (length (now wanted) + 4 ≤ stride) × Shaped shape (now wanted) ⌝ }
     ensures { λ r. ⌜ Finds stride count bucket shape (now (wanted .entry)) (now (work .entry)) r ⌝ }
 {
     let size = wanted.len();
@@ -108,7 +109,8 @@ pub fn find(
 
 // The record in the row behind the last, and at the head of its chain.
 fn append(work: &mut [u8], stride: usize, count: u16, bucket: usize, wanted: &[u8])
-    requires { ⌜ (count * stride + stride ≤ length (now work)) × (bucket * stride + stride ≤ length (now work)) × (length (now wanted) + 4 ≤ stride) × (count < 65535) ⌝ }
+    requires { ⌜ (count * stride + stride ≤ length (now work)) × (bucket * stride + stride ≤ length (now work))
+        × (length (now wanted) + 4 ≤ stride) × (count < 65535) ⌝ }
     ensures { λ _. ⌜ now (work .exit) ≡ appended stride count bucket (now (wanted .entry)) (now (work .entry)) ⌝ }
 {
     let size = wanted.len();
@@ -130,8 +132,10 @@ pub fn enter(
     shape: Shape,
     wanted: &[u8],
 ) -> Entered
-    requires { ⌜ (room * stride ≤ length (now work)) × (count ≤ room) × (bucket < room) × (length (now wanted) + 4 ≤ stride) × Shaped shape (now wanted) ⌝ }
-    ensures { λ r. ⌜ Enters stride count room bucket shape (now (wanted .entry)) (now (work .entry)) r (now (work .exit)) ⌝ }
+    requires { ⌜ (room * stride ≤ length (now work)) × (count ≤ room) × (bucket < room)
+        × (length (now wanted) + 4 ≤ stride) × Shaped shape (now wanted) ⌝ }
+    ensures { λ r. ⌜ Enters stride count room bucket shape (now (wanted .entry)) (now (work .entry)) r
+        (now (work .exit)) ⌝ }
 {
     match find(work, stride, count, bucket, shape, wanted) {
         Found::At(state) => Entered::At(state),

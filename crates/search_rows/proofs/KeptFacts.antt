@@ -70,7 +70,8 @@ snoc-place (z ∷ xs) y zero x e = inl e
 snoc-place (z ∷ xs) y (suc j) x e = elim (snoc-place xs y j x e) [ inl p ↦ inl p | inr p ↦ inr (ap suc (p .0), p .1) ]
 
 module _ {X : Type 0} where
-  -- where R says that the record of an element stands at a place: those of xs stand in w from place at on, as far as there is room
+  -- where R says that the record of an element stands at a place: those of xs stand in w from place at on, as far as
+  -- there is room
   abbrev pub Stand : (X → ℕ → List ℕ → Type 0) → ℕ → ℕ → List X → List ℕ → Type 0
   Stand R at room xs w = (j : ℕ) (x : X) → j < room → getElem? xs j ≡ some x → R x (at + stepSize * j) w
 

@@ -3,3 +3,4 @@ pub mod Meaning
 pub mod CodeFacts
 pub mod KeptFacts
 pub mod SearchFacts
+pub mod ProgressFacts

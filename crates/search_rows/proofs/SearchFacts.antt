@@ -1,4 +1,5 @@
--- A search over vertices, some of them taken up: it grows, and where all are taken up it has come to the reached vertices and their edges.
+-- A search over vertices, some of them taken up: it grows, and where all are taken up it has come to the reached
+-- vertices and their edges.
 use Prim.Native.Nat.{ℕ, _+_, _≤_}
 use mathlib.Core.Path.{_≡_, refl, sym, ap, _∙_}
 use mathlib.Core.Bool.{Bool}
@@ -36,7 +37,8 @@ module _ {C L : Type 0} (same : C → C → Bool) (decided : Decides same) where
       let q = ap (λ (z : Search C L). length (z .vertices)) (ap (noteAll same k s) e ∙ noteAll-append same decided k s xs ys) in
       omega (arith, l, q)
 
-  -- where all are taken up and there is room for them, the search has come to the reached vertices and the edges between them
+  -- where all are taken up and there is room for them, the search has come to the reached vertices and the edges
+  -- between them
   pub searched-whole : (out : C → List (L × C)) (starts : List C) (cap k : ℕ) → length (searched same out starts k .vertices) ≤ cap
       → length (searched same out starts k .vertices) ≤ k
       → searched same out starts k ≡ record { vertices = reached same out cap starts; edges = edges same out (reached same out cap starts) }

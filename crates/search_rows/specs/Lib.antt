@@ -3,3 +3,4 @@ pub mod Find
 pub mod Inserted
 pub mod Kept
 pub mod Comes
+pub mod Progress

@@ -1,5 +1,5 @@
--- The rule of the table of symbol numbers, at all of its entries by one computed test, symbols by ranges, and symbols as
--- they are compared.
+-- The rule of the table of symbol numbers, at all of its entries by one computed test, symbols by ranges, and symbols
+-- as they are compared.
 use mathlib.Core.Path.{_≡_, refl, sym, ap, subst, _∙_}
 use mathlib.Core.Bool.{Bool, true, false, not}
 use mathlib.Core.Option.{Option, none, some}

@@ -1,5 +1,5 @@
--- Facts of bytes that are tested all at once, as the number that they stand for: the highest bit of each byte, after the
--- same number was added to every byte, tells whether the byte is at least a threshold.
+-- Facts of bytes that are tested all at once, as the number that they stand for: the highest bit of each byte, after
+-- the same number was added to every byte, tells whether the byte is at least a threshold.
 use mathlib.Core.Path.{_≡_, refl, sym, ap, ap₂, _∙_}
 use mathlib.Core.Bool.{Bool, true, false}
 use mathlib.Core.List.{List, [], _∷_}

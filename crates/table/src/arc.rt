@@ -81,7 +81,8 @@ pub fn store_arc_weight(out: &mut [u8], at: usize, weight: u32)
 // The content of the arc at `from`, written as that of the arc at `to`.
 pub fn copy_content(arcs: &[u8], from: usize, out: &mut [u8], to: usize)
     requires { ⌜ (from + arcSize ≤ length (now arcs)) × (to + arcSize ≤ length (now out)) ⌝ }
-    ensures { λ _. ⌜ now (out .exit) ≡ splice (to + contentPlace) (part (from + contentPlace) contentSize (now (arcs .entry))) (now (out .entry)) ⌝ }
+    ensures { λ _. ⌜ now (out .exit) ≡ splice (to + contentPlace)
+        (part (from + contentPlace) contentSize (now (arcs .entry))) (now (out .entry)) ⌝ }
 {
     let place = from + CONTENT_PLACE;
     copy_into(out, to + CONTENT_PLACE, &arcs[place..place + CONTENT_SIZE]);

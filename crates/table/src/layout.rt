@@ -1,5 +1,5 @@
-// The sizes of records in bytes and where their parts stand, and the columns of a table's text, each written down here and
-// nowhere else.
+// The sizes of records in bytes and where their parts stand, and the columns of a table's text, each written down here
+// and nowhere else.
 
 // A state: its initial weight and its final weight.
 pub const WEIGHT_SIZE: usize = 5;
@@ -36,8 +36,8 @@ pub const VERTEX_SIZE: usize = 16;
 // The closing delays of a state, for each state of the table read.
 pub const DELAYS_SIZE: usize = 64;
 
-// Of each pair its least delay and, behind it, that of the pair turned round; behind those of four pairs, whether a final
-// state is reached.
+// Of each pair its least delay and, behind it, that of the pair turned round; behind those of four pairs, whether a
+// final state is reached.
 pub const PAIR_DELAYS: usize = 8;
 
 pub const OPPOSITE_PLACE: usize = 4;

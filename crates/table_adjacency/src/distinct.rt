@@ -33,8 +33,10 @@ fn mark_state(
     seen: &mut [u16],
     marks: &mut [u16],
 )
-    requires { ⌜ (Markable (counts .states) (counts .arcs) (now arcs) (now first) (now next)) × (Marked (counts .states) (counts .arcs) (now arcs) (now seen) (now marks)) × (q < counts .states) ⌝ }
-    ensures { λ _. ⌜ MarksState (counts .states) (counts .arcs) (now (arcs .entry)) q (now (seen .entry)) (now (marks .entry)) (now (seen .exit)) (now (marks .exit)) ⌝ }
+    requires { ⌜ (Markable (counts .states) (counts .arcs) (now arcs) (now first) (now next))
+        × (Marked (counts .states) (counts .arcs) (now arcs) (now seen) (now marks)) × (q < counts .states) ⌝ }
+    ensures { λ _. ⌜ MarksState (counts .states) (counts .arcs) (now (arcs .entry)) q (now (seen .entry))
+        (now (marks .entry)) (now (seen .exit)) (now (marks .exit)) ⌝ }
 {
     let state = q as usize;
     let mut j = first[state] as usize;
@@ -54,7 +56,8 @@ fn mark_states(
     seen: &mut [u16],
     marks: &mut [u16],
 )
-    requires { ⌜ (Markable (counts .states) (counts .arcs) (now arcs) (now first) (now next)) × (Marked (counts .states) (counts .arcs) (now arcs) (now seen) (now marks)) ⌝ }
+    requires { ⌜ (Markable (counts .states) (counts .arcs) (now arcs) (now first) (now next))
+        × (Marked (counts .states) (counts .arcs) (now arcs) (now seen) (now marks)) ⌝ }
     ensures { λ _. ⌜ MarksAll (counts .arcs) (now (arcs .entry)) (now (marks .entry)) (now (marks .exit)) ⌝ }
 {
     let mut q: usize = 0;
@@ -66,8 +69,10 @@ fn mark_states(
 
 // The arc with number `j`, where it is marked, in front of the chain of its source.
 fn link_arc(arcs: &[u8], j: usize, first: &mut [u16], next: &mut [u16])
-    requires { ⌜ (j < 8192) × (arcSize * j + arcSize ≤ length (now arcs)) × (sourceOf (now arcs) j < length (now first)) × (j < length (now next)) ⌝ }
-    ensures { λ _. ⌜ LinksArc (now (arcs .entry)) j (now (first .entry)) (now (next .entry)) (now (first .exit)) (now (next .exit)) ⌝ }
+    requires { ⌜ (j < 8192) × (arcSize * j + arcSize ≤ length (now arcs)) × (sourceOf (now arcs) j < length (now first))
+        × (j < length (now next)) ⌝ }
+    ensures { λ _. ⌜ LinksArc (now (arcs .entry)) j (now (first .entry)) (now (next .entry)) (now (first .exit))
+        (now (next .exit)) ⌝ }
 {
     if next[j] == 0 {
         return;
@@ -80,7 +85,8 @@ fn link_arc(arcs: &[u8], j: usize, first: &mut [u16], next: &mut [u16])
 // All marked arcs, from the last on, so that each chain has its arcs in the order of the records.
 fn link_arcs(counts: Counts, arcs: &[u8], first: &mut [u16], next: &mut [u16])
     requires { ⌜ Chainable (counts .states) (counts .arcs) (now arcs) (length (now first)) (length (now next)) ⌝ }
-    ensures { λ _. ⌜ LinksAll (counts .states) (counts .arcs) (now (arcs .entry)) (now (next .entry)) (now (first .exit)) (now (next .exit)) ⌝ }
+    ensures { λ _. ⌜ LinksAll (counts .states) (counts .arcs) (now (arcs .entry)) (now (next .entry))
+        (now (first .exit)) (now (next .exit)) ⌝ }
 {
     fill(first, counts.arcs as u16);
     let mut j = counts.arcs;
@@ -100,8 +106,10 @@ pub fn link_distinct(
     heads: &mut [u16],
     marks: &mut [u16],
 )
-    requires { ⌜ (Markable (counts .states) (counts .arcs) (now arcs) (now first) (now next)) × (Chainable (counts .states) (counts .arcs) (now arcs) (length (now heads)) (length (now marks))) ⌝ }
-    ensures { λ _. ⌜ LinksDistinct (counts .states) (counts .arcs) (now (arcs .entry)) (now (heads .exit)) (now (marks .exit)) ⌝ }
+    requires { ⌜ (Markable (counts .states) (counts .arcs) (now arcs) (now first) (now next))
+        × (Chainable (counts .states) (counts .arcs) (now arcs) (length (now heads)) (length (now marks))) ⌝ }
+    ensures { λ _. ⌜ LinksDistinct (counts .states) (counts .arcs) (now (arcs .entry)) (now (heads .exit))
+        (now (marks .exit)) ⌝ }
 {
     let mut seen = [0u16; 1024];
     mark_states(counts, arcs, first, next, &mut seen, marks);

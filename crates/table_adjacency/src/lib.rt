@@ -21,7 +21,8 @@ pub fn fill(places: &mut [u16], v: u16)
 // The chains of all states. They are made from the last arc on, so that each has its arcs in the order of the records.
 pub fn chain_arcs(counts: Counts, arcs: &[u8], first: &mut [u16], next: &mut [u16])
     requires { ⌜ Chainable (counts .states) (counts .arcs) (now arcs) (length (now first)) (length (now next)) ⌝ }
-    ensures { λ _. ⌜ Chained (counts .states) (counts .arcs) (now (arcs .entry)) (now (first .exit)) (now (next .exit)) ⌝ }
+    ensures { λ _. ⌜ Chained (counts .states) (counts .arcs) (now (arcs .entry)) (now (first .exit))
+        (now (next .exit)) ⌝ }
 {
     fill(first, counts.arcs as u16);
     let mut j = counts.arcs;

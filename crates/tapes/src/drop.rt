@@ -27,7 +27,9 @@ ghost use Rattle.intersect_room.specs.Room.{lentSpace};
 // The table in `states` and `arcs` without the tapes that the mask marks, where it stands: a step of a join.
 pub fn drop_in_place(counts: Counts, mask: u8, states: &[u8], arcs: &mut [u8]) -> Counts
     requires { ⌜ Droppable (lent counts (now states) (now arcs)) mask ⌝ }
-    ensures { λ r. ⌜ madeOf (ok (countsAs r)) (now (states .entry)) (now (arcs .exit)) ≡ dropStep (lent counts (now (states .entry)) (now (arcs .entry))) (inMask mask) (slicesOf (now (states .entry)) (now (arcs .entry))) ⌝ }
+    ensures { λ r. ⌜ madeOf (ok (countsAs r)) (now (states .entry)) (now (arcs .exit))
+        ≡ dropStep (lent counts (now (states .entry)) (now (arcs .entry))) (inMask mask)
+        (slicesOf (now (states .entry)) (now (arcs .entry))) ⌝ }
 {
     let mut kept = [0u8; 8];
     let used = tapes_left(mask, counts.tapes, &mut kept);
@@ -60,7 +62,8 @@ fn judge_drop(
     lent_states: usize,
     lent_arcs: usize,
 ) -> Judged
-    ensures { λ r. ⌜ judgedAs r ≡ forget (dropAnswer (lent counts (now (states .entry)) (now (arcs .entry))) mask (lentSpace «lent_states» «lent_arcs»)) ⌝ }
+    ensures { λ r. ⌜ judgedAs r ≡ forget (dropAnswer (lent counts (now (states .entry)) (now (arcs .entry))) mask
+        (lentSpace «lent_states» «lent_arcs»)) ⌝ }
 {
     let judged = judge(counts, states, arcs);
     let Judged::Fine = judged else {
@@ -81,14 +84,19 @@ fn drop_copy(
     out_states: &mut [u8],
     out_arcs: &mut [u8],
 ) -> Counts
-    requires { ⌜ Droppable (lent counts (now states) (now arcs)) mask × (stateSize * counts .states ≤ length (now «out_states»)) × (arcSize * counts .arcs ≤ length (now «out_arcs»)) ⌝ }
-    ensures { λ r. ⌜ madeOf (ok (countsAs r)) (now («out_states» .exit)) (now («out_arcs» .exit)) ≡ put (ok (without (inMask mask) (tableOf (lent counts (now (states .entry)) (now (arcs .entry)))))) (slicesOf (now («out_states» .entry)) (now («out_arcs» .entry))) ⌝ }
+    requires { ⌜ Droppable (lent counts (now states) (now arcs)) mask
+        × (stateSize * counts .states ≤ length (now «out_states»))
+        × (arcSize * counts .arcs ≤ length (now «out_arcs»)) ⌝ }
+    ensures { λ r. ⌜ madeOf (ok (countsAs r)) (now («out_states» .exit)) (now («out_arcs» .exit))
+        ≡ put (ok (without (inMask mask) (tableOf (lent counts (now (states .entry)) (now (arcs .entry))))))
+        (slicesOf (now («out_states» .entry)) (now («out_arcs» .entry))) ⌝ }
 {
     copy_table(counts, states, arcs, out_states, 0, out_arcs, 0);
     drop_in_place(counts, mask, out_states, out_arcs)
 }
 
-// Dropping: the table in `states` and `arcs` without the tapes that the mask marks, tape t by bit t - 1, into `out_states` and `out_arcs`.
+// Dropping: the table in `states` and `arcs` without the tapes that the mask marks, tape t by bit t - 1, into
+// `out_states` and `out_arcs`.
 pub fn drop_tapes(
     counts: Counts,
     states: &[u8],
@@ -97,7 +105,9 @@ pub fn drop_tapes(
     out_states: &mut [u8],
     out_arcs: &mut [u8],
 ) -> TableAnswer
-    ensures { λ r. ⌜ madeOf (tableAs r) (now («out_states» .exit)) (now («out_arcs» .exit)) ≡ dropOutcome (lent counts (now (states .entry)) (now (arcs .entry))) mask (slicesOf (now («out_states» .entry)) (now («out_arcs» .entry))) ⌝ }
+    ensures { λ r. ⌜ madeOf (tableAs r) (now («out_states» .exit)) (now («out_arcs» .exit))
+        ≡ dropOutcome (lent counts (now (states .entry)) (now (arcs .entry))) mask
+        (slicesOf (now («out_states» .entry)) (now («out_arcs» .entry))) ⌝ }
 {
     let judged = judge_drop(
         counts,

@@ -55,7 +55,8 @@ fn judge_choice(
     lent_states: usize,
     lent_arcs: usize,
 ) -> Judged
-    ensures { λ r. ⌜ judgedAs r ≡ forget (projectAnswer (lent counts (now (states .entry)) (now (arcs .entry))) (now (tapes .entry)) (lentSpace «lent_states» «lent_arcs»)) ⌝ }
+    ensures { λ r. ⌜ judgedAs r ≡ forget (projectAnswer (lent counts (now (states .entry)) (now (arcs .entry)))
+        (now (tapes .entry)) (lentSpace «lent_states» «lent_arcs»)) ⌝ }
 {
     let judged = judge(counts, states, arcs);
     let Judged::Fine = judged else {
@@ -79,8 +80,12 @@ fn choose_copy(
     out_states: &mut [u8],
     out_arcs: &mut [u8],
 ) -> Counts
-    requires { ⌜ Choosable (lent counts (now states) (now arcs)) (now tapes) × (stateSize * counts .states ≤ length (now «out_states»)) × (arcSize * counts .arcs ≤ length (now «out_arcs»)) ⌝ }
-    ensures { λ r. ⌜ madeOf (ok (countsAs r)) (now («out_states» .exit)) (now («out_arcs» .exit)) ≡ put (ok (projected (now (tapes .entry)) (tableOf (lent counts (now (states .entry)) (now (arcs .entry)))))) (slicesOf (now («out_states» .entry)) (now («out_arcs» .entry))) ⌝ }
+    requires { ⌜ Choosable (lent counts (now states) (now arcs)) (now tapes)
+        × (stateSize * counts .states ≤ length (now «out_states»))
+        × (arcSize * counts .arcs ≤ length (now «out_arcs»)) ⌝ }
+    ensures { λ r. ⌜ madeOf (ok (countsAs r)) (now («out_states» .exit)) (now («out_arcs» .exit))
+        ≡ put (ok (projected (now (tapes .entry)) (tableOf (lent counts (now (states .entry)) (now (arcs .entry))))))
+        (slicesOf (now («out_states» .entry)) (now («out_arcs» .entry))) ⌝ }
 {
     copy_table(counts, states, arcs, out_states, 0, out_arcs, 0);
     choose_arcs(counts.arcs, tapes, tapes.len(), out_arcs);
@@ -91,7 +96,8 @@ fn choose_copy(
     }
 }
 
-// Choosing: the table in `states` and `arcs` on the tapes of a list, in its order and as often as listed, into `out_states` and `out_arcs`.
+// Choosing: the table in `states` and `arcs` on the tapes of a list, in its order and as often as listed, into
+// `out_states` and `out_arcs`.
 pub fn project(
     counts: Counts,
     states: &[u8],
@@ -100,7 +106,9 @@ pub fn project(
     out_states: &mut [u8],
     out_arcs: &mut [u8],
 ) -> TableAnswer
-    ensures { λ r. ⌜ madeOf (tableAs r) (now («out_states» .exit)) (now («out_arcs» .exit)) ≡ projectOutcome (lent counts (now (states .entry)) (now (arcs .entry))) (now (tapes .entry)) (slicesOf (now («out_states» .entry)) (now («out_arcs» .entry))) ⌝ }
+    ensures { λ r. ⌜ madeOf (tableAs r) (now («out_states» .exit)) (now («out_arcs» .exit))
+        ≡ projectOutcome (lent counts (now (states .entry)) (now (arcs .entry))) (now (tapes .entry))
+        (slicesOf (now («out_states» .entry)) (now («out_arcs» .entry))) ⌝ }
 {
     let judged = judge_choice(
         counts,

@@ -31,7 +31,10 @@ fn judge_union(
     lent_states: usize,
     lent_arcs: usize,
 ) -> Judged
-    ensures { λ r. ⌜ judgedAs r ≡ forget (unionAnswer (lent first (now («first_states» .entry)) (now («first_arcs» .entry))) (lent second (now («second_states» .entry)) (now («second_arcs» .entry))) (lentSpace «lent_states» «lent_arcs»)) ⌝ }
+    ensures { λ r. ⌜ judgedAs r ≡ forget (unionAnswer
+        (lent first (now («first_states» .entry)) (now («first_arcs» .entry)))
+        (lent second (now («second_states» .entry)) (now («second_arcs» .entry)))
+        (lentSpace «lent_states» «lent_arcs»)) ⌝ }
 {
     let one = judge(first, first_states, first_arcs);
     let Judged::Fine = one else {
@@ -59,8 +62,13 @@ fn append(
     out_states: &mut [u8],
     out_arcs: &mut [u8],
 ) -> Counts
-    requires { ⌜ Appends (lent first (now «first_states») (now «first_arcs»)) (lent second (now «second_states») (now «second_arcs»)) (length (now «out_states»)) (length (now «out_arcs»)) ⌝ }
-    ensures { λ r. ⌜ madeOf (ok (countsAs r)) (now («out_states» .exit)) (now («out_arcs» .exit)) ≡ put (ok (appended (tableOf (lent first (now («first_states» .entry)) (now («first_arcs» .entry)))) (tableOf (lent second (now («second_states» .entry)) (now («second_arcs» .entry)))))) (slicesOf (now («out_states» .entry)) (now («out_arcs» .entry))) ⌝ }
+    requires { ⌜ Appends (lent first (now «first_states») (now «first_arcs»))
+        (lent second (now «second_states») (now «second_arcs»)) (length (now «out_states»))
+        (length (now «out_arcs»)) ⌝ }
+    ensures { λ r. ⌜ madeOf (ok (countsAs r)) (now («out_states» .exit)) (now («out_arcs» .exit))
+        ≡ put (ok (appended (tableOf (lent first (now («first_states» .entry)) (now («first_arcs» .entry))))
+        (tableOf (lent second (now («second_states» .entry)) (now («second_arcs» .entry))))))
+        (slicesOf (now («out_states» .entry)) (now («out_arcs» .entry))) ⌝ }
 {
     copy_table(first, first_states, first_arcs, out_states, 0, out_arcs, 0);
     let state_at = STATE_SIZE * first.states;
@@ -93,7 +101,10 @@ pub fn union(
     out_states: &mut [u8],
     out_arcs: &mut [u8],
 ) -> TableAnswer
-    ensures { λ r. ⌜ madeOf (tableAs r) (now («out_states» .exit)) (now («out_arcs» .exit)) ≡ unionOutcome (lent first (now («first_states» .entry)) (now («first_arcs» .entry))) (lent second (now («second_states» .entry)) (now («second_arcs» .entry))) (slicesOf (now («out_states» .entry)) (now («out_arcs» .entry))) ⌝ }
+    ensures { λ r. ⌜ madeOf (tableAs r) (now («out_states» .exit)) (now («out_arcs» .exit))
+        ≡ unionOutcome (lent first (now («first_states» .entry)) (now («first_arcs» .entry)))
+        (lent second (now («second_states» .entry)) (now («second_arcs» .entry)))
+        (slicesOf (now («out_states» .entry)) (now («out_arcs» .entry))) ⌝ }
 {
     let judged = judge_union(
         first,

@@ -24,7 +24,8 @@ fn label_place(tape: u8) -> usize
 // The labels on the first `used` tapes of a list, one after the other over the front of `out`.
 fn copy_labels(labels: &[u8], tapes: &[u8], used: usize, out: &mut [u8])
     requires { ⌜ Choice (now tapes) used × (length (now labels) ≡ labelsSize) × (length (now out) ≡ labelsSize) ⌝ }
-    ensures { λ _. ⌜ now (out .exit) ≡ splice 0 (chosenLabels (take used (now (tapes .entry))) (now (labels .entry))) (now (out .entry)) ⌝ }
+    ensures { λ _. ⌜ now (out .exit) ≡ splice 0 (chosenLabels (take used (now (tapes .entry))) (now (labels .entry)))
+        (now (out .entry)) ⌝ }
 {
     let mut left = used;
     let mut k: usize = 0;
@@ -41,7 +42,8 @@ fn copy_labels(labels: &[u8], tapes: &[u8], used: usize, out: &mut [u8])
 // The bytes of these labels of the arc at `at`, with zeros behind them.
 fn labels_at(arcs: &[u8], at: usize, tapes: &[u8], used: usize) -> [u8; LABELS_SIZE]
     requires { ⌜ Choice (now tapes) used × (at + arcSize ≤ length (now arcs)) ⌝ }
-    ensures { λ r. ⌜ r ≡ splice 0 (chosenLabels (take used (now (tapes .entry))) (part (at + labelsPlace) labelsSize (now (arcs .entry)))) (zeros labelsSize) ⌝ }
+    ensures { λ r. ⌜ r ≡ splice 0 (chosenLabels (take used (now (tapes .entry)))
+        (part (at + labelsPlace) labelsSize (now (arcs .entry)))) (zeros labelsSize) ⌝ }
 {
     let mut labels = [0u8; LABELS_SIZE];
     let from = at + LABELS_PLACE;
@@ -52,7 +54,8 @@ fn labels_at(arcs: &[u8], at: usize, tapes: &[u8], used: usize) -> [u8; LABELS_S
 // The record of the arc at `at` with these labels alone.
 fn choose_arc(arcs: &mut [u8], at: usize, tapes: &[u8], used: usize)
     requires { ⌜ Choice (now tapes) used × (at + arcSize ≤ length (now arcs)) ⌝ }
-    ensures { λ _. ⌜ now (arcs .exit) ≡ splice at (chosenArc (take used (now (tapes .entry))) (part at arcSize (now (arcs .entry)))) (now (arcs .entry)) ⌝ }
+    ensures { λ _. ⌜ now (arcs .exit) ≡ splice at (chosenArc (take used (now (tapes .entry)))
+        (part at arcSize (now (arcs .entry)))) (now (arcs .entry)) ⌝ }
 {
     let labels = labels_at(arcs, at, tapes, used);
     copy_into(arcs, at + LABELS_PLACE, &labels);
@@ -61,7 +64,8 @@ fn choose_arc(arcs: &mut [u8], at: usize, tapes: &[u8], used: usize)
 // The first `count` records of arcs, each with the labels on the first `used` tapes of a list alone.
 pub fn choose_arcs(count: usize, tapes: &[u8], used: usize, arcs: &mut [u8])
     requires { ⌜ Choice (now tapes) used × (arcSize * count ≤ length (now arcs)) ⌝ }
-    ensures { λ _. ⌜ now (arcs .exit) ≡ splice 0 (rewritten (chosenArc (take used (now (tapes .entry)))) count (now (arcs .entry))) (now (arcs .entry)) ⌝ }
+    ensures { λ _. ⌜ now (arcs .exit) ≡ splice 0 (rewritten (chosenArc (take used (now (tapes .entry)))) count
+        (now (arcs .entry))) (now (arcs .entry)) ⌝ }
 {
     let mut left = count;
     let mut at: usize = 0;

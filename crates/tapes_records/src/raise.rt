@@ -15,7 +15,8 @@ ghost use Rattle.automata.specs.Layout.{arcSize};
 // Both states of the arc at `at`.
 fn raise_arc(arcs: &mut [u8], at: usize, by: u16)
     requires { ⌜ (at + arcSize ≤ length (now arcs)) × Raisable by (part at arcSize (now arcs)) ⌝ }
-    ensures { λ _. ⌜ now (arcs .exit) ≡ splice at (raisedArc by (part at arcSize (now (arcs .entry)))) (now (arcs .entry)) ⌝ }
+    ensures { λ _. ⌜ now (arcs .exit) ≡ splice at (raisedArc by (part at arcSize (now (arcs .entry))))
+        (now (arcs .entry)) ⌝ }
 {
     let source = ResultState(by + source_at(arcs, at).0);
     let target = ResultState(by + target_at(arcs, at).0);
@@ -25,7 +26,8 @@ fn raise_arc(arcs: &mut [u8], at: usize, by: u16)
 // The states of `count` arcs from a place on.
 pub fn raise_arcs(arcs: &mut [u8], from: usize, count: usize, by: u16)
     requires { ⌜ (from + arcSize * count ≤ length (now arcs)) × AllRaisable by count (drop from (now arcs)) ⌝ }
-    ensures { λ _. ⌜ now (arcs .exit) ≡ splice from (rewritten (raisedArc by) count (drop from (now (arcs .entry)))) (now (arcs .entry)) ⌝ }
+    ensures { λ _. ⌜ now (arcs .exit) ≡ splice from (rewritten (raisedArc by) count (drop from (now (arcs .entry))))
+        (now (arcs .entry)) ⌝ }
 {
     let mut left = count;
     let mut at = from;

@@ -40,8 +40,10 @@ pub fn copy_table(
     out_arcs: &mut [u8],
     arc_at: usize,
 )
-    requires { ⌜ Copies (lent counts (now states) (now arcs)) «state_at» «arc_at» (length (now «out_states»)) (length (now «out_arcs»)) ⌝ }
-    ensures { λ _. ⌜ Copied (lent counts (now (states .entry)) (now (arcs .entry))) «state_at» «arc_at» (now («out_states» .entry)) (now («out_arcs» .entry)) (now («out_states» .exit)) (now («out_arcs» .exit)) ⌝ }
+    requires { ⌜ Copies (lent counts (now states) (now arcs)) «state_at» «arc_at» (length (now «out_states»))
+        (length (now «out_arcs»)) ⌝ }
+    ensures { λ _. ⌜ Copied (lent counts (now (states .entry)) (now (arcs .entry))) «state_at» «arc_at»
+        (now («out_states» .entry)) (now («out_arcs» .entry)) (now («out_states» .exit)) (now («out_arcs» .exit)) ⌝ }
 {
     let state_end = STATE_SIZE * counts.states;
     copy_into(out_states, state_at, &states[0..state_end]);

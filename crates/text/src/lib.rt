@@ -36,9 +36,11 @@ fn answer_of(header: HeaderLine) -> TableAnswer
     }
 }
 
-// The call `read`: the table that a text describes, as records in the slices lent. The whole text is judged before a record is stored.
+// The call `read`: the table that a text describes, as records in the slices lent. The whole text is judged before a
+// record is stored.
 pub fn read(text: &[u8], states: &mut [u8], arcs: &mut [u8]) -> TableAnswer
-    ensures { λ r. ⌜ madeOf (tableAs r) (now (states .exit)) (now (arcs .exit)) ≡ readOutcome (now (text .entry)) (slicesOf (now (states .entry)) (now (arcs .entry))) ⌝ }
+    ensures { λ r. ⌜ madeOf (tableAs r) (now (states .exit)) (now (arcs .exit))
+        ≡ readOutcome (now (text .entry)) (slicesOf (now (states .entry)) (now (arcs .entry))) ⌝ }
 {
     let judged = judge_text(text, states.len() / STATE_SIZE, arcs.len() / ARC_SIZE);
     let answer = answer_of(judged);
@@ -75,16 +77,19 @@ fn refused_by(judged: Judged) -> WriteAnswer
 // How many bytes the text of a table has.
 fn text_length(counts: Counts) -> usize
     requires { ⌜ (counts .tapes ≤ 8) × ((counts .states ≤ 1024) × (counts .arcs ≤ 8192)) ⌝ }
-    ensures { λ r. ⌜ r ≡ headerWidth + counts .states * stateWidth + counts .arcs * (arcWidth + counts .tapes * labelWidth) ⌝ }
+    ensures { λ r. ⌜ r ≡ headerWidth + counts .states * stateWidth + counts .arcs
+        * (arcWidth + counts .tapes * labelWidth) ⌝ }
 {
     HEADER_WIDTH
         + counts.states * STATE_WIDTH
         + counts.arcs * (ARC_WIDTH + counts.tapes * LABEL_WIDTH)
 }
 
-// The call `write`: the text of a table in memory, in the output lent. The table is judged first, then the room in the output.
+// The call `write`: the text of a table in memory, in the output lent. The table is judged first, then the room in the
+// output.
 pub fn write(counts: Counts, states: &[u8], arcs: &[u8], output: &mut [u8]) -> WriteAnswer
-    ensures { λ r. ⌜ writtenOf (writtenAs r) (now (output .exit)) ≡ writeOutcome (lent counts (now (states .entry)) (now (arcs .entry))) (now (output .entry)) ⌝ }
+    ensures { λ r. ⌜ writtenOf (writtenAs r) (now (output .exit))
+        ≡ writeOutcome (lent counts (now (states .entry)) (now (arcs .entry))) (now (output .entry)) ⌝ }
 {
     let judged = judge(counts, states, arcs);
     let Judged::Fine = judged else {

@@ -24,7 +24,8 @@ ghost use Rattle.text_lines.specs.Lines.{arcParts, readArcLine, firstArc
 
 // The parts of an arc line side by side.
 fn judge_arc(source: Number, target: Number, weight: Number, labels: Judged, end: Judged) -> Judged
-    ensures { λ r. ⌜ judgedAs r ≡ forget (arcParts (numberAs source) (numberAs target) (numberAs weight) (judgedAs labels) (judgedAs end)) ⌝ }
+    ensures { λ r. ⌜ judgedAs r ≡ forget (arcParts (numberAs source) (numberAs target) (numberAs weight)
+        (judgedAs labels) (judgedAs end)) ⌝ }
 {
     let from_weight = both(judge_number(weight), labels);
     let from_target = both(judge_number(target), from_weight);

@@ -62,7 +62,8 @@ fn print_state(bytes: &[u8], out: &mut [u8], at: usize)
 // The lines of so many states.
 pub fn print_states(states: &[u8], count: usize, out: &mut [u8], start: usize)
     requires { ⌜ (count * stateSize ≤ length (now states)) × (start + count * stateWidth ≤ length (now out)) ⌝ }
-    ensures { λ _. ⌜ now (out .exit) ≡ splice start (recoded lineOfState stateSize count (now (states .entry))) (now (out .entry)) ⌝ }
+    ensures { λ _. ⌜ now (out .exit) ≡ splice start (recoded lineOfState stateSize count (now (states .entry)))
+        (now (out .entry)) ⌝ }
 {
     let mut left = count;
     let mut at = 0;
@@ -100,7 +101,8 @@ fn print_label(bytes: &[u8], out: &mut [u8], at: usize)
 // The columns of the labels on so many tapes.
 fn print_labels(records: &[u8], tapes: usize, out: &mut [u8], start: usize)
     requires { ⌜ (tapes * labelSize ≤ length (now records)) × (start + tapes * labelWidth ≤ length (now out)) ⌝ }
-    ensures { λ _. ⌜ now (out .exit) ≡ splice start (recoded columnsOfLabel labelSize tapes (now (records .entry))) (now (out .entry)) ⌝ }
+    ensures { λ _. ⌜ now (out .exit) ≡ splice start (recoded columnsOfLabel labelSize tapes (now (records .entry)))
+        (now (out .entry)) ⌝ }
 {
     let mut left = tapes;
     let mut at = 0;
@@ -135,7 +137,8 @@ fn print_numbers(bytes: &[u8], out: &mut [u8], at: usize)
 
 // The line of the arc in a record, of a table with so many tapes.
 fn print_arc(bytes: &[u8], tapes: usize, out: &mut [u8], at: usize)
-    requires { ⌜ ((length (now bytes) ≡ arcSize) × (tapes ≤ 8)) × (at + (arcWidth + tapes * labelWidth) ≤ length (now out)) ⌝ }
+    requires { ⌜ ((length (now bytes) ≡ arcSize) × (tapes ≤ 8))
+        × (at + (arcWidth + tapes * labelWidth) ≤ length (now out)) ⌝ }
     ensures { λ _. ⌜ now (out .exit) ≡ splice at (lineOfArc tapes (now (bytes .entry))) (now (out .entry)) ⌝ }
 {
     print_numbers(bytes, out, at);
@@ -150,8 +153,10 @@ fn print_arc(bytes: &[u8], tapes: usize, out: &mut [u8], at: usize)
 
 // The lines of so many arcs.
 pub fn print_arcs(arcs: &[u8], count: usize, tapes: usize, out: &mut [u8], start: usize)
-    requires { ⌜ ((count * arcSize ≤ length (now arcs)) × (tapes ≤ 8)) × (start + count * (arcWidth + tapes * labelWidth) ≤ length (now out)) ⌝ }
-    ensures { λ _. ⌜ now (out .exit) ≡ splice start (recoded (lineOfArc tapes) arcSize count (now (arcs .entry))) (now (out .entry)) ⌝ }
+    requires { ⌜ ((count * arcSize ≤ length (now arcs)) × (tapes ≤ 8))
+        × (start + count * (arcWidth + tapes * labelWidth) ≤ length (now out)) ⌝ }
+    ensures { λ _. ⌜ now (out .exit) ≡ splice start (recoded (lineOfArc tapes) arcSize count (now (arcs .entry)))
+        (now (out .entry)) ⌝ }
 {
     let width = ARC_WIDTH + tapes * LABEL_WIDTH;
     let mut left = count;
@@ -178,8 +183,11 @@ pub fn print_header(counts: Counts, out: &mut [u8])
 
 // The text of a table that was judged, over the front of the output.
 pub fn write_table(counts: Counts, states: &[u8], arcs: &[u8], output: &mut [u8])
-    requires { ⌜ Sound (lent counts (now states) (now arcs)) × (headerWidth + counts .states * stateWidth + counts .arcs * (arcWidth + counts .tapes * labelWidth) ≤ length (now output)) ⌝ }
-    ensures { λ _. ⌜ now (output .exit) ≡ overwrite (writeTable (tableOf (lent counts (now (states .entry)) (now (arcs .entry))))) (now (output .entry)) ⌝ }
+    requires { ⌜ Sound (lent counts (now states) (now arcs))
+        × (headerWidth + counts .states * stateWidth + counts .arcs * (arcWidth + counts .tapes * labelWidth)
+        ≤ length (now output)) ⌝ }
+    ensures { λ _. ⌜ now (output .exit) ≡ overwrite
+        (writeTable (tableOf (lent counts (now (states .entry)) (now (arcs .entry))))) (now (output .entry)) ⌝ }
 {
     print_header(counts, output);
     print_states(states, counts.states, output, HEADER_WIDTH);

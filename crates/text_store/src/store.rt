@@ -42,7 +42,8 @@ fn store_state_line(line: &[u8], states: &mut [u8], at: usize)
 // The records of so many state lines from a place of a text.
 pub fn store_states(text: &[u8], start: usize, count: usize, states: &mut [u8])
     requires { ⌜ (start + count * stateWidth ≤ length (now text)) × (count * stateSize ≤ length (now states)) ⌝ }
-    ensures { λ _. ⌜ now (states .exit) ≡ splice 0 (recoded stateOfLine stateWidth count (drop start (now (text .entry)))) (now (states .entry)) ⌝ }
+    ensures { λ _. ⌜ now (states .exit) ≡ splice 0
+        (recoded stateOfLine stateWidth count (drop start (now (text .entry)))) (now (states .entry)) ⌝ }
 {
     let mut left = count;
     let mut at = start;
@@ -70,7 +71,8 @@ fn store_label(column: &[u8], arcs: &mut [u8], at: usize)
 // The records of the labels on so many tapes.
 fn store_labels(labels: &[u8], tapes: usize, arcs: &mut [u8], start: usize)
     requires { ⌜ (tapes * labelWidth ≤ length (now labels)) × (start + tapes * labelSize ≤ length (now arcs)) ⌝ }
-    ensures { λ _. ⌜ now (arcs .exit) ≡ splice start (recoded labelOfColumns labelWidth tapes (now (labels .entry))) (now (arcs .entry)) ⌝ }
+    ensures { λ _. ⌜ now (arcs .exit) ≡ splice start (recoded labelOfColumns labelWidth tapes (now (labels .entry)))
+        (now (arcs .entry)) ⌝ }
 {
     let mut left = tapes;
     let mut at = 0;
@@ -108,7 +110,8 @@ fn store_no_labels(arcs: &mut [u8], at: usize)
 
 // The record of the arc in a line that was judged.
 fn store_arc_line(line: &[u8], tapes: usize, arcs: &mut [u8], at: usize)
-    requires { ⌜ (length (now line) ≡ arcWidth + tapes * labelWidth) × ((tapes ≤ 8) × (at + arcSize ≤ length (now arcs))) ⌝ }
+    requires { ⌜ (length (now line) ≡ arcWidth + tapes * labelWidth)
+        × ((tapes ≤ 8) × (at + arcSize ≤ length (now arcs))) ⌝ }
     ensures { λ _. ⌜ now (arcs .exit) ≡ splice at (arcOfLine tapes (now (line .entry))) (now (arcs .entry)) ⌝ }
 {
     store_numbers(line, arcs, at);
@@ -118,8 +121,10 @@ fn store_arc_line(line: &[u8], tapes: usize, arcs: &mut [u8], at: usize)
 
 // The records of so many arc lines from a place of a text.
 pub fn store_arcs(text: &[u8], start: usize, count: usize, tapes: usize, arcs: &mut [u8])
-    requires { ⌜ (start + count * (arcWidth + tapes * labelWidth) ≤ length (now text)) × ((tapes ≤ 8) × (count * arcSize ≤ length (now arcs))) ⌝ }
-    ensures { λ _. ⌜ now (arcs .exit) ≡ splice 0 (recoded (arcOfLine tapes) (arcWidth + tapes * labelWidth) count (drop start (now (text .entry)))) (now (arcs .entry)) ⌝ }
+    requires { ⌜ (start + count * (arcWidth + tapes * labelWidth) ≤ length (now text))
+        × ((tapes ≤ 8) × (count * arcSize ≤ length (now arcs))) ⌝ }
+    ensures { λ _. ⌜ now (arcs .exit) ≡ splice 0 (recoded (arcOfLine tapes) (arcWidth + tapes * labelWidth) count
+        (drop start (now (text .entry)))) (now (arcs .entry)) ⌝ }
 {
     let width = ARC_WIDTH + tapes * LABEL_WIDTH;
     let mut left = count;

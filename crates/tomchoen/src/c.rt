@@ -27,7 +27,9 @@ ghost use Rattle.c_answers.specs.Words.{tellsMade, toldMade, tellsBuilt, toldBu
 // Reads the text of a table.
 #[no_mangle]
 pub extern "C" fn tomchoen_read(text: &[u8], out_states: &mut [u8], out_arcs: &mut [u8]) -> u64
-    ensures { λ r. ⌜ tellsMade r (now («out_states» .exit)) (now («out_arcs» .exit)) ≡ toldMade (readOutcome (now (text .entry)) (slicesOf (now («out_states» .entry)) (now («out_arcs» .entry)))) ⌝ }
+    ensures { λ r. ⌜ tellsMade r (now («out_states» .exit)) (now («out_arcs» .exit))
+        ≡ toldMade (readOutcome (now (text .entry))
+        (slicesOf (now («out_states» .entry)) (now («out_arcs» .entry)))) ⌝ }
 {
     let answer = text::read(text, out_states, out_arcs);
     table_word(answer)
@@ -43,7 +45,9 @@ pub extern "C" fn tomchoen_write(
     arc_bytes: &[u8],
     output: &mut [u8],
 ) -> u64
-    ensures { λ r. ⌜ tellsWritten r (now (output .exit)) ≡ toldWritten (writeOutcome (memoryOf tapes states arcs (now («state_bytes» .entry)) (now («arc_bytes» .entry))) (now (output .entry))) ⌝ }
+    ensures { λ r. ⌜ tellsWritten r (now (output .exit))
+        ≡ toldWritten (writeOutcome (memoryOf tapes states arcs (now («state_bytes» .entry)) (now («arc_bytes» .entry)))
+        (now (output .entry))) ⌝ }
 {
     let counts = Counts {
         tapes,
@@ -67,7 +71,10 @@ pub extern "C" fn tomchoen_build(
     out_arcs: &mut [u8],
     work: &mut [u8],
 ) -> u64
-    ensures { λ r. ⌜ tellsBuilt r (now («out_states» .exit)) (now («out_arcs» .exit)) (now (work .exit)) ≡ toldBuilt (intersectOutcome (memoryOf tapes states arcs (now («state_bytes» .entry)) (now («arc_bytes» .entry))) (pairsOf (now (pairs .entry))) (slicesOf (now («out_states» .entry)) (now («out_arcs» .entry))) (now (work .entry))) ⌝ }
+    ensures { λ r. ⌜ tellsBuilt r (now («out_states» .exit)) (now («out_arcs» .exit)) (now (work .exit))
+        ≡ toldBuilt (intersectOutcome (memoryOf tapes states arcs (now («state_bytes» .entry))
+        (now («arc_bytes» .entry))) (pairsOf (now (pairs .entry)))
+        (slicesOf (now («out_states» .entry)) (now («out_arcs» .entry))) (now (work .entry))) ⌝ }
 {
     let counts = Counts {
         tapes,
@@ -103,7 +110,12 @@ pub extern "C" fn tomchoen_product(
     out_arcs: &mut [u8],
     work: &mut [u8],
 ) -> u64
-    ensures { λ r. ⌜ tellsBuilt r (now («out_states» .exit)) (now («out_arcs» .exit)) (now (work .exit)) ≡ toldBuilt (productOutcome (memoryOf «first_tapes» «first_states» «first_arcs» (now («first_state_bytes» .entry)) (now («first_arc_bytes» .entry))) (memoryOf «second_tapes» «second_states» «second_arcs» (now («second_state_bytes» .entry)) (now («second_arc_bytes» .entry))) (slicesOf (now («out_states» .entry)) (now («out_arcs» .entry))) (now (work .entry))) ⌝ }
+    ensures { λ r. ⌜ tellsBuilt r (now («out_states» .exit)) (now («out_arcs» .exit)) (now (work .exit))
+        ≡ toldBuilt (productOutcome (memoryOf «first_tapes» «first_states» «first_arcs»
+        (now («first_state_bytes» .entry)) (now («first_arc_bytes» .entry)))
+        (memoryOf «second_tapes» «second_states» «second_arcs» (now («second_state_bytes» .entry))
+        (now («second_arc_bytes» .entry))) (slicesOf (now («out_states» .entry)) (now («out_arcs» .entry)))
+        (now (work .entry))) ⌝ }
 {
     let first = Counts {
         tapes: first_tapes,
@@ -149,7 +161,13 @@ pub extern "C" fn tomchoen_join(
     out_arcs: &mut [u8],
     work: &mut [u8],
 ) -> u64
-    ensures { λ r. ⌜ tellsJoined r (now («out_states» .exit)) (now («out_arcs» .exit)) (now («product_states» .exit)) (now («product_arcs» .exit)) (now (work .exit)) ≡ toldJoined (joinOutcome (memoryOf «first_tapes» «first_states» «first_arcs» (now («first_state_bytes» .entry)) (now («first_arc_bytes» .entry))) (memoryOf «second_tapes» «second_states» «second_arcs» (now («second_state_bytes» .entry)) (now («second_arc_bytes» .entry))) (pairsOf (now (pairs .entry))) (slicesOf (now («product_states» .entry)) (now («product_arcs» .entry))) (slicesOf (now («out_states» .entry)) (now («out_arcs» .entry))) (now (work .entry))) ⌝ }
+    ensures { λ r. ⌜ tellsJoined r (now («out_states» .exit)) (now («out_arcs» .exit)) (now («product_states» .exit))
+        (now («product_arcs» .exit)) (now (work .exit))
+        ≡ toldJoined (joinOutcome (memoryOf «first_tapes» «first_states» «first_arcs» (now («first_state_bytes» .entry))
+        (now («first_arc_bytes» .entry))) (memoryOf «second_tapes» «second_states» «second_arcs»
+        (now («second_state_bytes» .entry)) (now («second_arc_bytes» .entry))) (pairsOf (now (pairs .entry)))
+        (slicesOf (now («product_states» .entry)) (now («product_arcs» .entry)))
+        (slicesOf (now («out_states» .entry)) (now («out_arcs» .entry))) (now (work .entry))) ⌝ }
 {
     let first = Counts {
         tapes: first_tapes,
@@ -194,7 +212,11 @@ pub extern "C" fn tomchoen_union(
     out_states: &mut [u8],
     out_arcs: &mut [u8],
 ) -> u64
-    ensures { λ r. ⌜ tellsMade r (now («out_states» .exit)) (now («out_arcs» .exit)) ≡ toldMade (unionOutcome (memoryOf «first_tapes» «first_states» «first_arcs» (now («first_state_bytes» .entry)) (now («first_arc_bytes» .entry))) (memoryOf «second_tapes» «second_states» «second_arcs» (now («second_state_bytes» .entry)) (now («second_arc_bytes» .entry))) (slicesOf (now («out_states» .entry)) (now («out_arcs» .entry)))) ⌝ }
+    ensures { λ r. ⌜ tellsMade r (now («out_states» .exit)) (now («out_arcs» .exit))
+        ≡ toldMade (unionOutcome (memoryOf «first_tapes» «first_states» «first_arcs» (now («first_state_bytes» .entry))
+        (now («first_arc_bytes» .entry))) (memoryOf «second_tapes» «second_states» «second_arcs»
+        (now («second_state_bytes» .entry)) (now («second_arc_bytes» .entry)))
+        (slicesOf (now («out_states» .entry)) (now («out_arcs» .entry)))) ⌝ }
 {
     let first = Counts {
         tapes: first_tapes,
@@ -231,7 +253,9 @@ pub extern "C" fn tomchoen_project(
     out_states: &mut [u8],
     out_arcs: &mut [u8],
 ) -> u64
-    ensures { λ r. ⌜ tellsMade r (now («out_states» .exit)) (now («out_arcs» .exit)) ≡ toldMade (projectOutcome (memoryOf tapes states arcs (now («state_bytes» .entry)) (now («arc_bytes» .entry))) (now (chosen .entry)) (slicesOf (now («out_states» .entry)) (now («out_arcs» .entry)))) ⌝ }
+    ensures { λ r. ⌜ tellsMade r (now («out_states» .exit)) (now («out_arcs» .exit))
+        ≡ toldMade (projectOutcome (memoryOf tapes states arcs (now («state_bytes» .entry)) (now («arc_bytes» .entry)))
+        (now (chosen .entry)) (slicesOf (now («out_states» .entry)) (now («out_arcs» .entry)))) ⌝ }
 {
     let counts = Counts {
         tapes,
@@ -261,7 +285,9 @@ pub extern "C" fn tomchoen_drop(
     out_states: &mut [u8],
     out_arcs: &mut [u8],
 ) -> u64
-    ensures { λ r. ⌜ tellsMade r (now («out_states» .exit)) (now («out_arcs» .exit)) ≡ toldMade (dropOutcome (memoryOf tapes states arcs (now («state_bytes» .entry)) (now («arc_bytes» .entry))) mask (slicesOf (now («out_states» .entry)) (now («out_arcs» .entry)))) ⌝ }
+    ensures { λ r. ⌜ tellsMade r (now («out_states» .exit)) (now («out_arcs» .exit))
+        ≡ toldMade (dropOutcome (memoryOf tapes states arcs (now («state_bytes» .entry)) (now («arc_bytes» .entry)))
+        mask (slicesOf (now («out_states» .entry)) (now («out_arcs» .entry)))) ⌝ }
 {
     let counts = Counts {
         tapes,
@@ -290,7 +316,9 @@ pub extern "C" fn tomchoen_lookup(
     tuple: &[u8],
     work: &mut [u8],
 ) -> u64
-    ensures { λ r. ⌜ tellsFound r (now (work .exit)) ≡ toldFound (lookupOutcome (memoryOf tapes states arcs (now («state_bytes» .entry)) (now («arc_bytes» .entry))) (now (tuple .entry)) (now (work .entry))) ⌝ }
+    ensures { λ r. ⌜ tellsFound r (now (work .exit))
+        ≡ toldFound (lookupOutcome (memoryOf tapes states arcs (now («state_bytes» .entry)) (now («arc_bytes» .entry)))
+        (now (tuple .entry)) (now (work .entry))) ⌝ }
 {
     let counts = Counts {
         tapes,
@@ -315,7 +343,9 @@ pub extern "C" fn tomchoen_path(
     list: &mut [u8],
     work: &mut [u8],
 ) -> u64
-    ensures { λ r. ⌜ tellsPath r (now (result .exit)) (now (list .exit)) (now (work .exit)) ≡ toldPath (pathRecorded (memoryOf tapes states arcs (now («state_bytes» .entry)) (now («arc_bytes» .entry))) (now (tuple .entry)) (now (result .entry)) (now (list .entry)) (now (work .entry))) ⌝ }
+    ensures { λ r. ⌜ tellsPath r (now (result .exit)) (now (list .exit)) (now (work .exit))
+        ≡ toldPath (pathRecorded (memoryOf tapes states arcs (now («state_bytes» .entry)) (now («arc_bytes» .entry)))
+        (now (tuple .entry)) (now (result .entry)) (now (list .entry)) (now (work .entry))) ⌝ }
 {
     let counts = Counts {
         tapes,
@@ -338,7 +368,10 @@ pub extern "C" fn tomchoen_forecast(
     result: &mut [u8],
     work: &mut [u8],
 ) -> u64
-    ensures { λ r. ⌜ tellsRecorded r (now (result .exit)) (now (work .exit)) ≡ toldRecorded (forecastRecorded (memoryOf tapes states arcs (now («state_bytes» .entry)) (now («arc_bytes» .entry))) (tapesOf (pairsOf (now (pairs .entry)))) (now (result .entry)) (now (work .entry))) ⌝ }
+    ensures { λ r. ⌜ tellsRecorded r (now (result .exit)) (now (work .exit))
+        ≡ toldRecorded (forecastRecorded (memoryOf tapes states arcs (now («state_bytes» .entry))
+        (now («arc_bytes» .entry))) (tapesOf (pairsOf (now (pairs .entry)))) (now (result .entry))
+        (now (work .entry))) ⌝ }
 {
     let counts = Counts {
         tapes,

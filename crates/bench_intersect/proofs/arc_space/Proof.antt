@@ -1,4 +1,5 @@
--- `bench_intersect::arc_space` meets its contract: the length of so many zeros, by a law and not by counting. Assumes nothing.
+-- `bench_intersect::arc_space` meets its contract: the length of so many zeros, by a law and not by counting. Assumes
+-- nothing.
 use mathlib.Core.Path.{sym}
 use Prim.Native.Nat.{ℕ}
 use lib.ListN.{length-replicate}

@@ -1,10 +1,10 @@
 -- `delays_relaxation::run_rounds` meets its contract. Assumes nothing.
 use denote.Ref.{now}
 use Rattle.delays_relaxation.proofs.RoundFacts.{rounds-turn, rounds-still, rounds-end}
-use Rattle.delays_relaxation.proofs.ColumnFacts.{frame-refl}
+use Rattle.delays_relaxation.proofs.VectorFacts.{frame-refl}
 use Rattle.delays_relaxation.proofs.SweepFacts.{Bytes}
 use Rattle.delays_relaxation.specs.Edges.{edges, roundsOf}
-use Rattle.delays_relaxation.specs.Column.{column, Frame}
+use Rattle.delays_relaxation.specs.Vector.{vector, Frame}
 use lib.ListN.{length}
 use native.Mathlib.Omega.{arith}
 use Prim.Native.Nat.{_-_}
@@ -19,7 +19,7 @@ use Rattle.delays_relaxation.proofs.round_arcs.Reads as round-arcs-read
 abbrev Inv-loop : tie.InvT-loop
 Inv-loop arcs count reversed first second work₀ at states diverging through₀ left₀ work through left =
     (length work ≡ length work₀)
-    × (roundsOf diverging (edges reversed first second 0 count arcs) left (column at states work) ≡ roundsOf diverging (edges reversed first second 0 count arcs) states (column at states work₀))
+    × (roundsOf diverging (edges reversed first second 0 count arcs) left (vector at states work) ≡ roundsOf diverging (edges reversed first second 0 count arcs) states (vector at states work₀))
     × Frame at 2 states work work₀ × Bytes work × (length through ≡ length through₀)
 
 abbrev μ-loop : tie.MeasureT-loop

@@ -1,6 +1,6 @@
 -- `delays_relaxation::start_delays` meets its contract. Assumes nothing.
 use Rattle.delays_relaxation.proofs.RunFacts.{started-turn, started-end}
-use Rattle.delays_relaxation.specs.Column.{Room}
+use Rattle.delays_relaxation.specs.Vector.{Room}
 use Rattle.delays_relaxation.specs.Edges.{started}
 use lib.ListN.{length}
 use native.Mathlib.Omega.{arith}

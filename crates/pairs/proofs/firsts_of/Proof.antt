@@ -1,6 +1,6 @@
 -- `pairs::firsts_of` meets its contract. Assumes nothing.
 use Rattle.pairs.proofs.ListFacts.{length-made}
-use Rattle.pairs.proofs.PairFacts.{column}
+use Rattle.pairs.proofs.PairFacts.{side}
 use borrow.Author.Needs.{needs}
 use Rattle.pairs.proofs.firsts_of.Statement.{statement}
 use Rattle.pairs.proofs.firsts_of.Tie as tie
@@ -20,7 +20,7 @@ array-copy-out-d : tie.Need-array-copy-out-d
 array-copy-out-d c = search needs
 
 returns : tie.Need-returns
-returns c = let s = c .before .before .before .before .before in column (λ p. p .first) (s .args .pairs .used) (s .args .pairs .pairs) (search (needs, length-made))
+returns c = let s = c .before .before .before .before .before in side (λ p. p .first) (s .args .pairs .used) (s .args .pairs .pairs) (search (needs, length-made))
 
 pub firsts-of-spec : {M : Type 1} → statement M
 firsts-of-spec =

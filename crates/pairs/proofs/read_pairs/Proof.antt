@@ -1,5 +1,4 @@
 -- `pairs::read_pairs` meets its contract. Assumes nothing.
-use mathlib.Core.Path.{refl}
 use Rattle.pairs.proofs.PairFacts.{read-list}
 use borrow.Author.Needs.{needs}
 use Rattle.pairs.proofs.read_pairs.Statement.{statement}
@@ -27,7 +26,7 @@ pair-at-requires-4 : tie.Need-pair-at-requires-4
 pair-at-requires-4 c κs = search needs
 
 returns : tie.Need-returns
-returns c = let s = c .before .before .before .before .before in (read-list _ _ _ _ _ (s .pre) (c .before .before .before .pair-at .ensures) (c .before .before .pair-at2 .ensures) (c .before .pair-at3 .ensures) (c .pair-at4 .ensures), refl)
+returns c = read-list _ _ _ _ _ (c .before .before .before .pair-at .ensures) (c .before .before .pair-at2 .ensures) (c .before .pair-at3 .ensures) (c .pair-at4 .ensures)
 
 pub read-pairs-spec : {M : Type 1} → statement M
 read-pairs-spec =

@@ -1,9 +1,8 @@
--- `pairs_records::all_records_within` meets its contract: a walk of its MIR, by hand. A turn of the loop calls `pair_or`
--- at the place i and `still_within` on what it gave. At the loop's head the result so far is whether the first i pairs
--- are within, so the invariant is what lies in the locals at i, and what falls is the number of pairs that are left.
--- The slice reference is Copy: what it owns is had twice before each call of `pair_or`, one copy goes to the callee,
--- beside the lifetime's token, which comes back.
--- Assumes nothing.
+-- `pairs_records::all_records_within` meets its contract: a walk of its MIR, by hand. A turn of the loop calls
+-- `pair_or` at the place i and `still_within` on what it gave. At the loop's head the result so far is whether the
+-- first i pairs are within, so the invariant is what lies in the locals at i, and what falls is the number of pairs
+-- that are left. The slice reference is Copy: what it owns is had twice before each call of `pair_or`, one copy goes to
+-- the callee, beside the lifetime's token, which comes back. Assumes nothing.
 use mathlib.Core.Path.{_≡_, refl, ap, _∙_}
 use mathlib.Core.Bool.{Bool, true, false}
 use mathlib.Core.WellFounded.{InvImage·wf}

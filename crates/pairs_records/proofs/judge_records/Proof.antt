@@ -1,7 +1,7 @@
--- `pairs_records::judge_records` meets its contract: a walk of its MIR, by hand. `all_records_within` looks at the whole
--- list, `read_records` gives its first four pairs by value, and `keep_settled` settles the tests. All that the proof
--- knows of the three is that they meet their contracts. The slice reference is Copy: what it owns is had twice before
--- each of the first two calls, one copy goes to the callee, beside the lifetime's token, which comes back.
+-- `pairs_records::judge_records` meets its contract: a walk of its MIR, by hand. `all_records_within` looks at the
+-- whole list, `read_records` gives its first four pairs by value, and `decide_keep` decides the tests. All that the
+-- proof knows of the three is that they meet their contracts. The slice reference is Copy: what it owns is had twice
+-- before each of the first two calls, one copy goes to the callee, beside the lifetime's token, which comes back.
 -- Assumes nothing.
 use mathlib.Core.Path.{_≡_, refl}
 use mathlib.Core.Bool.{Bool}
@@ -48,10 +48,11 @@ use Rattle.table.proofs.pair.Pair as T
 use Rattle.table.proofs.pair.PairList as S
 use Rattle.table.proofs.pair.PairList.Laws as S′
 use Rattle.pairs.specs.declared.PairsJudged.{PairsJudged}
-use Rattle.pairs.specs.Judgement.{KeepJudged}
+use Rattle.pairs.specs.Judgement.{KeepJudged, DecidesKeep}
 use Rattle.pairs.proofs.PairsJudged as J
 use Rattle.pairs.proofs.PairsJudged.Laws as J′
-use Rattle.pairs_records.specs.Records.{readOf, KeepSettles}
+use Rattle.pairs_records.specs.Records.{readOf}
+use Rattle.pairs_records.proofs.RecordFacts.{read-first}
 use Rattle.pairs_records.proofs.all_records_within as win
 use Rattle.pairs_records.proofs.all_records_within.Symbol as win-def
 use Rattle.pairs_records.proofs.all_records_within.Symbol.{name as #pairs-records·all-records-within}
@@ -60,10 +61,10 @@ use Rattle.pairs_records.proofs.read_records as rd
 use Rattle.pairs_records.proofs.read_records.Symbol as rd-def
 use Rattle.pairs_records.proofs.read_records.Symbol.{name as #pairs-records·read-records}
 use Rattle.pairs_records.proofs.read_records.Met as rd-thm
-use Rattle.pairs_records.proofs.keep_settled as set
-use Rattle.pairs_records.proofs.keep_settled.Symbol as set-def
-use Rattle.pairs_records.proofs.keep_settled.Symbol.{name as #pairs-records·keep-settled}
-use Rattle.pairs_records.proofs.keep_settled.Met as set-thm
+use Rattle.pairs.proofs.decide_keep as dec
+use Rattle.pairs.proofs.decide_keep.Symbol as dec-def
+use Rattle.pairs.proofs.decide_keep.Symbol.{name as #pairs·decide-keep}
+use Rattle.pairs.proofs.decide_keep.Met as dec-thm
 use Rattle.pairs_records.proofs.judge_records.Key.{name as #pairs-records·judge-records}
 use Rattle.pairs_records.proofs.judge_records as fun
 use Rattle.pairs_records.proofs.judge_records.Statement as stated
@@ -80,8 +81,8 @@ module _ {M : Type 1} (𝓤 : URA M) (H : Heap 𝓤) (A : Atoms 𝓤) (mem : Mem
   abbrev Read : Contract 𝓤
   Read = tripleOf 𝓤 H A rd.signature (rd.spec 𝓤 H A mem run)
 
-  abbrev Settle : Contract 𝓤
-  Settle = tripleOf 𝓤 H A set.signature (set.spec 𝓤 H A mem run)
+  abbrev Decide : Contract 𝓤
+  Decide = tripleOf 𝓤 H A dec.signature (dec.spec 𝓤 H A mem run)
 
 module _ {M : Type 1} (𝓤 : URA M) (H : Heap 𝓤) (A : Atoms 𝓤) (W : Given 𝓤 H A) (mem : Memory → SProp 𝓤) (run : Routine → Fun 𝓤) (κ : Lft) (q : Share) (b o : ℕ) (γ : GName) (ys : List Pair) (tapes : ℕ) (tapes-fits : tapes < 2 ^ 64) where
   abbrev s : RefT (List Pair)
@@ -131,22 +132,22 @@ module _ {M : Type 1} (𝓤 : URA M) (H : Heap 𝓤) (A : Atoms 𝓤) (W : Given
   said-read : (r : PairList) → ent 𝓤 (ensured 𝓤 H A rd.ended (rd.clauses 𝓤 H A mem run) (κ, tt) (s, tt) tt r) (fact 𝓤 (r ≡ readOf ys))
   said-read r = exE 𝓤 _ (λ ws. snd∗ 𝓤 (sem 𝓤 H A (lasts rd.ended (κ, tt) (s, tt) ws)) (fact 𝓤 (r ≡ readOf ys)))
 
-  -- ---- the call of `keep_settled`, on the pairs l by value and whether all are within
+  -- ---- the call of `decide_keep`, on the pairs l by value and whether all are within
   module _ (l : PairList) (i : Bool) (w u : Val) where
-    abbrev given : Vals set.signature tt
+    abbrev given : Vals dec.signature tt
     given = (w ∷ [], (u ∷ [], tt))
 
-    abbrev to-settle : Settle 𝓤 H A mem run .Ghost
-    to-settle = ((tt, tt, tt, (l, (i, tt)), given), tt)
+    abbrev to-decide : Decide 𝓤 H A mem run .Ghost
+    to-decide = ((tt, tt, tt, (l, (i, tt)), given), tt)
 
-    asked-settle : Is S.the-row l (w ∷ []) → Is bool i (u ∷ []) → ent 𝓤 (emp 𝓤) (Settle 𝓤 H A mem run .pre to-settle)
-    asked-settle il ii =
+    asked-decide : Is S.the-row l (w ∷ []) → Is bool i (u ∷ []) → ent 𝓤 (emp 𝓤) (Decide 𝓤 H A mem run .pre to-decide)
+    asked-decide il ii =
         qed W [] ∵ nothing ! $
         owned ! bool (Is bool) (bool-makes 𝓤 H A W) i _ ii $ fjoin ! $
         owned ! S.the-row (Is S.the-row) (LL.makes S.the-type S′.the-plain 𝓤 H A) l _ il $ fjoin ! $ nothing ! $ join ! $ frame ! $ done !
 
-    said-settle : (r : PairsJudged) → ent 𝓤 (ensured 𝓤 H A set.ended (set.clauses 𝓤 H A mem run) tt (l, (i, tt)) tt r) (fact 𝓤 (KeepSettles l i r))
-    said-settle r = exE 𝓤 _ (λ ws. snd∗ 𝓤 (sem 𝓤 H A (lasts set.ended tt (l, (i, tt)) ws)) (fact 𝓤 (KeepSettles l i r)))
+    said-decide : (r : PairsJudged) → ent 𝓤 (ensured 𝓤 H A dec.ended (dec.clauses 𝓤 H A mem run) tt (l, (i, tt)) tt r) (fact 𝓤 (DecidesKeep l i r))
+    said-decide r = exE 𝓤 _ (λ ws. snd∗ 𝓤 (sem 𝓤 H A (lasts dec.ended tt (l, (i, tt)) ws)) (fact 𝓤 (DecidesKeep l i r)))
 
   exits : (r : PairsJudged) (z : Val) → KeepJudged (map pairAs ys) tapes r → ent 𝓤 (⋆ 𝓤 H A (‵ (J.the-row .own r (z ∷ [])) ∷ (‵ (flft κ q) ⊛ ‵ ftrue) ∷ ‵ Own ∷ [])) (Post z)
   exits r z e =
@@ -156,7 +157,7 @@ module _ {M : Type 1} (𝓤 : URA M) (H : Heap 𝓤) (A : Atoms 𝓤) (W : Given
       move ! (2 ∷ 0 ∷ []) $ fjoin ! $ frame ! $ done !
 
   module _ (C : Calls 𝓤 H) (Λ : Loops 𝓤 H) (fm : FmC 𝓤 H (W .laws) C) (known-look : Triple 𝓤 (C #pairs-records·all-records-within) (Inside 𝓤 H A mem run)) (known-read : Triple 𝓤 (C #pairs-records·read-records) (Read 𝓤 H A mem run))
-      (known-settle : Triple 𝓤 (C #pairs-records·keep-settled) (Settle 𝓤 H A mem run)) where
+      (known-decide : Triple 𝓤 (C #pairs·decide-keep) (Decide 𝓤 H A mem run)) where
     walk : Room T.the-row (length ys) → ent 𝓤 (onEntry 𝓤 H A fun.signature (κ, tt) (q, tt) (s, (tapes, tt)) vals) (WpFn 𝓤 H C Λ code.function (v ∷ vint w64 tapes ∷ []) Post)
     walk gn =
         qed W ((‵ (flft κ q) ⊛ ‵ ftrue) ∷ ‵ (owns (ShrSlice (named 0) κ T.the-row ∷ usize ∷ []) (s, (tapes, tt)) vals) ∷ []) ∵ enter ! C Λ code.function (v ∷ vint w64 tapes ∷ []) _ $
@@ -175,32 +176,32 @@ module _ {M : Type 1} (𝓤 : URA M) (H : Heap 𝓤) (A : Atoms 𝓤) (W : Given
         split ! $ move ! (1 ∷ []) $ use1 W (raw (fact 𝓤 (l ≡ readOf ys))) (said-read l) $ heard ! (l ≡ readOf ys) (λ f. split ! $ move ! (1 ∷ []) $
         peeks ! S.the-row (Is S.the-row) (shows 𝓤 H A S.the-row) l (w ∷ []) (λ il. drop ! $
         land ! (from ! (stop !)) (init ! 2 refl (LL.lawful S.the-type S′.the-laws 𝓤 H A W .typed l _ il .0)) $
-        use0 W (raw (Settle 𝓤 H A mem run .pre (to-settle l i w u))) (asked-settle l i w u il ii) $
-        -- [what keep_settled asks; the token; what pairs owns; the locals from the last; …]
-        calls-at ! fm (Settle 𝓤 H A mem run) known-settle (to-settle l i w u) (and-then ! (load ! (from ! (stop !)) (look ! 3 refl)) (and-then ! (load ! (from ! (stop !)) (look ! 5 refl)) (no-more !))) (λ z.
-        use1 W (later (some (λ (r : PairsJudged). (‵ ftrue ⊛ ‵ (J.the-row .own r (z ∷ []))) ⊛ raw (ensured 𝓤 H A set.ended (set.clauses 𝓤 H A mem run) tt (l, (i, tt)) tt r)))) (id⊢ 𝓤 _) $ await ! tt $ pick ! (λ r.
-        split ! $ move ! (1 ∷ []) $ use1 W (raw (fact 𝓤 (KeepSettles l i r))) (said-settle l i w u r) $ heard ! (KeepSettles l i r) (λ g. split ! $ drop ! $
+        use0 W (raw (Decide 𝓤 H A mem run .pre (to-decide l i w u))) (asked-decide l i w u il ii) $
+        -- [what decide_keep asks; the token; what pairs owns; the locals from the last; …]
+        calls-at ! fm (Decide 𝓤 H A mem run) known-decide (to-decide l i w u) (and-then ! (load ! (from ! (stop !)) (look ! 3 refl)) (and-then ! (load ! (from ! (stop !)) (look ! 5 refl)) (no-more !))) (λ z.
+        use1 W (later (some (λ (r : PairsJudged). (‵ ftrue ⊛ ‵ (J.the-row .own r (z ∷ []))) ⊛ raw (ensured 𝓤 H A dec.ended (dec.clauses 𝓤 H A mem run) tt (l, (i, tt)) tt r)))) (id⊢ 𝓤 _) $ await ! tt $ pick ! (λ r.
+        split ! $ move ! (1 ∷ []) $ use1 W (raw (fact 𝓤 (DecidesKeep l i r))) (said-decide l i w u r) $ heard ! (DecidesKeep l i r) (λ g. split ! $ drop ! $
         -- [the result; the token; what pairs owns; the locals from the last; …]
         peeks ! J.the-row (Is J.the-row) (shows 𝓤 H A J.the-row) r (z ∷ []) (λ ir.
         land ! (from ! (stop !)) (init ! 11 refl (LL.lawful J.the-type J′.the-laws 𝓤 H A W .typed r _ ir .0)) $
         returns ! (look ! 11 refl) $ forget ! 3 refl $ forget ! 5 refl $ forget ! 7 refl $ forget ! 9 refl $ forget ! 11 refl $
         move ! (11 ∷ 12 ∷ []) $ free1 ! $ move ! (9 ∷ 10 ∷ []) $ free1 ! $ move ! (7 ∷ 8 ∷ []) $ free1 ! $ move ! (5 ∷ 6 ∷ []) $ free1 ! $ move ! (3 ∷ 4 ∷ []) $ free1 ! $ free0 ! $
-        by ! (exits r z (g ys tapes f e)))))))))))))))))))
+        by ! (exits r z (g (map pairAs ys) tapes (read-first ys l f) e)))))))))))))))))))
 
 module _ {M : Type 1} (𝓤 : URA M) (H : Heap 𝓤) (A : Atoms 𝓤) (W : Given 𝓤 H A) (mem : Memory → SProp 𝓤) (run : Routine → Fun 𝓤) where
   walks : (C : Calls 𝓤 H) (Λ : Loops 𝓤 H) → FmC 𝓤 H (W .laws) C → Triple 𝓤 (C #pairs-records·all-records-within) (Inside 𝓤 H A mem run) → Triple 𝓤 (C #pairs-records·read-records) (Read 𝓤 H A mem run)
-      → Triple 𝓤 (C #pairs-records·keep-settled) (Settle 𝓤 H A mem run) → Walks 𝓤 H A fun.ended stayed (WpFn 𝓤 H C Λ code.function) (fun.clauses 𝓤 H A mem run)
-  walks C Λ fm known-look known-read known-settle = walked 𝓤 H A fun.ended stayed (fun.clauses 𝓤 H A mem run) (WpFn 𝓤 H C Λ code.function)
+      → Triple 𝓤 (C #pairs·decide-keep) (Decide 𝓤 H A mem run) → Walks 𝓤 H A fun.ended stayed (WpFn 𝓤 H C Λ code.function) (fun.clauses 𝓤 H A mem run)
+  walks C Λ fm known-look known-read known-decide = walked 𝓤 H A fun.ended stayed (fun.clauses 𝓤 H A mem run) (WpFn 𝓤 H C Λ code.function)
       (λ κs. (slice-vals, (uint-vals w64, tt))) (λ κs. (shr-slice-tells (named 0) (κs .0) T.the-row, (uint-tells w64, tt)))
-      (λ κs qs bounds a g are. via 𝓤 _ (fst∗ 𝓤 _ (emp 𝓤)) (walk 𝓤 H A W mem run (κs .0) (qs .0) (a .0 .ptr .0) (a .0 .ptr .1) (a .0 .name) (a .0 .now) (a .1 .0) (are .1 .0 .1) C Λ fm known-look known-read known-settle (are .0 .0 .1)))
+      (λ κs qs bounds a g are. via 𝓤 _ (fst∗ 𝓤 _ (emp 𝓤)) (walk 𝓤 H A W mem run (κs .0) (qs .0) (a .0 .ptr .0) (a .0 .ptr .1) (a .0 .name) (a .0 .now) (a .1 .0) (are .1 .0 .1) C Λ fm known-look known-read known-decide (are .0 .0 .1)))
 
 meets : {M : Type 1} (𝓤 : URA M) (H : Heap 𝓤) (A : Atoms 𝓤) (W : Given 𝓤 H A) (mem : Memory → SProp 𝓤) (run : Routine → Fun 𝓤) (𝓣 : Tables 𝓤 H)
-    → Triple 𝓤 (𝓣 .C #pairs-records·all-records-within) (Inside 𝓤 H A mem run) → Triple 𝓤 (𝓣 .C #pairs-records·read-records) (Read 𝓤 H A mem run) → Triple 𝓤 (𝓣 .C #pairs-records·keep-settled) (Settle 𝓤 H A mem run)
+    → Triple 𝓤 (𝓣 .C #pairs-records·all-records-within) (Inside 𝓤 H A mem run) → Triple 𝓤 (𝓣 .C #pairs-records·read-records) (Read 𝓤 H A mem run) → Triple 𝓤 (𝓣 .C #pairs·decide-keep) (Decide 𝓤 H A mem run)
     → Meets 𝓤 H A fun.signature (WpFn 𝓤 H (𝓣 .C) (𝓣 .Λ) code.function) (fun.spec 𝓤 H A mem run)
-meets 𝓤 H A W mem run 𝓣 known-look known-read known-settle =
+meets 𝓤 H A W mem run 𝓣 known-look known-read known-decide =
     walk-meets 𝓤 H A fun.ended stayed W (goes-none-slice 𝓤 H A W 1 (0 ∷ []) tt (plain (λ _. T.the-row)) yes, (goes-none 𝓤 H A W 1 (λ _. usize) yes (λ κs x f. refl), tt))
     (fun.clauses 𝓤 H A mem run) (WpFn 𝓤 H (𝓣 .C) (𝓣 .Λ) code.function) (WpFn-mono 𝓤 H (W .laws) 𝓣 code.function)
-    (walks 𝓤 H A W mem run (𝓣 .C) (𝓣 .Λ) (fmOf 𝓤 H (W .laws) 𝓣) known-look known-read known-settle)
+    (walks 𝓤 H A W mem run (𝓣 .C) (𝓣 .Λ) (fmOf 𝓤 H (W .laws) 𝓣) known-look known-read known-decide)
 
 pub judge-records-spec : {M : Type 1} → stated.statement M
 unfolding code.routine tablesOf
@@ -210,4 +211,4 @@ judge-records-spec 𝓤 H 𝓜 𝓖 𝓡 =
     (meets 𝓤 H (𝓖 .A) (givenOf 𝓤 H 𝓜 𝓖) (𝓜 .mem) (𝓡 .run) (tablesOf 𝓤 H 𝓜 (tables 𝓤 H 𝓜 𝓡 code.env))
     (cited 𝓤 H (Inside 𝓤 H (𝓖 .A) (𝓜 .mem) (𝓡 .run)) 𝓜 𝓡 code.env #pairs-records·all-records-within win-def.routine code.calls-pairs-records·all-records-within (win-thm.met 𝓤 H 𝓜 𝓖 𝓡))
     (cited 𝓤 H (Read 𝓤 H (𝓖 .A) (𝓜 .mem) (𝓡 .run)) 𝓜 𝓡 code.env #pairs-records·read-records rd-def.routine code.calls-pairs-records·read-records (rd-thm.met 𝓤 H 𝓜 𝓖 𝓡))
-    (cited 𝓤 H (Settle 𝓤 H (𝓖 .A) (𝓜 .mem) (𝓡 .run)) 𝓜 𝓡 code.env #pairs-records·keep-settled set-def.routine code.calls-pairs-records·keep-settled (set-thm.met 𝓤 H 𝓜 𝓖 𝓡)))
+    (cited 𝓤 H (Decide 𝓤 H (𝓖 .A) (𝓜 .mem) (𝓡 .run)) 𝓜 𝓡 code.env #pairs·decide-keep dec-def.routine code.calls-pairs·decide-keep (dec-thm.met 𝓤 H 𝓜 𝓖 𝓡)))

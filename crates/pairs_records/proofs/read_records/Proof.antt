@@ -1,6 +1,7 @@
--- `pairs_records::read_records` meets its contract: a walk of its MIR, by hand. `pair_or` is called at each of four places and `gather` on what it gave. All that the proof knows of the two is that they meet their contracts.
--- The slice reference is Copy: what it owns is had twice before each call, one copy goes to the callee, beside the lifetime's token, which comes back.
--- Assumes nothing.
+-- `pairs_records::read_records` meets its contract: a walk of its MIR, by hand. `pair_or` is called at each of four
+-- places and `gather` on what it gave. All that the proof knows of the two is that they meet their contracts. The slice
+-- reference is Copy: what it owns is had twice before each call, one copy goes to the callee, beside the lifetime's
+-- token, which comes back. Assumes nothing.
 use mathlib.Core.Path.{_≡_, refl}
 use Prim.Native.Nat.{ℕ, _<_, _^_}
 use mathlib.Core.List.{List, [], _∷_}

@@ -2,7 +2,7 @@
 use denote.Ref.{now}
 use Rattle.table.specs.Answers.{lent}
 use Rattle.intersect.proofs.SearchFacts.{explorable}
-use Rattle.intersect.proofs.CallFacts.{call-refused, call-settled}
+use Rattle.intersect.proofs.CallFacts.{call-refused, call-answered}
 use borrow.Author.Needs.{needs}
 use Rattle.intersect.proofs.call.build.Statement.{statement}
 use Rattle.intersect.proofs.call.build.Tie as tie
@@ -44,7 +44,7 @@ same-length-3 c = search needs
 returns-2 : tie.Need-returns-2
 returns-2 c =
     let s = c .before .before .before .before .before .before .before .before .before .before .before .before .before .before .before .before .before .before .before .before in
-    λ ps k. call-settled (lent (s .args .counts) (now (s .args .states)) (now (s .args .arcs))) ps (now (s .args .out-states)) (now (s .args .out-arcs)) (now (s .args .work)) _ (c .before .before .before .before .before .before .before .before .before .before .before .before .before .before .prepare .ensures ps k) (c .before .before .before .before .before .before .before .before .before .before .before .before .enum-told .given .1) _ _ _ (c .before .before .before .before .before .before .reach .ensures)
+    λ ps k. call-answered (lent (s .args .counts) (now (s .args .states)) (now (s .args .arcs))) ps (now (s .args .out-states)) (now (s .args .out-arcs)) (now (s .args .work)) _ (c .before .before .before .before .before .before .before .before .before .before .before .before .before .before .prepare .ensures ps k) (c .before .before .before .before .before .before .before .before .before .before .before .before .enum-told .given .1) _ _ _ (c .before .before .before .before .before .before .reach .ensures)
 
 pub build-spec : {M : Type 1} → statement M
 build-spec =

@@ -1,5 +1,5 @@
 -- `intersect::step::reach` meets its contract. Assumes nothing.
-use Rattle.intersect.proofs.SearchFacts.{searched, settleable}
+use Rattle.intersect.proofs.SearchFacts.{searched, answerable}
 use borrow.Author.Needs.{needs}
 use Rattle.intersect.proofs.step.reach.Statement.{statement}
 use Rattle.intersect.proofs.step.reach.Tie as tie
@@ -14,7 +14,7 @@ explore-requires c κs = search needs
 answer-search-requires : tie.Need-answer-search-requires
 answer-search-requires c κs =
     let s = c .before .before .before .before .before .before .before .before .before .before .before .before in
-    settleable _ _ _ _ (s .pre .0) _ _ _ (c .before .before .before .before .before .explore .ensures) _ _ (s .pre .1)
+    answerable _ _ _ _ (s .pre .0) _ _ _ (c .before .before .before .before .before .explore .ensures) _ _ (s .pre .1)
 
 same-length : tie.Need-same-length
 same-length c = search needs

@@ -1,5 +1,7 @@
 -- `intersect_result::finish::finish` meets its contract. Assumes nothing.
 use mathlib.Core.Path.{refl}
+use denote.Ref.{now}
+use Rattle.table.specs.Answers.{lent}
 use Rattle.intersect_result.proofs.FinishFacts.{finished, laid, states-writable, arcs-writable}
 use borrow.Author.Needs.{needs}
 use Rattle.intersect_result.proofs.finish.finish.Statement.{statement}
@@ -17,14 +19,14 @@ slice-aggregate-number-kept-2 : tie.Need-slice-aggregate-number-kept-2
 slice-aggregate-number-kept-2 c = search needs
 
 number-kept-requires : tie.Need-number-kept-requires
-number-kept-requires c κs = let f = c .before .before .before .before .before .before .before .pre in (laid _ _ _ _ _ _ _ f, search needs, search needs)
+number-kept-requires c κs = let f = c .before .before .before .before .before .before .before .before .pre in (laid _ _ _ _ _ _ _ f, search needs, search needs)
 
 slice-aggregate-write-states : tie.Need-slice-aggregate-write-states
 slice-aggregate-write-states c = search needs
 
 write-states-requires : tie.Need-write-states-requires
 write-states-requires c κs =
-    let f = c .before .before .before .before .before .before .before .before .before .before .before .before .pre in
+    let f = c .before .before .before .before .before .before .before .before .before .before .before .before .before .pre in
     (f .rows-fit, search needs, laid _ _ _ _ _ _ _ f .within, states-writable _ _ _ _ _ _ _ f _ _ _ (c .before .before .before .before .number-kept .ensures))
 
 slice-aggregate-write-arcs : tie.Need-slice-aggregate-write-arcs
@@ -35,7 +37,7 @@ slice-aggregate-write-arcs-2 c = search needs
 
 write-arcs-requires : tie.Need-write-arcs-requires
 write-arcs-requires c κs =
-    let f = c .before .before .before .before .before .before .before .before .before .before .before .before .before .before .before .before .before .before .pre in
+    let f = c .before .before .before .before .before .before .before .before .before .before .before .before .before .before .before .before .before .before .before .pre in
     let a = arcs-writable _ _ _ _ _ _ _ f _ _ _ (c .before .before .before .before .before .before .before .before .before .before .number-kept .ensures) (search needs) in
     (f .edges-fit, search needs, a .0, a .1, a .2)
 
@@ -47,8 +49,8 @@ same-length-2 c = search needs
 
 returns : tie.Need-returns
 returns c =
-    let f = c .before .before .before .before .before .before .before .before .before .before .before .before .before .before .before .before .before .before .before .before .before .pre in
-    λ ps v cs p. finished _ (f .sound) ps v cs _ _ _ _ p _ _ _ (c .before .before .before .before .before .before .before .before .before .before .before .before .before .number-kept .ensures) _ _ _ _ _ _ refl (c .before .before .before .before .before .before .before .before .write-states .ensures) (c .before .before .write-arcs .ensures)
+    let s = c .before .before .before .before .before .before .before .before .before .before .before .before .before .before .before .before .before .before .before .before .before .before in
+    λ ps v cs p. finished (lent (s .args .plan .counts) (now (s .args .states)) (now (s .args .arcs))) (s .pre .sound) ps v cs (s .args .plan .room) (s .args .head) _ p _ _ _ (c .before .before .before .before .before .before .before .before .before .before .before .before .before .number-kept .ensures) _ _ _ _ _ _ refl (c .before .before .before .before .before .before .before .before .write-states .ensures) (c .before .before .write-arcs .ensures)
 
 pub finish-spec : {M : Type 1} → statement M
 finish-spec =

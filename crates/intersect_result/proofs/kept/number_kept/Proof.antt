@@ -25,7 +25,9 @@ same-length-2 : tie.Need-same-length-2
 same-length-2 c = search needs
 
 returns : tie.Need-returns
-returns c = rows-kept _ _ _ _ _ (c .before .before .before .before .before .before .before .before .before .before .before .mark-final .ensures) _ _ _ _ _ (c .before .before .before .before .before .before .before .mark-coaccessible .ensures) (c .before .before .number-marked .ensures)
+returns c =
+    let s = c .before .before .before .before .before .before .before .before .before .before .before .before .before .before .before .before .before in
+    rows-kept (s .args .room) (s .args .head) _ _ _ _ (c .before .before .before .before .before .before .before .before .before .before .before .mark-final .ensures) _ _ _ (c .before .before .before .before .before .before .before .mark-coaccessible .ensures) (c .before .before .number-marked .ensures)
 
 pub number-kept-spec : {M : Type 1} → statement M
 number-kept-spec =

@@ -22,13 +22,13 @@ enum-told c = search needs
 
 join-steps-requires : tie.Need-join-steps-requires
 join-steps-requires c κs =
-    let s = c .before .before .before .before .before .before .before .before .before .before .before .before .before .before .before .before .before .before in
-    call-joinable (lent (s .args .first) (now (s .args .first-states)) (now (s .args .first-arcs))) (lent (s .args .second) (now (s .args .second-states)) (now (s .args .second-arcs))) (s .pre .pairs) (slicesOf (now (s .args .product-states)) (now (s .args .product-arcs))) (slicesOf (now (s .args .out-states)) (now (s .args .out-arcs))) (now (s .args .work)) _ _ (s .pre .judged) (c .before .before .before .before .before .before .before .before .judge-join .ensures (s .pre .pairs) (s .pre .judged)) (c .before .before .before .before .before .before .enum-told .given .1)
+    let s = c .before .before .before .before .before .before .before .before .before .before .before .before .before .before .before .before .before .before .before in
+    call-joinable (lent (s .args .first) (now (s .args .first-states)) (now (s .args .first-arcs))) (lent (s .args .second) (now (s .args .second-states)) (now (s .args .second-arcs))) (s .pre .pairs) (slicesOf (now (s .args .product-states)) (now (s .args .product-arcs))) (slicesOf (now (s .args .out-states)) (now (s .args .out-arcs))) (now (s .args .work)) _ _ (s .pre .judged) (c .before .before .before .before .before .before .before .before .before .judge-join .ensures (s .pre .pairs) (s .pre .judged)) (c .before .before .before .before .before .before .enum-told .given .1)
 
 returns : tie.Need-returns
 returns c =
-    let s = c .before .before .before .before .before .before .before .before .before .before .before .before .before in
-    λ ps k. call-refused (lent (s .args .first) (now (s .args .first-states)) (now (s .args .first-arcs))) (lent (s .args .second) (now (s .args .second-states)) (now (s .args .second-arcs))) ps (slicesOf (now (s .args .product-states)) (now (s .args .product-arcs))) (slicesOf (now (s .args .out-states)) (now (s .args .out-arcs))) (now (s .args .work)) _ _ k (c .before .before .before .judge-join .ensures ps k) _ (c .before .judged .given .1)
+    let s = c .before .before .before .before .before .before .before .before .before .before .before .before .before .before in
+    λ ps k. call-refused (lent (s .args .first) (now (s .args .first-states)) (now (s .args .first-arcs))) (lent (s .args .second) (now (s .args .second-states)) (now (s .args .second-arcs))) ps (slicesOf (now (s .args .product-states)) (now (s .args .product-arcs))) (slicesOf (now (s .args .out-states)) (now (s .args .out-arcs))) (now (s .args .work)) _ _ k (c .before .before .before .before .judge-join .ensures ps k) _ (c .before .judged .given .1)
 
 same-length : tie.Need-same-length
 same-length c = search needs
@@ -47,8 +47,8 @@ same-length-5 c = search needs
 
 returns-2 : tie.Need-returns-2
 returns-2 c =
-    let s = c .before .before .before .before .before .before .before .before .before .before .before .before .before .before .before .before .before .before .before .before .before .before .before .before .before .before .before .before .before in
-    λ ps k. call-stepped (lent (s .args .first) (now (s .args .first-states)) (now (s .args .first-arcs))) (lent (s .args .second) (now (s .args .second-states)) (now (s .args .second-arcs))) ps (slicesOf (now (s .args .product-states)) (now (s .args .product-arcs))) (slicesOf (now (s .args .out-states)) (now (s .args .out-arcs))) (now (s .args .work)) _ _ k (c .before .before .before .before .before .before .before .before .before .before .before .before .before .before .before .before .before .before .before .judge-join .ensures ps k) (c .before .before .before .before .before .before .before .before .before .before .before .before .before .before .before .before .before .enum-told .given .1) _ _ _ (c .before .before .before .before .before .before .before .before .before .before .join-steps .ensures)
+    let s = c .before .before .before .before .before .before .before .before .before .before .before .before .before .before .before .before .before .before .before .before .before .before .before .before .before .before .before .before .before .before in
+    λ ps k. call-stepped (lent (s .args .first) (now (s .args .first-states)) (now (s .args .first-arcs))) (lent (s .args .second) (now (s .args .second-states)) (now (s .args .second-arcs))) ps (slicesOf (now (s .args .product-states)) (now (s .args .product-arcs))) (slicesOf (now (s .args .out-states)) (now (s .args .out-arcs))) (now (s .args .work)) _ _ k (c .before .before .before .before .before .before .before .before .before .before .before .before .before .before .before .before .before .before .before .before .judge-join .ensures ps k) (c .before .before .before .before .before .before .before .before .before .before .before .before .before .before .before .before .before .enum-told .given .1) _ _ _ (c .before .before .before .before .before .before .before .before .before .before .join-steps .ensures)
 
 pub build-spec : {M : Type 1} → statement M
 build-spec =

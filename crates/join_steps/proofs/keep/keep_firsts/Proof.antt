@@ -27,10 +27,10 @@ same-length-3 : tie.Need-same-length-3
 same-length-3 c = search needs
 
 returns : tie.Need-returns
-returns c = keep-refused _ _ _ _ _ (c .before .before .before .before .before .before .before .before .before .before .before .before .before .before .before .before .before .pre) _ _ _ _ _ (c .enum-told .given .1) (c .before .before .before .before .before .before .before .before .intersect-step .ensures)
+returns c = keep-refused _ _ _ _ _ _ (c .before .before .before .before .before .before .before .before .before .before .before .before .before .before .before .before .before .pre) _ _ _ _ _ (c .enum-told .given .1) (c .before .before .before .before .before .before .before .before .intersect-step .ensures)
 
 drop-seconds-requires : tie.Need-drop-seconds-requires
-drop-seconds-requires c κs = kept-droppable _ _ _ _ _ (c .before .before .before .before .before .before .before .before .before .before .before .before .before .before .before .before .before .before .before .before .pre) _ _ _ _ _ (c .before .before .before .answer .given .1) (c .before .before .before .before .before .before .before .before .before .before .before .intersect-step .ensures)
+drop-seconds-requires c κs = kept-droppable _ _ _ _ _ _ (c .before .before .before .before .before .before .before .before .before .before .before .before .before .before .before .before .before .before .before .before .before .pre) _ _ _ _ _ (c .before .before .before .before .answer .given .1) (c .before .before .before .before .before .before .before .before .before .before .before .before .intersect-step .ensures)
 
 same-length-4 : tie.Need-same-length-4
 same-length-4 c = search needs
@@ -42,7 +42,7 @@ same-length-6 : tie.Need-same-length-6
 same-length-6 c = search needs
 
 returns-2 : tie.Need-returns-2
-returns-2 c = keep-dropped _ _ _ _ _ (c .before .before .before .before .before .before .before .before .before .before .before .before .before .before .before .before .before .before .before .before .before .before .before .pre) _ _ _ _ _ _ (c .before .before .before .before .before .before .answer .given .1) (c .before .before .before .before .before .before .before .before .before .before .before .before .before .before .intersect-step .ensures) (c .before .before .drop-seconds .ensures)
+returns-2 c = keep-dropped _ _ _ _ _ _ (c .before .before .before .before .before .before .before .before .before .before .before .before .before .before .before .before .before .before .before .before .before .before .before .before .pre) _ _ _ _ _ _ (c .before .before .before .before .before .before .before .answer .given .1) (c .before .before .before .before .before .before .before .before .before .before .before .before .before .before .before .intersect-step .ensures) (c .before .before .drop-seconds .ensures)
 
 pub keep-firsts-spec : {M : Type 1} → statement M
 keep-firsts-spec =

@@ -18,7 +18,7 @@ use Rattle.product.proofs.call.product_step.Reads as product-step-reads
 use Rattle.pairs.proofs.moved_pairs.Reads as moved-pairs-reads
 
 product-step-requires : tie.Need-product-step-requires
-product-step-requires c κs = product-ready _ _ _ _ _ _ _ _ (c .before .before .before .before .before .before .before .before .before .before .before .before .pre)
+product-step-requires c κs = product-ready _ _ _ _ _ _ _ _ _ (c .before .before .before .before .before .before .before .before .before .before .before .before .pre)
 
 enum-known-answer : tie.Need-enum-known-answer
 enum-known-answer c = search needs
@@ -52,7 +52,7 @@ four-pairs c = search (needs, length-made)
 keep-firsts-requires : tie.Need-keep-firsts-requires
 keep-firsts-requires c κs =
     let s = c .before .before .before .before .before .before .before .before .before .before .before .before .before .before .before .before .before .before .before .before .before .before .before .before .before .before .before .before in
-    product-keepable (lent (s .args .first) (now (s .args .first-states)) (now (s .args .first-arcs))) (lent (s .args .second) (now (s .args .second-states)) (now (s .args .second-arcs))) _ (slicesOf (now (s .args .product-states)) (now (s .args .product-arcs))) (slicesOf (now (s .args .out-states)) (now (s .args .out-arcs))) _ _ (s .pre) (c .before .before .before .before .before .before .before .before .before .before .before .before .before .before .before .product-step .kept .1 .1 .1 .1 .1 .1 .1 .1 .0) _ _ _ _ _ (c .before .before .before .before .before .before .before .answer .given .1) (c .before .before .before .before .before .before .before .before .before .before .before .before .before .before .before .product-step .ensures) (c .before .before .before .before .before .moved-pairs .ensures) (four-pairs (c .before .before .before .before .before))
+    product-keepable (lent (s .args .first) (now (s .args .first-states)) (now (s .args .first-arcs))) (lent (s .args .second) (now (s .args .second-states)) (now (s .args .second-arcs))) _ (slicesOf (now (s .args .product-states)) (now (s .args .product-arcs))) (slicesOf (now (s .args .out-states)) (now (s .args .out-arcs))) (s .args .room) _ _ (s .pre) (c .before .before .before .before .before .before .before .before .before .before .before .before .before .before .before .product-step .kept .1 .1 .1 .1 .1 .1 .1 .1 .0) _ _ _ _ _ (c .before .before .before .before .before .before .before .answer .given .1) (c .before .before .before .before .before .before .before .before .before .before .before .before .before .before .before .product-step .ensures) (c .before .before .before .before .before .moved-pairs .ensures) (four-pairs (c .before .before .before .before .before))
 
 same-length-4 : tie.Need-same-length-4
 same-length-4 c = search needs

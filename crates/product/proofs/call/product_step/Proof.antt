@@ -1,5 +1,5 @@
 -- `product::call::product_step` meets its contract. Assumes nothing.
-use Rattle.product.proofs.CallFacts.{limited, settleable, stepped}
+use Rattle.product.proofs.CallFacts.{limited, answerable, stepped}
 use mathlib.Core.Path.{refl}
 use borrow.Author.Needs.{needs}
 use Rattle.product.proofs.call.product_step.Statement.{statement}
@@ -17,7 +17,7 @@ explore-requires : tie.Need-explore-requires
 explore-requires c κs = limited _ _ _ _ _ _ _ _ _ (c .before .before .before .before .before .before .before .before .before .pre) _ (c .before .plan-for .ensures)
 
 answer-search-requires : tie.Need-answer-search-requires
-answer-search-requires c κs = settleable _ _ _ _ _ _ _ _ _ (c .before .before .before .before .before .before .before .before .before .before .before .before .before .before .before .pre) _ (c .before .before .before .before .before .before .before .plan-for .ensures) _ _ _ refl (c .before .before .before .before .before .explore .ensures)
+answer-search-requires c κs = answerable _ _ _ _ _ _ _ _ _ (c .before .before .before .before .before .before .before .before .before .before .before .before .before .before .before .pre) _ (c .before .before .before .before .before .before .before .plan-for .ensures) _ _ _ refl (c .before .before .before .before .before .explore .ensures)
 
 same-length : tie.Need-same-length
 same-length c = search needs

@@ -1,5 +1,5 @@
 -- `product::finish::answer_search` meets its contract. Assumes nothing.
-use Rattle.product.proofs.SettleFacts.{settled-full, settled-arcs, settled-weights, settled-made, rows-fit, rows-within, moves-long, moves-within, states-room, arcs-room}
+use Rattle.product.proofs.AnswerFacts.{answer-full, answer-arcs, answer-weights, answer-made, rows-fit, rows-within, moves-long, moves-within, states-room, arcs-room}
 use mathlib.Core.Path.{refl}
 use native.Mathlib.Omega.{arith}
 use denote.Ref.{now}
@@ -15,12 +15,12 @@ use Rattle.product_records.proofs.result.write_states.Reads as write-states-rea
 returns : tie.Need-returns
 returns c =
     let s = c .before .before .before .before .before .before .before .before in
-    settled-full _ _ _ _ _ _ _ (now (s .args .out-states)) (now (s .args .out-arcs)) (s .pre) (c .if1 .taken)
+    answer-full _ _ _ _ _ _ _ (now (s .args .out-states)) (now (s .args .out-arcs)) (s .pre) (c .if1 .taken)
 
 returns-2 : tie.Need-returns-2
 returns-2 c =
     let s = c .before .before .before .before .before .before .before .before .before .before .before in
-    settled-arcs _ _ _ _ _ _ _ (now (s .args .out-states)) (now (s .args .out-arcs)) (s .pre) (c .before .before .before .if1 .left) (c .if2 .taken)
+    answer-arcs _ _ _ _ _ _ _ (now (s .args .out-states)) (now (s .args .out-arcs)) (s .pre) (c .before .before .before .if1 .left) (c .if2 .taken)
 
 sums-fit-requires : tie.Need-sums-fit-requires
 sums-fit-requires c κs =
@@ -32,7 +32,7 @@ sums-fit-requires c κs =
 returns-3 : tie.Need-returns-3
 returns-3 c =
     let s = c .before .before .before .before .before .before .before .before .before .before .before .before .before in
-    settled-weights _ _ _ _ _ _ _ (now (s .args .out-states)) (now (s .args .out-arcs)) (s .pre) (c .before .before .before .before .before .if1 .left) (c .before .before .if2 .left) _ (c .before .sums-fit .ensures) (c .if3 .taken)
+    answer-weights _ _ _ _ _ _ _ (now (s .args .out-states)) (now (s .args .out-arcs)) (s .pre) (c .before .before .before .before .before .if1 .left) (c .before .before .if2 .left) _ (c .before .sums-fit .ensures) (c .if3 .taken)
 
 write-states-requires : tie.Need-write-states-requires
 write-states-requires c κs =
@@ -60,7 +60,7 @@ same-length-2 c = search needs
 returns-4 : tie.Need-returns-4
 returns-4 c =
     let s = c .before .before .before .before .before .before .before .before .before .before .before .before .before .before .before .before .before .before .before .before .before in
-    settled-made _ _ _ _ _ _ _ (now (s .args .out-states)) (now (s .args .out-arcs)) (s .pre) (c .before .before .before .before .before .before .before .before .before .before .before .before .before .if1 .left) (c .before .before .before .before .before .before .before .before .before .before .if2 .left) _ (c .before .before .before .before .before .before .before .before .before .sums-fit .ensures) (c .before .before .before .before .before .before .before .before .if3 .left) _ _ _ _ refl refl (c .before .before .before .before .before .before .write-states .ensures) (c .before .before .write-moves .ensures)
+    answer-made _ _ _ _ _ _ _ (now (s .args .out-states)) (now (s .args .out-arcs)) (s .pre) (c .before .before .before .before .before .before .before .before .before .before .before .before .before .if1 .left) (c .before .before .before .before .before .before .before .before .before .before .if2 .left) _ (c .before .before .before .before .before .before .before .before .before .sums-fit .ensures) (c .before .before .before .before .before .before .before .before .if3 .left) _ _ _ _ refl refl (c .before .before .before .before .before .before .write-states .ensures) (c .before .before .write-moves .ensures)
 
 pub answer-search-spec : {M : Type 1} → statement M
 answer-search-spec =

@@ -1,4 +1,4 @@
--- Facts of columns: one entry, a store to it, and what a store leaves.
+-- Facts of vectors: one entry, a store to it, and what a store leaves.
 use Prim.Native.Nat.{ℕ, zero, suc, _+_, _-_, _*_, _%_, _<_, _≤_}
 use mathlib.Core.Path.{_≡_, refl, sym, ap, _∙_}
 use mathlib.Core.Logic.{_⊎_, inl, inr}
@@ -15,25 +15,25 @@ use Rattle.table.specs.Region.{part, splice}
 use Rattle.table.specs.Endian.{le, toLe}
 use Rattle.table.proofs.RegionFacts.{getD-splice-before, getD-splice-after, length-splice, part-splice-before, part-splice-after}
 use Rattle.table.proofs.EndianFacts.{le-two, le-splice, length-toLe}
-use Rattle.delays_relaxation.specs.Column.{Room, column, Frame}
+use Rattle.delays_relaxation.specs.Vector.{Room, vector, Frame}
 
-pub length-column : (at n : ℕ) (w : List ℕ) → length (column at n w) ≡ n
-unfolding column
-length-column at zero w = refl
-length-column at (suc n) w = ap suc (length-column (at + delaysSize) n w)
+pub length-vector : (at n : ℕ) (w : List ℕ) → length (vector at n w) ≡ n
+unfolding vector
+length-vector at zero w = refl
+length-vector at (suc n) w = ap suc (length-vector (at + delaysSize) n w)
 
 -- the entry of state q
-pub column-at : (at n : ℕ) (w : List ℕ) (q d : ℕ) → q < n → getD (column at n w) q d ≡ le (part (at + delaysSize * q) 2 w)
-unfolding column
-column-at at zero w q d h = absurd (omega arith)
-column-at at (suc n) w zero d h = ap (λ (k : ℕ). le (part k 2 w)) (omega arith)
-column-at at (suc n) w (suc q) d h = column-at (at + delaysSize) n w q d (omega arith) ∙ ap (λ (k : ℕ). le (part k 2 w)) (omega arith)
+pub vector-at : (at n : ℕ) (w : List ℕ) (q d : ℕ) → q < n → getD (vector at n w) q d ≡ le (part (at + delaysSize * q) 2 w)
+unfolding vector
+vector-at at zero w q d h = absurd (omega arith)
+vector-at at (suc n) w zero d h = ap (λ (k : ℕ). le (part k 2 w)) (omega arith)
+vector-at at (suc n) w (suc q) d h = vector-at (at + delaysSize) n w q d (omega arith) ∙ ap (λ (k : ℕ). le (part k 2 w)) (omega arith)
 
--- two columns that are equal entry by entry
-pub column-ext : (at n b : ℕ) (w v : List ℕ) → ((q : ℕ) → q < n → le (part (at + delaysSize * q) 2 w) ≡ le (part (b + delaysSize * q) 2 v)) → column at n w ≡ column b n v
-column-ext at n b w v f =
-    ext-getD 0 (column at n w) (column b n v) (length-column at n w ∙ sym (length-column b n v))
-    (λ q l. let k : q < n = omega (arith, length-column at n w) in column-at at n w q 0 k ∙ f q k ∙ sym (column-at b n v q 0 k))
+-- two vectors that are equal entry by entry
+pub vector-ext : (at n b : ℕ) (w v : List ℕ) → ((q : ℕ) → q < n → le (part (at + delaysSize * q) 2 w) ≡ le (part (b + delaysSize * q) 2 v)) → vector at n w ≡ vector b n v
+vector-ext at n b w v f =
+    ext-getD 0 (vector at n w) (vector b n v) (length-vector at n w ∙ sym (length-vector b n v))
+    (λ q l. let k : q < n = omega (arith, length-vector at n w) in vector-at at n w q 0 k ∙ f q k ∙ sym (vector-at b n v q 0 k))
 
 -- ---- frames
 
@@ -53,7 +53,7 @@ frame-keeps at m n w v f a l h k =
     let q = f .same (a + 1) k in
     le-two a w (omega arith) ∙ (rw (p, q) (sym (le-two a v l)))
 
--- a store to the column leaves the rest as it is
+-- a store to the vector leaves the rest as it is
 pub frame-store : (at n q x : ℕ) (w : List ℕ) → q < n → Room at 2 n w → Frame at 2 n (splice (at + delaysSize * q) (toLe 2 x) w) w
 frame-store at n q x w h l =
     let e : length (toLe 2 x) ≡ 2 = length-toLe 2 x in
@@ -74,21 +74,21 @@ frame-store at n q x w h l =
             getD-splice-after (at + delaysSize * q) (toLe 2 x) w i 0 (omega (arith, length-toLe 2 x)) (omega (arith, length-toLe 2 x))
 
 -- and is what stands there then
-pub column-store : (at n q x : ℕ) (w : List ℕ) → q < n → Room at 2 n w → x < 65536
-    → column at n (splice (at + delaysSize * q) (toLe 2 x) w) ≡ set (column at n w) q x
-column-store at n q x w h l f =
-    ext-getD 0 (column at n (splice (at + delaysSize * q) (toLe 2 x) w)) (set (column at n w) q x)
-    (length-column at n (splice (at + delaysSize * q) (toLe 2 x) w) ∙ sym (length-set (column at n w) q x ∙ length-column at n w))
-    (λ p k. let b : p < n = omega (arith, length-column at n (splice (at + delaysSize * q) (toLe 2 x) w)) in
-    column-at at n (splice (at + delaysSize * q) (toLe 2 x) w) p 0 b ∙ go p b (ℕ-discrete p q))
+pub vector-store : (at n q x : ℕ) (w : List ℕ) → q < n → Room at 2 n w → x < 65536
+    → vector at n (splice (at + delaysSize * q) (toLe 2 x) w) ≡ set (vector at n w) q x
+vector-store at n q x w h l f =
+    ext-getD 0 (vector at n (splice (at + delaysSize * q) (toLe 2 x) w)) (set (vector at n w) q x)
+    (length-vector at n (splice (at + delaysSize * q) (toLe 2 x) w) ∙ sym (length-set (vector at n w) q x ∙ length-vector at n w))
+    (λ p k. let b : p < n = omega (arith, length-vector at n (splice (at + delaysSize * q) (toLe 2 x) w)) in
+    vector-at at n (splice (at + delaysSize * q) (toLe 2 x) w) p 0 b ∙ go p b (ℕ-discrete p q))
   where
-    go : (p : ℕ) → p < n → Dec (p ≡ q) → le (part (at + delaysSize * p) 2 (splice (at + delaysSize * q) (toLe 2 x) w)) ≡ getD (set (column at n w) q x) p 0
+    go : (p : ℕ) → p < n → Dec (p ≡ q) → le (part (at + delaysSize * p) 2 (splice (at + delaysSize * q) (toLe 2 x) w)) ≡ getD (set (vector at n w) q x) p 0
     go p b (yes e) =
-        let c : q < length (column at n w) = omega (arith, length-column at n w) in
-        rw (e, getD-set-same (column at n w) q) (le-splice 2 x (at + delaysSize * q) w f (omega arith))
+        let c : q < length (vector at n w) = omega (arith, length-vector at n w) in
+        rw (e, getD-set-same (vector at n w) q) (le-splice 2 x (at + delaysSize * q) w f (omega arith))
     go p b (no ne) =
-        let d : getD (set (column at n w) q x) p 0 ≡ getD (column at n w) p 0 = rw getD-set-other in
-        frame-away p b (lt-or p q ne) ∙ sym (column-at at n w p 0 b) ∙ sym d
+        let d : getD (set (vector at n w) q x) p 0 ≡ getD (vector at n w) p 0 = rw getD-set-other in
+        frame-away p b (lt-or p q ne) ∙ sym (vector-at at n w p 0 b) ∙ sym d
       where
         lt-or : (a c : ℕ) → (a ≡ c → ⊥) → (a < c) ⊎ (c < a)
         lt-or zero zero k = absurd (k refl)

@@ -16,7 +16,7 @@ abbrev pub spaceIn : ℕ → ℕ → Space
 spaceIn forStates forArcs = record { states = forStates / stateSize; arcs = forArcs / arcSize }
 
 -- a search was made by a plan for slices of so many bytes
-pub record Settleable (p : Plan) (s1 a1 s2 a2 : List ℕ) (r : Head) (w : List ℕ) (forStates forArcs : ℕ) : Type 0 where
+pub record Answerable (p : Plan) (s1 a1 s2 a2 : List ℕ) (r : Head) (w : List ℕ) (forStates forArcs : ℕ) : Type 0 where
   pub explorable : Explorable p s1 a1 s2 a2 (length w)
   pub tapes-fit : p .first .tapes + p .second .tapes ≤ 8
   pub state-cap : p .states ≡ stateCap (spaceIn forStates forArcs)

@@ -1,4 +1,4 @@
--- The answer that a search settles: what each way out of it leaves.
+-- The answer by a search: what each way out of it leaves.
 use mathlib.Core.Path.{_≡_, refl, sym, ap, ap₂, subst, _∙_}
 use mathlib.Core.Bool.{Bool, true, false, not}
 use mathlib.Core.Option.{some}
@@ -34,7 +34,7 @@ use Rattle.product_search.specs.Plans.{firstIn, secondIn}
 use Rattle.product_search.specs.Exploring.{reachedIn, edgesIn, Held}
 use Rattle.product_records.specs.Sums.{verticesAt, movesAt}
 use Rattle.product_records.specs.Results.{statesFit, stateRecords, Vertices, movesFit, moveRecords, Moves}
-use Rattle.product.specs.Settled.{Settleable}
+use Rattle.product.specs.Answered.{Answerable}
 use Rattle.product.proofs.CrossFacts.{numberedBy, states-over, arcs-over, weights-over, product-made}
 use Rattle.product.proofs.MoveModel.{vertices-held, vertices-fit, states-judged, states-encoded, moves-fit, moves-judged, moves-encoded}
 
@@ -47,7 +47,7 @@ not-false : (b : Bool) → not b ≡ false → b ≡ true
 not-false true e = refl
 not-false false e = sym e
 
-module _ (p : Plan) (s1 a1 s2 a2 : List ℕ) (r : Head) (w oldStates oldArcs : List ℕ) (t : Settleable p s1 a1 s2 a2 r w (length oldStates) (length oldArcs)) where
+module _ (p : Plan) (s1 a1 s2 a2 : List ℕ) (r : Head) (w oldStates oldArcs : List ℕ) (t : Answerable p s1 a1 s2 a2 r w (length oldStates) (length oldArcs)) where
   -- the two tables, the slices of the result and the space in them
   abbrev A : Automaton ℕ
   A = firstIn p s1 a1
@@ -62,13 +62,13 @@ module _ (p : Plan) (s1 a1 s2 a2 : List ℕ) (r : Head) (w oldStates oldArcs : L
   space = spaceOf slices
 
   -- a refusal leaves the slices
-  settled-refused : (n : ℕ) → crossProduct ℕ-sum weightFits space A B ≡ refused n → madeOf (refused n) oldStates oldArcs ≡ productStep A B slices
+  answer-refused : (n : ℕ) → crossProduct ℕ-sum weightFits space A B ≡ refused n → madeOf (refused n) oldStates oldArcs ≡ productStep A B slices
   unfolding productStep
-  settled-refused n e = sym (put-refused slices n) ∙ ap (λ (x : Answer (Automaton ℕ)). put x slices) (sym e)
+  answer-refused n e = sym (put-refused slices n) ∙ ap (λ (x : Answer (Automaton ℕ)). put x slices) (sym e)
 
   -- more states than there is room for
-  pub settled-full : r .full ≡ true → madeOf (refused refusal.statesFull) oldStates oldArcs ≡ productStep A B slices
-  settled-full e = settled-refused 8 (states-over A B space (p .states) (t .state-cap) (t .over e))
+  pub answer-full : r .full ≡ true → madeOf (refused refusal.statesFull) oldStates oldArcs ≡ productStep A B slices
+  answer-full e = answer-refused 8 (states-over A B space (p .states) (t .state-cap) (t .over e))
 
   module _ (e : r .full ≡ false) where
     abbrev cs : List product.Vertex
@@ -78,11 +78,11 @@ module _ (p : Plan) (s1 a1 s2 a2 : List ℕ) (r : Head) (w oldStates oldArcs : L
     es = edgesIn p s1 a1 s2 a2
 
     -- more arcs than there is room for
-    pub settled-arcs : p .arcs < r .arcs → madeOf (refused refusal.arcsFull) oldStates oldArcs ≡ productStep A B slices
-    settled-arcs h =
+    pub answer-arcs : p .arcs < r .arcs → madeOf (refused refusal.arcsFull) oldStates oldArcs ≡ productStep A B slices
+    answer-arcs h =
         let m = t .more e h in
         let l = m .1 in
-        settled-refused 9 (arcs-over A B space (p .states) (t .state-cap) (m .0) (omega (arith, l, t .arc-cap)))
+        answer-refused 9 (arcs-over A B space (p .states) (t .state-cap) (m .0) (omega (arith, l, t .arc-cap)))
 
     module _ (h : r .arcs ≤ p .arcs) where
       -- what stands in work space
@@ -137,17 +137,17 @@ module _ (p : Plan) (s1 a1 s2 a2 : List ℕ) (r : Head) (w oldStates oldArcs : L
 
       module _ (b : Bool) (f : b ≡ and (statesFit s1 s2 (verticesAt 0 (r .reached) w)) (movesFit s1 a1 s2 a2 w (movesAt (p .base) (r .arcs) w))) where
         -- a summed weight out of range
-        pub settled-weights : not b ≡ true → madeOf (refused refusal.weight) oldStates oldArcs ≡ productStep A B slices
-        settled-weights g =
-            settled-refused 11 (weights-over A B space (p .states) (t .state-cap) (seen .few) within (sym (judged b f) ∙ not-true b g))
+        pub answer-weights : not b ≡ true → madeOf (refused refusal.weight) oldStates oldArcs ≡ productStep A B slices
+        answer-weights g =
+            answer-refused 11 (weights-over A B space (p .states) (t .state-cap) (seen .few) within (sym (judged b f) ∙ not-true b g))
 
         -- the product written
-        pub settled-made : not b ≡ false → (n k : ℕ) (states arcs : List ℕ) → n ≡ p .first .tapes → k ≡ p .second .tapes
+        pub answer-made : not b ≡ false → (n k : ℕ) (states arcs : List ℕ) → n ≡ p .first .tapes → k ≡ p .second .tapes
             → states ≡ overwrite (stateRecords s1 s2 (verticesAt 0 (r .reached) w)) oldStates
             → arcs ≡ overwrite (moveRecords s1 a1 s2 a2 w n k (movesAt (p .base) (r .arcs) w)) oldArcs
             → madeOf (ok (record { tapes = n + k; states = r .reached; arcs = r .arcs })) states arcs ≡ productStep A B slices
         unfolding productStep
-        settled-made g n k states arcs en ek x y =
+        answer-made g n k states arcs en ek x y =
             let P = numberedBy A B (p .states) in
             let made = product-made A B space (p .states) (t .state-cap) (seen .few) within (sym (judged b f) ∙ not-false b g) in
             let tapes : n + k ≡ A .tapes + B .tapes = omega (arith, en, ek, sound-holds (lent (p .first) s1 a1) (t .explorable .first-sound) .tapes, sound-holds (lent (p .second) s2 a2) (t .explorable .second-sound) .tapes) in

@@ -1,4 +1,4 @@
--- Columns of the work space: each state has 64 bytes there, and a column is a number of two bytes at one place of each.
+-- Vectors in the work space: each state has 64 bytes there, and a vector is a number of two bytes at one place of each.
 use Prim.Native.Nat.{ℕ, zero, suc, _+_, _-_, _*_, _%_, _<_, _≤_}
 use mathlib.Core.Path.{_≡_}
 use mathlib.Core.Logic.{_⊎_}
@@ -8,10 +8,10 @@ use Rattle.table.specs.Region.{part}
 use Rattle.table.specs.Endian.{le}
 use Rattle.automata.specs.Layout.{delaysSize}
 
--- the numbers of n states in the column from place at
-unfoldable pub column : ℕ → ℕ → List ℕ → List ℕ
-column at zero w = []
-column at (suc n) w = le (part at 2 w) ∷ column (at + delaysSize) n w
+-- the numbers of n states in the vector from place at
+unfoldable pub vector : ℕ → ℕ → List ℕ → List ℕ
+vector at zero w = []
+vector at (suc n) w = le (part at 2 w) ∷ vector (at + delaysSize) n w
 
 -- the first m bytes from place at, and from each 64 bytes further on, n times, lie in w
 abbrev pub Room : ℕ → ℕ → ℕ → List ℕ → Type 0
