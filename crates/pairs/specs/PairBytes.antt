@@ -6,10 +6,6 @@ use lib.ListN.{getD}
 use Rattle.automata.specs.TapePair.{TapePair}
 use Rattle.table.specs.declared.pair.Pair as memory
 
--- the bytes of a pair
-abbrev pub pairSize : ℕ
-pairSize = 3
-
 -- The pairs of a list of bytes. A list is counted in whole records: one or two last bytes are no pair.
 unfoldable pub pairsOf : List ℕ → List TapePair
 pairsOf [] = []

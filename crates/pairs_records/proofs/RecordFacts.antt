@@ -5,21 +5,14 @@ use mathlib.Core.Bool.{Bool, true, false}
 use mathlib.Core.List.{List, [], _∷_, map}
 use native.Mathlib.Omega.{arith}
 use native.Mathlib.Numerals.{add-one}
-use lib.Dec.{leb}
-use lib.ListN.{length, getD, take, drop, length-map, length-take, drop-of-length-le}
-use lib.Seq.{take-all, drop-cons, getD-take}
-use borrow.Author.Tests.{leb-true, le-leb, lt-leb}
-use Rattle.automata.specs.Limits.{maxPairs, maxDelay}
+use lib.ListN.{length, getD, take, length-map}
+use lib.Seq.{take-all}
 use Rattle.automata.specs.Lists.{and}
-use Rattle.automata.specs.Answer.{ok}
 use Rattle.automata.specs.TapePair as automata
 use Rattle.automata.specs.Projection.{isTape}
-use Rattle.automata.specs.IntersectCall.{distinct, named}
 use Rattle.automata.specs.Join.{within}
-use Rattle.automata.proofs.TestFacts.{and-true}
 use Rattle.table.specs.declared.pair.Pair.{Pair}
 use Rattle.table.specs.declared.pair.PairList.{PairList}
-use Rattle.table.specs.Answers.{judgedAs}
 use Rattle.table.specs.Pairs.{pairAs, pairsAs, noPair}
 use Rattle.pairs.specs.Judgement.{FirstFour}
 use Rattle.pairs_records.specs.Records.{fourOf, readOf}

@@ -1,6 +1,6 @@
 -- The bounds of a search, one step after the other.
 use Prim.Native.Nat.{ℕ, _+_, _≤_}
-use mathlib.Core.Path.{_≡_, refl, _∙_}
+use mathlib.Core.Path.{refl, _∙_}
 use mathlib.Core.List.{List}
 use native.Mathlib.Omega.{arith}
 use Rattle.search_rows.specs.Progress.{Progress, Grows, Widens}
