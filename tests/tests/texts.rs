@@ -186,7 +186,8 @@ fn no_table_begins_with_a_pair_line() {
         for states in [0, 9, 10, 99, 100, 999, 1_000, 1_024] {
             for arcs in [0, 9, 10, 99, 100, 999, 1_000, 8_192] {
                 let text = format!("{tapes:3}{states:6}{arcs:6}\n{}", FIRST.repeat(4));
-                assert_eq!(read_pair_line(&mut Reader::new(text.as_bytes())).err(), Some(Refusal::Form), "{text}");
+                let fault = read_pair_line(&mut Reader::new(text.as_bytes())).err();
+                assert_eq!(fault.map(|fault| fault.refusal), Some(Refusal::Form), "{text}");
             }
         }
     }
