@@ -2,6 +2,7 @@
 // refusal, to standard output. All that matters is `agree_text`; one byte more than the longest input is read, so that
 // a longer one is known.
 use agree_text::agree_text;
+use agree_text::keep::OUTPUT_LENT;
 
 // Room for an input and for one byte more.
 fn input_space() -> [u8; 65537] {
@@ -16,7 +17,7 @@ fn write_front(bytes: &[u8], n: usize) {
 }
 
 // The same of the output.
-fn write_output(bytes: &[u8; 50000], n: usize) {
+fn write_output(bytes: &[u8; OUTPUT_LENT], n: usize) {
     write_front(bytes, n);
 }
 
@@ -25,7 +26,7 @@ fn run(bytes: &[u8], n: usize) {
     if bytes.len() < n {
         return;
     }
-    let mut output = [0u8; 50000];
+    let mut output = [0u8; OUTPUT_LENT];
     let m = agree_text(&bytes[0..n], &mut output);
     write_output(&output, m);
 }

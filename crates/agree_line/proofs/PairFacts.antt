@@ -22,6 +22,7 @@ use Rattle.text_store.specs.Recode.{recoded}
 use Rattle.text_store.proofs.RecodeFacts.{recoded-copies}
 use Rattle.agree_line.specs.PairBytes.{saturated, bytesOfPair, pairBytes}
 use Rattle.agree_line.specs.PairColumns.{valueOf, byteOfColumn, readPair, pairsRead, bytesOfColumns}
+use Rattle.automata.specs.Layout.{entryWidth, secondColumn, limitColumn, pairWidth}
 
 -- the number that fills a list of a known length
 pub decimal-at : (w : ℕ) (y : List ℕ) → length y ≡ w → readDecimal y ≡ decimal w .read y
@@ -35,30 +36,30 @@ pairOf p = record { first = p .0; second = p .1 .0; limit = p .1 .1 }
 
 -- the three columns of a pair, one behind the other
 abbrev first-column : List ℕ → List ℕ
-first-column x = take 3 x
+first-column x = take entryWidth x
 
 abbrev second-column : List ℕ → List ℕ
-second-column x = take 3 (drop 3 x)
+second-column x = take entryWidth (drop secondColumn x)
 
 abbrev limit-column : List ℕ → List ℕ
-limit-column x = take 3 (drop 6 x)
+limit-column x = take entryWidth (drop limitColumn x)
 
 -- the three numbers side by side are the pair
-pair-is : (x : List ℕ) → length x ≡ 9
+pair-is : (x : List ℕ) → length x ≡ pairWidth
     → readPair x ≡ (beside (readDecimal (first-column x)) (beside (readDecimal (second-column x)) (readDecimal (limit-column x))) >>= λ p. ok (pairOf p))
 unfolding readPair
 pair-is x l =
-    let d = length-drop 3 x in
+    let d = length-drop secondColumn x in
     let e = length-drop 6 x in
     rw (
-      decimal-at 3 (first-column x) (length-take-le 3 x (omega arith)),
-      decimal-at 3 (second-column x) (length-take-le 3 (drop 3 x) (omega arith)),
-      decimal-at 3 (limit-column x) (length-take-le 3 (drop 6 x) (omega arith)),
-      drop-drop 3 3 x,
-      take-all 3 (drop 6 x) (omega arith),
+      decimal-at entryWidth (first-column x) (length-take-le entryWidth x (omega arith)),
+      decimal-at entryWidth (second-column x) (length-take-le entryWidth (drop secondColumn x) (omega arith)),
+      decimal-at entryWidth (limit-column x) (length-take-le entryWidth (drop limitColumn x) (omega arith)),
+      drop-drop entryWidth secondColumn x,
+      take-all entryWidth (drop limitColumn x) (omega arith),
     )
 
-module _ (x : List ℕ) (l : length x ≡ 9) (F S L : Number) (jf js jl jb j : Judged)
+module _ (x : List ℕ) (l : length x ≡ pairWidth) (F S L : Number) (jf js jl jb j : Judged)
     (pf : numberAs F ≡ readDecimal (first-column x)) (ps : numberAs S ≡ readDecimal (second-column x)) (pl : numberAs L ≡ readDecimal (limit-column x))
     (qf : judgedAs jf ≡ forget (numberAs F)) (qs : judgedAs js ≡ forget (numberAs S)) (ql : judgedAs jl ≡ forget (numberAs L))
     (qb : judgedAs jb ≡ forget (beside (judgedAs js) (judgedAs jl))) (qj : judgedAs j ≡ forget (beside (judgedAs jf) (judgedAs jb))) where
@@ -79,15 +80,15 @@ pub pairs-start : (x : List ℕ) (n : ℕ) → forget (beside (ok (tt {0})) (pai
 pairs-start x n = beside-first (pairsRead n x)
 
 -- a turn of the loop over the pairs
-pub pairs-turn : (x : List ℕ) (at left : ℕ) (j k next : Judged) → 0 < left → judgedAs k ≡ forget (readPair (take (at + 9 - at) (drop at x)))
+pub pairs-turn : (x : List ℕ) (at left : ℕ) (j k next : Judged) → 0 < left → judgedAs k ≡ forget (readPair (take (at + pairWidth - at) (drop at x)))
     → judgedAs next ≡ forget (beside (judgedAs j) (judgedAs k))
-    → forget (beside (judgedAs next) (pairsRead (left - 1) (drop (at + 9) x))) ≡ forget (beside (judgedAs j) (pairsRead left (drop at x)))
+    → forget (beside (judgedAs next) (pairsRead (left - 1) (drop (at + pairWidth) x))) ≡ forget (beside (judgedAs j) (pairsRead left (drop at x)))
 unfolding pairsRead readPair
 pairs-turn x at zero j k next h e f = absurd (omega arith)
 pairs-turn x at (suc left) j k next h e f =
     let s : suc left - 1 ≡ left = omega arith in
-    let n : at + 9 - at ≡ 9 = omega arith in
-    rw (s, f, e, n, ← drop-drop 9 at x) (beside-next (judgedAs j) (readPair (take 9 (drop at x))) (pairsRead left (drop 9 (drop at x))) (λ p. p .0 ∷ p .1))
+    let n : at + pairWidth - at ≡ pairWidth = omega arith in
+    rw (s, f, e, n, ← drop-drop pairWidth at x) (beside-next (judgedAs j) (readPair (take pairWidth (drop at x))) (pairsRead left (drop pairWidth (drop at x))) (λ p. p .0 ∷ p .1))
 
 -- behind the last pair
 pub pairs-end : (x : List ℕ) (at left : ℕ) (j : Judged) → left ≡ 0 → judgedAs j ≡ forget (beside (judgedAs j) (pairsRead left (drop at x)))
@@ -112,11 +113,11 @@ pair-stored x xs at u v w h e f g =
     ap (λ (l : List ℕ). set l (at + 2) w) (two-stores at u v xs (omega arith)) ∙ splice-snoc at (u ∷ v ∷ []) xs w (omega arith) ∙ rw (e, f, g)
 
 -- a pair has three bytes
-pub pair-sized : (y : List ℕ) → length y ≡ 9 → length (bytesOfColumns y) ≡ 3
+pub pair-sized : (y : List ℕ) → length y ≡ pairWidth → length (bytesOfColumns y) ≡ 3
 unfolding bytesOfColumns
 pair-sized y l = refl
 
-each-pair : (y : List ℕ) (p : TapePair) → length y ≡ 9 → pairColumns .read y ≡ ok p → bytesOfColumns y ≡ bytesOfPair p
+each-pair : (y : List ℕ) (p : TapePair) → length y ≡ pairWidth → pairColumns .read y ≡ ok p → bytesOfColumns y ≡ bytesOfPair p
 unfolding bytesOfColumns readPair
 each-pair y p l r =
     let A = readDecimal (first-column y) in
@@ -130,6 +131,6 @@ each-pair y p l r =
     ∙ ap bytesOfPair q
 
 -- the bytes kept of pairs that are read are the bytes of these pairs
-pub pairs-kept : (n : ℕ) (x : List ℕ) (ps : List TapePair) → n * 9 ≤ length x → pairsRead n x ≡ ok ps → recoded bytesOfColumns 9 n x ≡ pairBytes ps
+pub pairs-kept : (n : ℕ) (x : List ℕ) (ps : List TapePair) → n * pairWidth ≤ length x → pairsRead n x ≡ ok ps → recoded bytesOfColumns pairWidth n x ≡ pairBytes ps
 unfolding pairsRead pairBytes
 pairs-kept n x ps h r = recoded-copies pairColumns bytesOfPair bytesOfColumns each-pair n x ps h r

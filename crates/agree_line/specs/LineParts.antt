@@ -8,6 +8,7 @@ use Rattle.automata.specs.Refusal.{size, short}
 use Rattle.automata.specs.TapePair.{TapePair}
 use Rattle.automata.specs.Sequence.{readFirst}
 use Rattle.automata.specs.Decimal.{decimal}
+use Rattle.automata.specs.Layout.{entryWidth, pairsColumn, pairWidth}
 use Rattle.automata.specs.AgreeText.{inputLimit, shortestLine, pairLine}
 use Rattle.table.specs.Answers.{refusalNumber}
 use Rattle.agree_line.specs.declared.line.PairLine.{PairLine}
@@ -18,7 +19,7 @@ unfoldable pub countRead : List ℕ → Answer ℕ
 countRead x = do
   s ← require (leb (length x) inputLimit) size
   l ← require (leb shortestLine (length x)) short
-  decimal 3 .read (take 3 x)
+  decimal entryWidth .read (take entryWidth x)
 
 -- the pairs, in the places of a line behind their number
 unfoldable pub lineRead : ℕ → List ℕ → Answer (List TapePair)
@@ -26,7 +27,7 @@ lineRead n x = pairLine n .read x
 
 -- the number of pairs and the place behind the line, of a line of n pairs
 unfoldable pub restRead : ℕ → List ℕ → Answer (ℕ × ℕ)
-restRead n x = readFirst (pairLine n) (drop 3 x) >>= λ p. ok (n, 4 + n * 9)
+restRead n x = readFirst (pairLine n) (drop pairsColumn x) >>= λ p. ok (n, shortestLine + n * pairWidth)
 
 -- the same of the first line of an input
 unfoldable pub partsRead : List ℕ → Answer (ℕ × ℕ)

@@ -5,6 +5,7 @@ use lib.ListN.{take, drop}
 use Rattle.automata.specs.Answer.{Answer, ok, refused}
 use Rattle.automata.specs.TapePair.{TapePair}
 use Rattle.automata.specs.Format.{readCopies}
+use Rattle.automata.specs.Layout.{entryWidth, secondColumn, limitColumn}
 use Rattle.automata.specs.AgreeText.{pairColumns}
 use Rattle.text_columns.specs.Columns.{readDecimal}
 use Rattle.agree_line.specs.PairBytes.{saturated}
@@ -18,13 +19,13 @@ valueOf (refused k) = 0
 abbrev pub byteOfColumn : List ℕ → ℕ
 byteOfColumn x = saturated (valueOf (readDecimal x))
 
--- a pair in the nine places of a list, and so many of them
+-- a pair in the places of a list, and so many of them
 unfoldable pub readPair : List ℕ → Answer TapePair
 readPair x = pairColumns .read x
 
 unfoldable pub pairsRead : ℕ → List ℕ → Answer (List TapePair)
 pairsRead n x = readCopies pairColumns n x
 
--- the three bytes of the pair in the nine places of a list
+-- the three bytes of the pair in the places of a list
 unfoldable pub bytesOfColumns : List ℕ → List ℕ
-bytesOfColumns x = byteOfColumn (take 3 x) ∷ byteOfColumn (take 3 (drop 3 x)) ∷ byteOfColumn (take 3 (drop 6 x)) ∷ []
+bytesOfColumns x = byteOfColumn (take entryWidth x) ∷ byteOfColumn (take entryWidth (drop secondColumn x)) ∷ byteOfColumn (take entryWidth (drop limitColumn x)) ∷ []

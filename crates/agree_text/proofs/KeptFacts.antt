@@ -40,21 +40,21 @@ use Rattle.agree_line.specs.declared.line.PairLine.the-variants as line
 use Rattle.agree_line.specs.PairBytes.{pairBytes}
 use Rattle.agree_text.specs.FirstLine.{lineAs, lineBytes, countOf, nextOf, FirstLine}
 use Rattle.agree_text.specs.Wrote.{Wrote}
-use Rattle.agree_text.specs.Kept.{room, keptOf, keptText}
+use Rattle.agree_text.specs.Kept.{arcsLent, room, keptOf, keptText, statesLent, workLent}
 use Rattle.agree_text.proofs.FirstFacts.{toBytes}
 use Rattle.agree_text.proofs.CutFacts.{cut-harmless}
 
 -- ---- keeping
 
-module _ (m : Memory) (hs : length (m .stateBytes) ≤ 640) (ps : List TapePair) (s : Slices) (work : List ℕ)
-    (room-is : spaceOf s ≡ room) (hw : 32768 ≤ length work) where
+module _ (m : Memory) (hs : length (m .stateBytes) ≤ statesLent) (ps : List TapePair) (s : Slices) (work : List ℕ)
+    (room-is : spaceOf s ≡ room) (hw : workLent ≤ length work) where
   -- what the slices hold after the call is what is kept
   kept-held : (a : Answer (Automaton ℕ)) → decodeTable m ≡ a → held (intersectOutcome m ps s work .made) ≡ (a >>= λ A. intersectCall true room ps A)
   unfolding build buildWork held given put
   kept-held (refused n) e = ap (λ (o : Built). held (o .made)) (intersect-table-refused m n e ps s work)
   kept-held (ok A) e =
       let d = decode-only m A e in
-      let few : size A ≤ 64 = omega (arith, sound-states-lent m (sound m A e), d .1 .states, hs) in
+      let few : size A ≤ stateSpace = omega (arith, sound-states-lent m (sound m A e), d .1 .states, hs) in
       let passes : enough (buildWork room (size A)) work ≡ true = le-leb (buildWork room (size A)) (length work) (omega arith) in
       ap (λ (o : Built). held (o .made)) (intersect-judged m A e ps s work)
       ∙ held-answer (intersectCall (enough (buildWork (spaceOf s) (size A)) work) (spaceOf s) ps A) s (λ R g. Results.called _ (spaceOf s) ps A R (d .0) g .well-formed)
@@ -160,22 +160,22 @@ module _ (x bytes : List ℕ) (r : PairLine) (t : FirstLine x bytes r) where
 
 -- the slices for the records of a table
 abbrev pub lentSlices : Slices
-lentSlices = slicesOf (replicate 640 0) (replicate 40960 0)
+lentSlices = slicesOf (replicate statesLent 0) (replicate arcsLent 0)
 
 abbrev spaceIn : ℕ → ℕ → Space
 spaceIn a b = record { states = a / stateSize; arcs = b / arcSize }
 
 -- they have its space
 pub room-lent : spaceOf lentSlices ≡ room
-room-lent = ap₂ spaceIn (length-replicate {A = ℕ} 640 0) (length-replicate {A = ℕ} 40960 0)
+room-lent = ap₂ spaceIn (length-replicate {A = ℕ} statesLent 0) (length-replicate {A = ℕ} arcsLent 0)
 
 -- the work space, which is enough
 abbrev pub lentWork : List ℕ
-lentWork = replicate 32768 0
+lentWork = replicate workLent 0
 
 -- it is as long as a build needs
-pub work-lent : 32768 ≤ length lentWork
-work-lent = let l = length-replicate {A = ℕ} 32768 0 in omega arith
+pub work-lent : workLent ≤ length lentWork
+work-lent = let l = length-replicate {A = ℕ} workLent 0 in omega arith
 
 -- a text that was written, under another name
 pub wrote-as : (t u before after : List ℕ) (n : ℕ) → t ≡ u → Wrote t before after n → Wrote u before after n

@@ -9,9 +9,10 @@ use borrow.Author.Tests.{le-leb}
 use Rattle.automata.specs.Refusal
 use Rattle.automata.specs.Answer.{Answer, ok, refused}
 use Rattle.automata.specs.Automaton.{Automaton}
+use Rattle.automata.specs.Limits.{maxTapes}
 use Rattle.automata.specs.Memory.{Memory, decodeTable}
 use Rattle.automata.specs.TableText.{writeTable}
-use Rattle.automata.specs.AgreeText.{writeOutput}
+use Rattle.automata.specs.AgreeText.{arcSpace, stateSpace, writeOutput}
 use Rattle.automata.specs.Calls.Outcome.{Written, overwrite, print}
 use Rattle.automata.specs.Calls.Work.{enough}
 use Rattle.automata.specs.Calls.Write.{writeOutcome}
@@ -26,13 +27,14 @@ use Rattle.table.specs.Answers.{refusalNumber}
 use Rattle.text.specs.declared.WriteAnswer.{WriteAnswer}
 use Rattle.text.specs.declared.WriteAnswer.the-variants as written
 use Rattle.text.specs.Answers.{writtenAs, writtenOf}
+use Rattle.agree_text.specs.Kept.{arcsLent, outputLent, statesLent}
 use Rattle.agree_text.specs.Wrote.{Wrote}
 
--- the longest text: 64 states, 512 arcs, 8 tapes
-longest : (n k t : ℕ) → n ≤ 64 → k ≤ 512 → t ≤ 8 → headerWidth + n * stateWidth + k * (arcWidth + t * labelWidth) ≤ 50000
+-- the longest text
+longest : (n k t : ℕ) → n ≤ stateSpace → k ≤ arcSpace → t ≤ maxTapes → headerWidth + n * stateWidth + k * (arcWidth + t * labelWidth) ≤ outputLent
 longest n k t a b c =
-    let w : arcWidth + t * labelWidth ≤ 95 = omega arith in
-    let p : k * (arcWidth + t * labelWidth) ≤ 512 * 95 = mul-le-mul b w in
+    let w : arcWidth + t * labelWidth ≤ arcWidth + maxTapes * labelWidth = omega arith in
+    let p : k * (arcWidth + t * labelWidth) ≤ arcSpace * (arcWidth + maxTapes * labelWidth) = mul-le-mul b w in
     omega (arith, p, a)
 
 -- the text that is written of what memory holds
@@ -40,13 +42,13 @@ abbrev textOf : Answer (Automaton ℕ) → Answer (List ℕ)
 textOf (ok A) = ok (writeTable A)
 textOf (refused n) = refused n
 
-module _ (m : Memory) (hs : length (m .stateBytes) ≤ 640) (ha : length (m .arcBytes) ≤ 40960) (out : List ℕ) (ho : 50000 ≤ length out) where
+module _ (m : Memory) (hs : length (m .stateBytes) ≤ statesLent) (ha : length (m .arcBytes) ≤ arcsLent) (out : List ℕ) (ho : outputLent ≤ length out) where
   text-fits : (A : Automaton ℕ) → decodeTable m ≡ ok A → length (writeTable A) ≤ length out
   text-fits A e =
       let d = decode-only m A e in
       let s = sound m A e in
-      let n : length (A .states) ≤ 64 = omega (arith, sound-states-lent m s, d .1 .states, hs) in
-      let k : length (A .arcs) ≤ 512 = omega (arith, sound-arcs-lent m s, d .1 .arcs, ha) in
+      let n : length (A .states) ≤ stateSpace = omega (arith, sound-states-lent m s, d .1 .states, hs) in
+      let k : length (A .arcs) ≤ arcSpace = omega (arith, sound-arcs-lent m s, d .1 .arcs, ha) in
       let l = length-writeTable A (d .0) in
       let f = longest (length (A .states)) (length (A .arcs)) (A .tapes) n k (d .0 .counts .tapesFit) in
       omega (arith, l, f, ho)

@@ -1,6 +1,7 @@
 // The text of the program `agree`: the first line of its input, and the line of a refusal.
 pub mod keep;
 
+use crate::keep::OUTPUT_LENT;
 use crate::keep::keep_text;
 use agree_line::line::PairLine;
 use agree_line::line::read_line;
@@ -9,6 +10,7 @@ use table::answer::Refusal;
 use table::answer::refusal_number;
 use table::bytes::copy_into;
 use table::layout::NEWLINE;
+use table::layout::PAIRS_COLUMN;
 use table::pair::PAIR;
 use text_columns::decimal::write_decimal;
 ghost use Prim.Native.Nat.{_≤_};
@@ -20,8 +22,11 @@ ghost use Rattle.table.specs.Answers.{refusalNumber};
 ghost use Rattle.agree_text.specs.FirstLine.{FirstLine};
 ghost use Rattle.agree_text.specs.Wrote.{Wrote};
 
+// The bytes of as many pairs as the first line can count.
+const PAIRS_LENT: usize = 999 * PAIR;
+
 // The first line of the input: where it ends, and the pairs of tapes with their limits, three bytes a pair.
-pub fn read_pair_line(input: &[u8], pairs: &mut [u8; 2997]) -> PairLine
+pub fn read_pair_line(input: &[u8], pairs: &mut [u8; PAIRS_LENT]) -> PairLine
     ensures { λ r. ⌜ FirstLine (now (input .entry)) (now (pairs .exit)) r ⌝ }
 {
     let line = read_line(input);
@@ -29,7 +34,7 @@ pub fn read_pair_line(input: &[u8], pairs: &mut [u8; 2997]) -> PairLine
         return line;
     };
     let next = p.next;
-    store_pairs(&input[3..next], p.count, pairs);
+    store_pairs(&input[PAIRS_COLUMN..next], p.count, pairs);
     line
 }
 
@@ -46,10 +51,10 @@ pub fn write_refusal(output: &mut [u8], r: Refusal) -> usize
 }
 
 // The program `agree` from the text that it reads to the text that it writes.
-pub fn agree_text(input: &[u8], output: &mut [u8; 50000]) -> usize
+pub fn agree_text(input: &[u8], output: &mut [u8; OUTPUT_LENT]) -> usize
     ensures { λ r. ⌜ Wrote (agree (now (input .entry))) (now (output .entry)) (now (output .exit)) r ⌝ }
 {
-    let mut pairs = [0u8; 2997];
+    let mut pairs = [0u8; PAIRS_LENT];
     let line = read_pair_line(input, &mut pairs);
     match line {
         PairLine::Refused(k) => write_refusal(output, k),

@@ -222,5 +222,5 @@ module _ (m : Memory) (t : Automaton ℕ) (w : WellFormed t) (h : Holds m t) (k 
       let a = getD (t .arcs) k d in
       let v = All-at (WellFormedArc (t .tapes) (length (t .states))) (t .arcs) d k (w .arcs) (rw (h .arcs) at l) in
       arc-field d l (labelsPlace + i * labelSize) 9 (omega (arith, w .counts .tapesFit))
-      ∙ ap (take labelSize) (sym (drop-drop (i * labelSize) 8 (arcRecord (t .tapes) (length (t .states)) .write a)))
+      ∙ ap (take labelSize) (sym (drop-drop (i * labelSize) labelsPlace (arcRecord (t .tapes) (length (t .states)) .write a)))
       ∙ record-at (labelRecord .write) labelSize [] i (a .labels) (zeros ((maxTapes - t .tapes) * labelSize)) (all-sized labelRecord-lawful (a .labels) (v .labels)) (omega (arith, v .width))

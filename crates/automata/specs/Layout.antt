@@ -1,11 +1,14 @@
 -- The sizes of records in bytes and where their parts stand, and the columns of a table's text, each written down here
 -- and nowhere else.
-use Prim.Native.Nat.{ℕ}
+use Prim.Native.Nat.{ℕ, _+_}
 
--- ---- a state: its initial weight and its final weight, each a flag and a number
+-- ---- a state: its initial weight and its final weight, each a flag, which says whether it is there, and a number
 
 abbrev pub weightSize : ℕ
 weightSize = 5
+
+abbrev pub amountPlace : ℕ
+amountPlace = 1
 
 abbrev pub finalPlace : ℕ
 finalPlace = 5
@@ -28,8 +31,14 @@ labelsPlace = 8
 abbrev pub labelSize : ℕ
 labelSize = 9
 
+abbrev pub symbolsPlace : ℕ
+symbolsPlace = 1
+
 abbrev pub labelsSize : ℕ
 labelsSize = 72
+
+abbrev pub labelsEnd : ℕ
+labelsEnd = labelsPlace + labelsSize
 
 abbrev pub contentSize : ℕ
 contentSize = 76
@@ -112,3 +121,22 @@ labelsColumn = 22
 
 abbrev pub arcWidth : ℕ
 arcWidth = 23
+
+-- ---- the first line of what the program `agree` reads
+
+-- a number of that line: how many pairs there are, a tape or a limit
+abbrev pub entryWidth : ℕ
+entryWidth = 3
+
+-- behind the number of pairs the pairs, each its first tape, its second tape and its limit
+abbrev pub pairsColumn : ℕ
+pairsColumn = 3
+
+abbrev pub secondColumn : ℕ
+secondColumn = 3
+
+abbrev pub limitColumn : ℕ
+limitColumn = 6
+
+abbrev pub pairWidth : ℕ
+pairWidth = 9

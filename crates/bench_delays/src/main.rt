@@ -3,39 +3,54 @@
 use delays_relaxation::edge_at;
 use delays_relaxation::least_delays;
 use delays_relaxation::listing::list_arcs;
+use table::arc::label_place;
+use table::arc::store_ends;
 use table::bytes::get16;
-use table::bytes::put16;
 use table::layout::ARC_SIZE;
-use table::layout::LABELS_PLACE;
-use table::layout::TARGET_PLACE;
+use table::layout::FINAL_PLACE;
+use table::layout::PRESENT;
+use table::layout::STATE_SIZE;
+use table::record::ResultState;
 ghost use mathlib.Core.Path.{_≡_};
 ghost use mathlib.Core.Bool.{true, false};
 ghost use Prim.Native.Nat.{_+_, _*_, _≤_};
 ghost use lib.ListN.{length};
 ghost use Rattle.delays_relaxation.specs.Edges.{edges, Joined, Readable};
-ghost use Rattle.automata.specs.Layout.{arcSize};
+ghost use Rattle.automata.specs.Layout.{arcSize, stateSize};
 
-// Room for the arcs and for the states of a table of the largest size.
-fn arc_space() -> [u8; 655360]
-    ensures { λ r. ⌜ 655360 ≡ length r ⌝ }
+// Room for the states and for the arcs of a table of the largest size.
+const STATE_SPACE: usize = 1024 * STATE_SIZE;
+
+const ARC_SPACE: usize = 8192 * ARC_SIZE;
+
+// The final weight of the last state, and the two arcs behind a chain of 8,184.
+const LAST_FINAL: usize = 1023 * STATE_SIZE + FINAL_PLACE;
+
+const NEXT_ARC: usize = 8184 * ARC_SIZE;
+
+const LAST_ARC: usize = 8185 * ARC_SIZE;
+
+// The arcs, all zero.
+fn arc_space() -> [u8; ARC_SPACE]
+    ensures { λ r. ⌜ 8192 * arcSize ≡ length r ⌝ }
 {
-    [0; 655360]
+    [0; ARC_SPACE]
 }
 
-fn state_space() -> [u8; 10240]
-    ensures { λ r. ⌜ 10240 ≡ length r ⌝ }
+// The states, without a weight.
+fn state_space() -> [u8; STATE_SPACE]
+    ensures { λ r. ⌜ 1024 * stateSize ≡ length r ⌝ }
 {
-    [0; 10240]
+    [0; STATE_SPACE]
 }
 
 // An arc whose labels on two tapes have these lengths. Relaxation reads no symbols.
 fn put_arc(arcs: &mut [u8], at: usize, source: u16, target: u16, up: u8, down: u8)
     requires { ⌜ at + arcSize ≤ length (now arcs) ⌝ }
 {
-    put16(arcs, at, source);
-    put16(arcs, at + TARGET_PLACE, target);
-    arcs[at + LABELS_PLACE] = up;
-    arcs[at + 17] = down;
+    store_ends(arcs, at, ResultState(source), ResultState(target));
+    arcs[label_place(at, 0)] = up;
+    arcs[label_place(at, 1)] = down;
 }
 
 // Arcs from each state to the next, eight each, in turn one symbol more on the first and on the second tape.
@@ -103,7 +118,7 @@ fn four_pairs(states: &[u8], arcs: &[u8], count: usize, order: &[u16])
 
 // The same, where the arcs join states.
 fn run(states: &[u8], arcs: &[u8], count: usize)
-    requires { ⌜ (10240 ≤ length (now states)) × (arcSize * count ≤ length (now arcs)) × (count ≤ 8192) ⌝ }
+    requires { ⌜ (1024 * stateSize ≤ length (now states)) × (arcSize * count ≤ length (now arcs)) × (count ≤ 8192) ⌝ }
 {
     if !joined(arcs, count, 1024) {
         return;
@@ -116,11 +131,11 @@ fn run(states: &[u8], arcs: &[u8], count: usize)
 // A chain, and then the same chain closed to a loop that adds and takes off: every delay becomes endless.
 fn main() {
     let mut states = state_space();
-    states[10235] = 1;
+    states[LAST_FINAL] = PRESENT;
     let mut arcs = arc_space();
     put_chain(&mut arcs, 8184);
     run(&states, &arcs, 8184);
-    put_arc(&mut arcs, 654720, 1023, 0, 0, 1);
-    put_arc(&mut arcs, 654800, 1023, 0, 1, 0);
+    put_arc(&mut arcs, NEXT_ARC, 1023, 0, 0, 1);
+    put_arc(&mut arcs, LAST_ARC, 1023, 0, 1, 0);
     run(&states, &arcs, 8186);
 }

@@ -4,43 +4,63 @@ use intersect::call::intersect;
 use table::answer::Counts;
 use table::answer::TableAnswer;
 use table::answer::refusal_number;
+use table::arc::label_place;
+use table::arc::store_ends;
 use table::bytes::copy_into;
-use table::bytes::put16;
 use table::layout::ARC_SIZE;
-use table::layout::TARGET_PLACE;
+use table::layout::CONFIG_SIZE;
+use table::layout::DELAYS_SIZE;
+use table::layout::FINAL_PLACE;
+use table::layout::PRESENT;
+use table::layout::STATE_SIZE;
+use table::layout::STEP_SIZE;
+use table::record::ResultState;
 ghost use mathlib.Core.Path.{_≡_};
 ghost use Prim.Native.Nat.{_+_, _*_, _≤_};
 ghost use lib.ListN.{length};
-ghost use Rattle.automata.specs.Layout.{arcSize};
+ghost use Rattle.automata.specs.Layout.{arcSize, configSize, delaysSize, stateSize, stepSize};
 
-// Room for the arcs of a table of the largest size, for its states, and for the work of a build into such space.
-fn arc_space() -> [u8; 655360]
-    ensures { λ r. ⌜ 655360 ≡ length r ⌝ }
+// Room for the states and for the arcs of a table of the largest size, and for the work of a build into such space.
+const STATE_SPACE: usize = 1024 * STATE_SIZE;
+
+const ARC_SPACE: usize = 8192 * ARC_SIZE;
+
+const WORK_SPACE: usize = 1024 * CONFIG_SIZE + 8192 * STEP_SIZE + 1024 * DELAYS_SIZE;
+
+// The final weight of the last state of 1,000, and of 500.
+const LAST_FINAL: usize = 999 * STATE_SIZE + FINAL_PLACE;
+
+const HALF_FINAL: usize = 499 * STATE_SIZE + FINAL_PLACE;
+
+// The arcs, all zero.
+fn arc_space() -> [u8; ARC_SPACE]
+    ensures { λ r. ⌜ 8192 * arcSize ≡ length r ⌝ }
 {
-    [0; 655360]
+    [0; ARC_SPACE]
 }
 
-fn state_space() -> [u8; 10240]
-    ensures { λ r. ⌜ 10240 ≡ length r ⌝ }
+// The states, without a weight.
+fn state_space() -> [u8; STATE_SPACE]
+    ensures { λ r. ⌜ 1024 * stateSize ≡ length r ⌝ }
 {
-    [0; 10240]
+    [0; STATE_SPACE]
 }
 
-fn work_space() -> [u8; 524288]
-    ensures { λ r. ⌜ 524288 ≡ length r ⌝ }
+// The work space.
+fn work_space() -> [u8; WORK_SPACE]
+    ensures { λ r. ⌜ 1024 * configSize + 8192 * stepSize + 1024 * delaysSize ≡ length r ⌝ }
 {
-    [0; 524288]
+    [0; WORK_SPACE]
 }
 
 // An arc with the label A on both of two tapes.
 fn put_arc(arcs: &mut [u8], at: usize, source: u16, target: u16)
     requires { ⌜ at + arcSize ≤ length (now arcs) ⌝ }
 {
-    put16(arcs, at, source);
-    put16(arcs, at + TARGET_PLACE, target);
+    store_ends(arcs, at, ResultState(source), ResultState(target));
     let label = [1u8, 65];
-    copy_into(arcs, at + 8, &label);
-    copy_into(arcs, at + 17, &label);
+    copy_into(arcs, label_place(at, 0), &label);
+    copy_into(arcs, label_place(at, 1), &label);
 }
 
 // Arcs from each state to the next, eight each.
@@ -95,16 +115,16 @@ fn run(states: &[u8], arcs: &[u8], size: usize, count: usize) {
 // A chain of 1,000 states.
 fn run_whole(arcs: &[u8]) {
     let mut states = state_space();
-    states[0] = 1;
-    states[9995] = 1;
+    states[0] = PRESENT;
+    states[LAST_FINAL] = PRESENT;
     run(&states, arcs, 1000, 7992);
 }
 
 // The first 500 of its states.
 fn run_half(arcs: &[u8]) {
     let mut states = state_space();
-    states[0] = 1;
-    states[4995] = 1;
+    states[0] = PRESENT;
+    states[HALF_FINAL] = PRESENT;
     run(&states, arcs, 500, 3992);
 }
 

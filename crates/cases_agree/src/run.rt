@@ -1,5 +1,6 @@
 // One case: the first line and the table as one text, and what `agree` writes of it.
 use agree_text::agree_text;
+use agree_text::keep::OUTPUT_LENT;
 use cases::input::find;
 use cases::input::least;
 use cases::input::named;
@@ -34,7 +35,7 @@ fn print_front(bytes: &[u8], n: usize) {
 }
 
 // The same of an output.
-fn print_output(bytes: &[u8; 50000], n: usize) {
+fn print_output(bytes: &[u8; OUTPUT_LENT], n: usize) {
     print_front(bytes, n);
 }
 
@@ -43,7 +44,7 @@ fn print_written(text: &[u8], n: usize) {
     if text.len() < n {
         return;
     }
-    let mut output = [0u8; 50000];
+    let mut output = [0u8; OUTPUT_LENT];
     let m = agree_text(&text[0..n], &mut output);
     print_output(&output, m);
 }

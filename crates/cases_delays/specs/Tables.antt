@@ -1,8 +1,9 @@
 -- The bytes of the tables' records.
-use Prim.Native.Nat.{ℕ}
+use Prim.Native.Nat.{ℕ, _*_}
 use mathlib.Core.List.{List, [], _∷_, _++_}
 use lib.Dec.{eqb}
 use lib.ListN.{getD, replicate}
+use Rattle.automata.specs.Layout.{labelSize}
 use Rattle.automata.specs.Lists.{if}
 use Rattle.table.specs.declared.answer.Counts.{Counts}
 use Rattle.table.specs.declared.pair.Pair.{Pair}
@@ -20,7 +21,7 @@ labelBytes s = symbols s ∷ s ∷ replicate 7 0
 abbrev pub arcBytes : List ℕ → List ℕ
 arcBytes a =
     getD a 0 0 ∷ 0 ∷ getD a 1 0 ∷ 0 ∷ 0 ∷ 0 ∷ 0 ∷ 0
-    ∷ (labelBytes (getD a 2 0) ++ (labelBytes (getD a 3 0) ++ (labelBytes (getD a 4 0) ++ replicate 45 0)))
+    ∷ (labelBytes (getD a 2 0) ++ (labelBytes (getD a 3 0) ++ (labelBytes (getD a 4 0) ++ replicate (5 * labelSize) 0)))
 
 -- the bytes of four arcs
 abbrev pub arcsBytes : List ℕ → List ℕ → List ℕ → List ℕ → List ℕ
@@ -30,7 +31,7 @@ arcsBytes a b c d = arcBytes a ++ (arcBytes b ++ (arcBytes c ++ arcBytes d))
 abbrev pub finalBytes : ℕ → List ℕ
 finalBytes f = replicate 5 0 ++ (f ∷ replicate 4 0)
 
--- the 40 bytes of four states
+-- the bytes of four states
 abbrev pub stateBytes : List ℕ → List ℕ
 stateBytes fs = finalBytes (getD fs 0 0) ++ (finalBytes (getD fs 1 0) ++ (finalBytes (getD fs 2 0) ++ finalBytes (getD fs 3 0)))
 

@@ -7,8 +7,14 @@ use table::bytes::copy_into;
 use table::bytes::get16;
 use table::layout::ARC_SIZE;
 use table::layout::DELAYS_SIZE;
+use table::layout::FINAL_PLACE;
+use table::layout::LABEL_SIZE;
+use table::layout::LABELS_PLACE;
 use table::layout::OPPOSITE_PLACE;
 use table::layout::REACHING_PLACE;
+use table::layout::STATE_SIZE;
+use table::layout::SYMBOLS_PLACE;
+use table::layout::TARGET_PLACE;
 use table::pair::Pair;
 use table::pair::PairList;
 ghost use mathlib.Core.Path.{_≡_};
@@ -28,6 +34,29 @@ const FOURTH_ARC: usize = 3 * ARC_SIZE;
 
 const FOUR_ARCS: usize = 4 * ARC_SIZE;
 
+// The bytes of four states, and of the delays of so many.
+const FOUR_STATES: usize = 4 * STATE_SIZE;
+
+const FOUR_DELAYS: usize = 4 * DELAYS_SIZE;
+
+// Where the labels of an arc behind its first one stand, and the first symbols of three.
+const SECOND_LABEL: usize = LABELS_PLACE + LABEL_SIZE;
+
+const THIRD_LABEL: usize = SECOND_LABEL + LABEL_SIZE;
+
+const FIRST_SYMBOL: usize = LABELS_PLACE + SYMBOLS_PLACE;
+
+const SECOND_SYMBOL: usize = SECOND_LABEL + SYMBOLS_PLACE;
+
+const THIRD_SYMBOL: usize = THIRD_LABEL + SYMBOLS_PLACE;
+
+// Where the final weights of the states behind the first one stand.
+const SECOND_FINAL: usize = STATE_SIZE + FINAL_PLACE;
+
+const THIRD_FINAL: usize = 2 * STATE_SIZE + FINAL_PLACE;
+
+const FOURTH_FINAL: usize = 3 * STATE_SIZE + FINAL_PLACE;
+
 // How many symbols a label has, of none or one.
 fn symbols_of(symbol: u8) -> u8
     ensures { λ r. ⌜ r ≡ symbols symbol ⌝ }
@@ -41,13 +70,13 @@ fn arc_record(arc: [u8; 5]) -> [u8; ARC_SIZE]
 {
     let mut record = [0u8; ARC_SIZE];
     record[0] = arc[0];
-    record[2] = arc[1];
-    record[8] = symbols_of(arc[2]);
-    record[9] = arc[2];
-    record[17] = symbols_of(arc[3]);
-    record[18] = arc[3];
-    record[26] = symbols_of(arc[4]);
-    record[27] = arc[4];
+    record[TARGET_PLACE] = arc[1];
+    record[LABELS_PLACE] = symbols_of(arc[2]);
+    record[FIRST_SYMBOL] = arc[2];
+    record[SECOND_LABEL] = symbols_of(arc[3]);
+    record[SECOND_SYMBOL] = arc[3];
+    record[THIRD_LABEL] = symbols_of(arc[4]);
+    record[THIRD_SYMBOL] = arc[4];
     record
 }
 
@@ -61,14 +90,14 @@ fn put_arc(arcs: &mut [u8], at: usize, arc: [u8; 5])
 }
 
 // The records of four states: 1 for one with the final weight 0. No state is initial, which closing delays do not ask.
-fn state_records(finals: [u8; 4]) -> [u8; 40]
+fn state_records(finals: [u8; 4]) -> [u8; FOUR_STATES]
     ensures { λ r. ⌜ r ≡ stateBytes finals ⌝ }
 {
-    let mut records = [0u8; 40];
-    records[5] = finals[0];
-    records[15] = finals[1];
-    records[25] = finals[2];
-    records[35] = finals[3];
+    let mut records = [0u8; FOUR_STATES];
+    records[FINAL_PLACE] = finals[0];
+    records[SECOND_FINAL] = finals[1];
+    records[THIRD_FINAL] = finals[2];
+    records[FOURTH_FINAL] = finals[3];
     records
 }
 
@@ -152,7 +181,7 @@ fn show(
         pairs: [pair; 4],
         used: 1,
     };
-    let mut work = [0u8; 256];
+    let mut work = [0u8; FOUR_DELAYS];
     closing_tables(counts, &states, &arcs, pairs, &mut work, 0);
     io::write_all(1, name);
     print_states(&work, counts.states);

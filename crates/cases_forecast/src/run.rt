@@ -16,8 +16,15 @@ use table::answer::Counts;
 use table::answer::Judged;
 use table::answer::refusal_number;
 use table::bytes::get16;
+use table::layout::ARC_SIZE;
+use table::layout::STATE_SIZE;
 ghost use Prim.Native.Nat.{_+_, _≤_};
 ghost use lib.ListN.{length};
+
+// The records of a table of at most 12 states and 12 arcs.
+const STATE_SPACE: usize = 12 * STATE_SIZE;
+
+const ARC_SPACE: usize = 12 * ARC_SIZE;
 
 // The most bytes of result space and of work space that a case is lent.
 const MOST_RESULT: usize = 60;
@@ -104,8 +111,8 @@ fn tell(input: &[u8], at: usize, c: Counts, states: &[u8], arcs: &[u8]) -> Told 
 
 // What is told of the table of at most 12 states and 12 arcs that the line names.
 fn foretell(input: &[u8], at: usize) -> Told {
-    let mut states = [0u8; 120];
-    let mut arcs = [0u8; 960];
+    let mut states = [0u8; STATE_SPACE];
+    let mut arcs = [0u8; ARC_SPACE];
     let c = table(input, at, 1, &mut states, &mut arcs);
     tell(input, at, c, &states, &arcs)
 }

@@ -10,24 +10,33 @@ use table::answer::TableAnswer;
 use table::layout::ARC_SIZE;
 use table::layout::STATE_SIZE;
 
+// The records of a table that is read, of at most 6 states and 8 arcs, and the most that is lent to a result.
+const TABLE_STATES: usize = 6 * STATE_SIZE;
+
+const TABLE_ARCS: usize = 8 * ARC_SIZE;
+
+const RESULT_STATES: usize = 130 * STATE_SIZE;
+
+const RESULT_ARCS: usize = 193 * ARC_SIZE;
+
 // The answer of a build, and the space that was lent to it.
 struct Built {
     answer: TableAnswer,
-    states: [u8; 1300],
-    arcs: [u8; 15440],
+    states: [u8; RESULT_STATES],
+    arcs: [u8; RESULT_ARCS],
     work: [u8; 45000],
 }
 
 // Keeps a table on the pairs at the end of the line, three numbers each, with as many states, arcs and bytes of work
 // lent as the line says.
 fn keep(input: &[u8], at: usize, c: Counts, table_states: &[u8], table_arcs: &[u8]) -> Built {
-    let mut states = [170u8; 1300];
-    let mut arcs = [170u8; 15440];
+    let mut states = [170u8; RESULT_STATES];
+    let mut arcs = [170u8; RESULT_ARCS];
     let mut work = [170u8; 45000];
     let mut pairs = [0u8; 17];
     let n = bytes(input, at, 5, &mut pairs);
-    let state_end = lent(input, at, 2, STATE_SIZE, 1300);
-    let arc_end = lent(input, at, 3, ARC_SIZE, 15440);
+    let state_end = lent(input, at, 2, STATE_SIZE, RESULT_STATES);
+    let arc_end = lent(input, at, 3, ARC_SIZE, RESULT_ARCS);
     let work_end = lent(input, at, 4, 1, 45000);
     let answer = intersect(
         c,
@@ -48,8 +57,8 @@ fn keep(input: &[u8], at: usize, c: Counts, table_states: &[u8], table_arcs: &[u
 
 // What is built of the table of at most 6 states and 8 arcs that the line names.
 fn build(input: &[u8], at: usize) -> Built {
-    let mut states = [0u8; 60];
-    let mut arcs = [0u8; 640];
+    let mut states = [0u8; TABLE_STATES];
+    let mut arcs = [0u8; TABLE_ARCS];
     let c = table(input, at, 1, &mut states, &mut arcs);
     keep(input, at, c, &states, &arcs)
 }
@@ -57,8 +66,8 @@ fn build(input: &[u8], at: usize) -> Built {
 // What is printed of space lent whole, of which so many bytes of work were lent.
 fn print_space(
     answer: TableAnswer,
-    states: &[u8; 1300],
-    arcs: &[u8; 15440],
+    states: &[u8; RESULT_STATES],
+    arcs: &[u8; RESULT_ARCS],
     work: &[u8; 45000],
     n: usize,
 ) {

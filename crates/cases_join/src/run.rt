@@ -18,21 +18,31 @@ use table::answer::TableAnswer;
 use table::layout::ARC_SIZE;
 use table::layout::STATE_SIZE;
 
-// A table of at most 16 states and 16 arcs, and how many bytes of its states are lent.
+// The records of a table that is read, of at most 16 states and 16 arcs, and the most that is lent to a product and to
+// a result.
+const TABLE_STATES: usize = 16 * STATE_SIZE;
+
+const TABLE_ARCS: usize = 16 * ARC_SIZE;
+
+const RESULT_STATES: usize = 60 * STATE_SIZE;
+
+const RESULT_ARCS: usize = 200 * ARC_SIZE;
+
+// A table, and how many bytes of its states are lent.
 struct Operand {
     counts: Counts,
-    states: [u8; 160],
+    states: [u8; TABLE_STATES],
     lent: usize,
-    arcs: [u8; 1280],
+    arcs: [u8; TABLE_ARCS],
 }
 
 // The answer of a join, and the space that was lent to it.
 struct Joined {
     answer: TableAnswer,
-    product_states: [u8; 600],
-    product_arcs: [u8; 16000],
-    states: [u8; 600],
-    arcs: [u8; 16000],
+    product_states: [u8; RESULT_STATES],
+    product_arcs: [u8; RESULT_ARCS],
+    states: [u8; RESULT_STATES],
+    arcs: [u8; RESULT_ARCS],
     work: [u8; 31000],
 }
 
@@ -74,9 +84,9 @@ fn of_damaged(input: &[u8], at: usize) -> bool {
 // How many bytes of its states are lent.
 fn state_bytes(input: &[u8], at: usize, place: usize) -> usize {
     if of_damaged(input, at) && number(input, at, place) == 1 {
-        return 19;
+        return 2 * STATE_SIZE - 1;
     }
-    160
+    TABLE_STATES
 }
 
 // The records of the table at a place of the line, by its name or by its damage.
@@ -95,8 +105,8 @@ fn read_operand(
 
 // The table at a place of the line.
 fn operand_at(input: &[u8], at: usize, place: usize) -> Operand {
-    let mut states = [0u8; 160];
-    let mut arcs = [0u8; 1280];
+    let mut states = [0u8; TABLE_STATES];
+    let mut arcs = [0u8; TABLE_ARCS];
     let counts = read_operand(input, at, place, &mut states, &mut arcs);
     Operand {
         counts,
@@ -117,17 +127,17 @@ fn join_in(
     b_states: &[u8],
     b_arcs: &[u8],
 ) -> Joined {
-    let mut product_states = [170u8; 600];
-    let mut product_arcs = [170u8; 16000];
-    let mut states = [170u8; 600];
-    let mut arcs = [170u8; 16000];
+    let mut product_states = [170u8; RESULT_STATES];
+    let mut product_arcs = [170u8; RESULT_ARCS];
+    let mut states = [170u8; RESULT_STATES];
+    let mut arcs = [170u8; RESULT_ARCS];
     let mut work = [170u8; 31000];
     let mut pairs = [0u8; 17];
     let n = bytes(input, at, 9, &mut pairs);
-    let ps = lent(input, at, 4, STATE_SIZE, 600);
-    let pa = lent(input, at, 5, ARC_SIZE, 16000);
-    let rs = lent(input, at, 6, STATE_SIZE, 600);
-    let ra = lent(input, at, 7, ARC_SIZE, 16000);
+    let ps = lent(input, at, 4, STATE_SIZE, RESULT_STATES);
+    let pa = lent(input, at, 5, ARC_SIZE, RESULT_ARCS);
+    let rs = lent(input, at, 6, STATE_SIZE, RESULT_STATES);
+    let ra = lent(input, at, 7, ARC_SIZE, RESULT_ARCS);
     let w = lent(input, at, 8, 1, 31000);
     let answer = join(
         a,
@@ -158,13 +168,13 @@ fn join_lent(
     input: &[u8],
     at: usize,
     a: Counts,
-    a_states: &[u8; 160],
+    a_states: &[u8; TABLE_STATES],
     a_lent: usize,
-    a_arcs: &[u8; 1280],
+    a_arcs: &[u8; TABLE_ARCS],
     b: Counts,
-    b_states: &[u8; 160],
+    b_states: &[u8; TABLE_STATES],
     b_lent: usize,
-    b_arcs: &[u8; 1280],
+    b_arcs: &[u8; TABLE_ARCS],
 ) -> Joined {
     let a_all = &a_states[..];
     let b_all = &b_states[..];
@@ -205,7 +215,7 @@ fn join_case(input: &[u8], at: usize) -> Joined {
 }
 
 // The answer, and of a refusal whether the result space kept its bytes.
-fn print_kept(answer: TableAnswer, states: &[u8; 600], arcs: &[u8; 16000]) {
+fn print_kept(answer: TableAnswer, states: &[u8; RESULT_STATES], arcs: &[u8; RESULT_ARCS]) {
     print_answer(answer);
     print_refused_kept(answer, states, arcs);
 }
@@ -214,12 +224,12 @@ fn print_kept(answer: TableAnswer, states: &[u8; 600], arcs: &[u8; 16000]) {
 fn print_all_clear(
     input: &[u8],
     at: usize,
-    states: &[u8; 600],
-    arcs: &[u8; 16000],
+    states: &[u8; RESULT_STATES],
+    arcs: &[u8; RESULT_ARCS],
     work: &[u8; 31000],
 ) {
-    let ps = lent(input, at, 4, STATE_SIZE, 600);
-    let pa = lent(input, at, 5, ARC_SIZE, 16000);
+    let ps = lent(input, at, 4, STATE_SIZE, RESULT_STATES);
+    let pa = lent(input, at, 5, ARC_SIZE, RESULT_ARCS);
     print_clear(front_clear(states, ps) && front_clear(arcs, pa));
     print_clear_line(front_clear(work, number(input, at, 8)));
 }

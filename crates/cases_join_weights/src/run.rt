@@ -1,4 +1,6 @@
 // One case: weights of a tuple in joins that must give the same.
+use crate::tables::ARC_SPACE;
+use crate::tables::STATE_SPACE;
 use crate::tables::Table;
 use crate::tables::drop_of;
 use crate::tables::join_parts;
@@ -33,7 +35,14 @@ fn print_weight(answer: WeightAnswer, word: bool) {
 }
 
 // The weight in records lent whole of the tuple behind a case's lines.
-fn look_in(input: &[u8], at: usize, c: Counts, states: &[u8; 600], arcs: &[u8; 16000], word: bool) {
+fn look_in(
+    input: &[u8],
+    at: usize,
+    c: Counts,
+    states: &[u8; STATE_SPACE],
+    arcs: &[u8; ARC_SPACE],
+    word: bool,
+) {
     let mut work = [170u8; 12000];
     let from = string_after(input, at);
     let end = find(input, from, b'}');

@@ -9,14 +9,21 @@ use intersect::call::intersect;
 use join::call::join;
 use table::answer::Counts;
 use table::answer::TableAnswer;
+use table::layout::ARC_SIZE;
+use table::layout::STATE_SIZE;
 use tapes::drop::drop_tapes;
 use tapes::union::union;
 
-// A table of at most 60 states and 200 arcs.
+// The records of a table of at most 60 states and 200 arcs.
+pub const STATE_SPACE: usize = 60 * STATE_SIZE;
+
+pub const ARC_SPACE: usize = 200 * ARC_SIZE;
+
+// A table, read or made.
 pub struct Table {
     pub counts: Counts,
-    pub states: [u8; 600],
-    pub arcs: [u8; 16000],
+    pub states: [u8; STATE_SPACE],
+    pub arcs: [u8; ARC_SPACE],
 }
 
 // The counts of a table that was made; none where it was refused.
@@ -33,8 +40,8 @@ fn counts_of(answer: TableAnswer) -> Counts {
 
 // The table whose name stands at a place of a line.
 fn table_at(input: &[u8], at: usize, place: usize) -> Table {
-    let mut states = [0u8; 600];
-    let mut arcs = [0u8; 16000];
+    let mut states = [0u8; STATE_SPACE];
+    let mut arcs = [0u8; ARC_SPACE];
     let counts = cases::input::table(input, at, place, &mut states, &mut arcs);
     Table {
         counts,
@@ -46,13 +53,13 @@ fn table_at(input: &[u8], at: usize, place: usize) -> Table {
 // The call `union` on records lent whole.
 fn union_in(
     a: Counts,
-    a_states: &[u8; 600],
-    a_arcs: &[u8; 16000],
+    a_states: &[u8; STATE_SPACE],
+    a_arcs: &[u8; ARC_SPACE],
     b: Counts,
-    b_states: &[u8; 600],
-    b_arcs: &[u8; 16000],
-    states: &mut [u8; 600],
-    arcs: &mut [u8; 16000],
+    b_states: &[u8; STATE_SPACE],
+    b_arcs: &[u8; ARC_SPACE],
+    states: &mut [u8; STATE_SPACE],
+    arcs: &mut [u8; ARC_SPACE],
 ) -> TableAnswer {
     union(a, a_states, a_arcs, b, b_states, b_arcs, states, arcs)
 }
@@ -63,8 +70,8 @@ pub fn union_of(a: Table, b: Table) -> Table {
     let a_arcs = a.arcs;
     let b_states = b.states;
     let b_arcs = b.arcs;
-    let mut states = [0u8; 600];
-    let mut arcs = [0u8; 16000];
+    let mut states = [0u8; STATE_SPACE];
+    let mut arcs = [0u8; ARC_SPACE];
     let answer = union_in(
         a.counts,
         &a_states,
@@ -87,17 +94,17 @@ fn join_in(
     input: &[u8],
     at: usize,
     a: Counts,
-    a_states: &[u8; 600],
-    a_arcs: &[u8; 16000],
+    a_states: &[u8; STATE_SPACE],
+    a_arcs: &[u8; ARC_SPACE],
     b: Counts,
-    b_states: &[u8; 600],
-    b_arcs: &[u8; 16000],
-    states: &mut [u8; 600],
-    arcs: &mut [u8; 16000],
+    b_states: &[u8; STATE_SPACE],
+    b_arcs: &[u8; ARC_SPACE],
+    states: &mut [u8; STATE_SPACE],
+    arcs: &mut [u8; ARC_SPACE],
 ) -> TableAnswer {
     let mut pairs = [0u8; 12];
-    let mut product_states = [170u8; 600];
-    let mut product_arcs = [170u8; 16000];
+    let mut product_states = [170u8; STATE_SPACE];
+    let mut product_arcs = [170u8; ARC_SPACE];
     let mut work = [170u8; 31000];
     let n = bytes(input, at, 4, &mut pairs);
     join(
@@ -122,8 +129,8 @@ fn join_of(input: &[u8], at: usize, a: Table, b: Table) -> Table {
     let a_arcs = a.arcs;
     let b_states = b.states;
     let b_arcs = b.arcs;
-    let mut states = [0u8; 600];
-    let mut arcs = [0u8; 16000];
+    let mut states = [0u8; STATE_SPACE];
+    let mut arcs = [0u8; ARC_SPACE];
     let answer = join_in(
         input,
         at,
@@ -148,10 +155,10 @@ fn keep_in(
     input: &[u8],
     at: usize,
     c: Counts,
-    states: &[u8; 600],
-    arcs: &[u8; 16000],
-    out_states: &mut [u8; 600],
-    out_arcs: &mut [u8; 16000],
+    states: &[u8; STATE_SPACE],
+    arcs: &[u8; ARC_SPACE],
+    out_states: &mut [u8; STATE_SPACE],
+    out_arcs: &mut [u8; ARC_SPACE],
 ) -> TableAnswer {
     let mut pairs = [0u8; 12];
     let mut work = [170u8; 31000];
@@ -171,8 +178,8 @@ fn keep_in(
 pub fn keep_of(input: &[u8], at: usize, t: Table) -> Table {
     let t_states = t.states;
     let t_arcs = t.arcs;
-    let mut states = [0u8; 600];
-    let mut arcs = [0u8; 16000];
+    let mut states = [0u8; STATE_SPACE];
+    let mut arcs = [0u8; ARC_SPACE];
     let answer = keep_in(
         input,
         at,
@@ -194,10 +201,10 @@ fn drop_in(
     input: &[u8],
     at: usize,
     c: Counts,
-    states: &[u8; 600],
-    arcs: &[u8; 16000],
-    out_states: &mut [u8; 600],
-    out_arcs: &mut [u8; 16000],
+    states: &[u8; STATE_SPACE],
+    arcs: &[u8; ARC_SPACE],
+    out_states: &mut [u8; STATE_SPACE],
+    out_arcs: &mut [u8; ARC_SPACE],
 ) -> TableAnswer {
     let mut mask = [0u8; 1];
     bytes(input, line_after(input, at), 0, &mut mask);
@@ -208,8 +215,8 @@ fn drop_in(
 pub fn drop_of(input: &[u8], at: usize, t: Table) -> Table {
     let t_states = t.states;
     let t_arcs = t.arcs;
-    let mut states = [0u8; 600];
-    let mut arcs = [0u8; 16000];
+    let mut states = [0u8; STATE_SPACE];
+    let mut arcs = [0u8; ARC_SPACE];
     let answer = drop_in(
         input,
         at,

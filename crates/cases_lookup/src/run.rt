@@ -9,6 +9,13 @@ use cases::print::print_clear_line;
 use lookup::call::WeightAnswer;
 use lookup::call::lookup;
 use table::answer::refusal_number;
+use table::layout::ARC_SIZE;
+use table::layout::STATE_SIZE;
+
+// The records of a table of at most 4 states and 5 arcs.
+const STATE_SPACE: usize = 4 * STATE_SIZE;
+
+const ARC_SPACE: usize = 5 * ARC_SIZE;
 
 // The answer.
 fn print_answer(answer: WeightAnswer) {
@@ -27,10 +34,10 @@ fn print_answer(answer: WeightAnswer) {
     }
 }
 
-// Looks a tuple up in a table of at most 4 states and 5 arcs, whose name stands on the line, in so much work space.
+// Looks a tuple up in a table whose name stands on the line, in so much work space.
 fn look(input: &[u8], at: usize, tuple: &[u8], work: &mut [u8]) {
-    let mut states = [0u8; 40];
-    let mut arcs = [0u8; 400];
+    let mut states = [0u8; STATE_SPACE];
+    let mut arcs = [0u8; ARC_SPACE];
     let c = table(input, at, 1, &mut states, &mut arcs);
     print_answer(lookup(c, &states, &arcs, tuple, work));
 }

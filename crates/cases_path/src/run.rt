@@ -17,7 +17,13 @@ use table::answer::Counts;
 use table::answer::refusal_number;
 use table::bytes::get16;
 use table::layout::ARC_SIZE;
+use table::layout::STATE_SIZE;
 ghost use Prim.Native.Nat.{_≤_};
+
+// The records of a table of at most 12 states and 312 arcs.
+const STATE_SPACE: usize = 12 * STATE_SIZE;
+
+const ARC_SPACE: usize = (MOST_BEFORE + MOST_ARCS) * ARC_SIZE;
 
 // The most arcs of a table that a case names, and the most that stand before them.
 const MOST_ARCS: usize = 12;
@@ -103,8 +109,8 @@ fn path_in(
 
 // The same in the table of the line.
 fn find_path(input: &[u8], at: usize, list: &mut [u8], work: &mut [u8]) -> PathAnswer {
-    let mut states = [0u8; 120];
-    let mut arcs = [0u8; 24960];
+    let mut states = [0u8; STATE_SPACE];
+    let mut arcs = [0u8; ARC_SPACE];
     let c = read_table(input, at, &mut states, &mut arcs);
     path_in(input, at, c, &states, &arcs, list, work)
 }

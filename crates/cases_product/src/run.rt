@@ -9,18 +9,27 @@ use table::answer::TableAnswer;
 use table::layout::ARC_SIZE;
 use table::layout::STATE_SIZE;
 
-// A table of at most 6 states and 6 arcs.
+// The records of a table that is read, of at most 6 states and 6 arcs, and the most that is lent to a result.
+const TABLE_STATES: usize = 6 * STATE_SIZE;
+
+const TABLE_ARCS: usize = 6 * ARC_SIZE;
+
+const RESULT_STATES: usize = 20 * STATE_SIZE;
+
+const RESULT_ARCS: usize = 20 * ARC_SIZE;
+
+// A table that is read.
 struct Operand {
     counts: Counts,
-    states: [u8; 60],
-    arcs: [u8; 480],
+    states: [u8; TABLE_STATES],
+    arcs: [u8; TABLE_ARCS],
 }
 
 // The answer of a product, and the space that was lent to it.
 struct Made {
     answer: TableAnswer,
-    states: [u8; 200],
-    arcs: [u8; 1600],
+    states: [u8; RESULT_STATES],
+    arcs: [u8; RESULT_ARCS],
     work: [u8; 640],
 }
 
@@ -45,8 +54,8 @@ fn read_operand(
 
 // The table at a place of the line. The bytes of its states are 2 where they are not read: a flag that is refused.
 fn operand_at(input: &[u8], at: usize, place: usize) -> Operand {
-    let mut states = [2u8; 60];
-    let mut arcs = [0u8; 480];
+    let mut states = [2u8; TABLE_STATES];
+    let mut arcs = [0u8; TABLE_ARCS];
     let counts = read_operand(input, at, place, &mut states, &mut arcs);
     Operand {
         counts,
@@ -60,17 +69,17 @@ fn multiply(
     input: &[u8],
     at: usize,
     a: Counts,
-    a_states: &[u8; 60],
-    a_arcs: &[u8; 480],
+    a_states: &[u8; TABLE_STATES],
+    a_arcs: &[u8; TABLE_ARCS],
     b: Counts,
-    b_states: &[u8; 60],
-    b_arcs: &[u8; 480],
+    b_states: &[u8; TABLE_STATES],
+    b_arcs: &[u8; TABLE_ARCS],
 ) -> Made {
-    let mut states = [170u8; 200];
-    let mut arcs = [170u8; 1600];
+    let mut states = [170u8; RESULT_STATES];
+    let mut arcs = [170u8; RESULT_ARCS];
     let mut work = [170u8; 640];
-    let state_end = lent(input, at, 4, STATE_SIZE, 200);
-    let arc_end = lent(input, at, 5, ARC_SIZE, 1600);
+    let state_end = lent(input, at, 4, STATE_SIZE, RESULT_STATES);
+    let arc_end = lent(input, at, 5, ARC_SIZE, RESULT_ARCS);
     let work_end = lent(input, at, 6, 1, 640);
     let answer = product(
         a,
@@ -114,8 +123,8 @@ fn product_at(input: &[u8], at: usize) -> Made {
 // What is printed of space lent whole, of which so many bytes of work were lent.
 fn print_space(
     answer: TableAnswer,
-    states: &[u8; 200],
-    arcs: &[u8; 1600],
+    states: &[u8; RESULT_STATES],
+    arcs: &[u8; RESULT_ARCS],
     work: &[u8; 640],
     n: usize,
 ) {

@@ -15,6 +15,11 @@ use tapes::drop::drop_tapes;
 use tapes::project::project;
 use tapes::union::union;
 
+// The records of a table of at most 6 states and 6 arcs.
+const STATE_SPACE: usize = 6 * STATE_SIZE;
+
+const ARC_SPACE: usize = 6 * ARC_SIZE;
+
 // Damage to the first byte of records, where the number at a place of the line is 1: of a state the flag of a weight,
 // of an arc the number of its source.
 fn damage(input: &[u8], at: usize, place: usize, bytes: &mut [u8], b: u8) {
@@ -30,10 +35,10 @@ fn damage(input: &[u8], at: usize, place: usize, bytes: &mut [u8], b: u8) {
 // The union of two tables that the line names; the first state of the first table or the first arc of the second may be
 // damaged.
 fn union_of(input: &[u8], at: usize, states: &mut [u8], arcs: &mut [u8]) -> TableAnswer {
-    let mut one_states = [0u8; 60];
-    let mut one_arcs = [0u8; 480];
-    let mut two_states = [0u8; 60];
-    let mut two_arcs = [0u8; 480];
+    let mut one_states = [0u8; STATE_SPACE];
+    let mut one_arcs = [0u8; ARC_SPACE];
+    let mut two_states = [0u8; STATE_SPACE];
+    let mut two_arcs = [0u8; ARC_SPACE];
     let one = table(input, at, 4, &mut one_states, &mut one_arcs);
     let two = table(input, at, 6, &mut two_states, &mut two_arcs);
     damage(input, at, 5, &mut one_states, 2);
@@ -53,8 +58,8 @@ fn union_of(input: &[u8], at: usize, states: &mut [u8], arcs: &mut [u8]) -> Tabl
 // Tapes of a table chosen or dropped: by a list where the letter that comes first on the line is P, else by a mask. Its
 // first state may be damaged.
 fn tapes_of(input: &[u8], at: usize, states: &mut [u8], arcs: &mut [u8]) -> TableAnswer {
-    let mut table_states = [0u8; 60];
-    let mut table_arcs = [0u8; 480];
+    let mut table_states = [0u8; STATE_SPACE];
+    let mut table_arcs = [0u8; ARC_SPACE];
     let mut tapes = [0u8; 12];
     let c = table(input, at, 4, &mut table_states, &mut table_arcs);
     damage(input, at, 5, &mut table_states, 2);
@@ -102,8 +107,8 @@ fn states_alone(states: usize) -> Counts {
 // A table of 1,024 states without weights, and behind it so many such states more, with room for 1,026: the answer
 // alone.
 fn union_of_many(more: usize) {
-    let many = [0u8; 10240];
-    let mut states = [170u8; 10260];
+    let many = [0u8; 1024 * STATE_SIZE];
+    let mut states = [170u8; 1026 * STATE_SIZE];
     let mut arcs = [170u8; ARC_SIZE];
     let answer = union(
         states_alone(1024),
@@ -125,8 +130,8 @@ pub fn case(input: &[u8], at: usize) {
     if number(input, at, 0) == b'M' as usize {
         return union_of_many(number(input, at, 2));
     }
-    let mut states = [170u8; 60];
-    let mut arcs = [170u8; 480];
+    let mut states = [170u8; STATE_SPACE];
+    let mut arcs = [170u8; ARC_SPACE];
     let answer = call(input, at, &mut states, &mut arcs);
     print_answer(answer);
     print_space(answer, &states, &arcs);

@@ -12,10 +12,13 @@ use cases::print::print_whether;
 use table::answer::Counts;
 use table::answer::TableAnswer;
 use table::layout::ARC_SIZE;
+use table::layout::STATE_SIZE;
 use text::WriteAnswer;
 
-// The bytes of four arcs.
-const FOUR_ARCS: usize = 4 * ARC_SIZE;
+// The records of a table of at most 6 states and 4 arcs.
+const STATE_SPACE: usize = 6 * STATE_SIZE;
+
+const ARC_SPACE: usize = 4 * ARC_SIZE;
 
 // Whether a table that was read is written as the text that was read.
 fn print_same(c: Counts, states: &[u8], arcs: &[u8], text: &[u8]) {
@@ -29,10 +32,10 @@ fn print_same(c: Counts, states: &[u8], arcs: &[u8], text: &[u8]) {
     }
 }
 
-// Reads a text, its string from a place to another, where 6 states and 4 arcs are lent.
+// Reads a text, its string from a place to another, into the space of a table.
 fn read_case(input: &[u8], from: usize, end: usize) {
-    let mut states = [170u8; 60];
-    let mut arcs = [170u8; FOUR_ARCS];
+    let mut states = [170u8; STATE_SPACE];
+    let mut arcs = [170u8; ARC_SPACE];
     let answer = read_string(input, from, &mut states, &mut arcs);
     print_answer(answer);
     match answer {
@@ -87,8 +90,8 @@ fn example(input: &[u8]) -> usize {
 
 // Writes the example with other counts.
 fn count_case(input: &[u8], at: usize) {
-    let mut states = [0u8; 60];
-    let mut arcs = [0u8; FOUR_ARCS];
+    let mut states = [0u8; STATE_SPACE];
+    let mut arcs = [0u8; ARC_SPACE];
     read_string(input, example(input), &mut states, &mut arcs);
     let c = Counts {
         tapes: number(input, at, 2),
@@ -100,8 +103,8 @@ fn count_case(input: &[u8], at: usize) {
 
 // Writes the example into so much room, with a byte of its states and one of its arcs changed.
 fn write_case(input: &[u8], at: usize) {
-    let mut states = [0u8; 60];
-    let mut arcs = [0u8; FOUR_ARCS];
+    let mut states = [0u8; STATE_SPACE];
+    let mut arcs = [0u8; ARC_SPACE];
     read_string(input, example(input), &mut states, &mut arcs);
     change(&mut states, number(input, at, 3), number(input, at, 4));
     change(&mut arcs, number(input, at, 5), number(input, at, 6));

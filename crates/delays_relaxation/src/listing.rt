@@ -5,6 +5,7 @@ use crate::places::note;
 use crate::places::number_at;
 use table::arc::source_at;
 use table::arc::target_at;
+use table::layout::ABSENT;
 use table::layout::ARC_SIZE;
 use table::layout::FINAL_PLACE;
 use table::layout::STATE_SIZE;
@@ -114,7 +115,7 @@ fn begins_at(bytes: &[u8], root: usize, any: bool) -> bool
     if any {
         return true;
     }
-    bytes[STATE_SIZE * root + FINAL_PLACE] != 0
+    bytes[STATE_SIZE * root + FINAL_PLACE] != ABSENT
 }
 
 // The arcs on ways to the state `root`, if the search begins there and it was not seen, in the last free places. Each

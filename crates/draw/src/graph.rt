@@ -6,14 +6,23 @@ use table::answer::Refusal;
 use table::answer::TableAnswer;
 use table::answer::refusal_number;
 use table::arc::arc_weight_at;
-use table::arc::label_place;
+use table::arc::first_label;
 use table::arc::source_at;
 use table::arc::target_at;
 use table::bytes::get32;
+use table::layout::AMOUNT_PLACE;
 use table::layout::ARC_SIZE;
+use table::layout::FINAL_PLACE;
 use table::layout::LABEL_SIZE;
+use table::layout::PRESENT;
 use table::layout::STATE_SIZE;
+use table::layout::SYMBOLS_PLACE;
 use table::layout::WEIGHT_SIZE;
+
+// Room for 1,024 states and 2,048 arcs.
+const STATE_SPACE: usize = 1024 * STATE_SIZE;
+
+const ARC_SPACE: usize = 2048 * ARC_SIZE;
 
 // Bytes to standard output.
 fn put(text: &[u8]) {
@@ -33,16 +42,16 @@ fn put_weight(states: &[u8], at: usize, word: &[u8]) {
     if states.len() - WEIGHT_SIZE < at {
         return;
     }
-    if states[at] == 1 {
+    if states[at] == PRESENT {
         put(word);
-        put_number(get32(states, at + 1) as u64);
+        put_number(get32(states, at + AMOUNT_PLACE) as u64);
     }
 }
 
 // The outline of a state: double where it has a final weight.
 fn put_outline(states: &[u8], at: usize) {
     if at < states.len() {
-        if states[at] == 1 {
+        if states[at] == PRESENT {
             put(b", shape=doublecircle");
         }
     }
@@ -58,9 +67,9 @@ fn put_state(states: &[u8], q: usize, at: usize) {
     put(b" [label=\"");
     put_number(q as u64);
     put_weight(states, at, b"\\nin ");
-    put_weight(states, at + WEIGHT_SIZE, b"\\nout ");
+    put_weight(states, at + FINAL_PLACE, b"\\nout ");
     put(b"\"");
-    put_outline(states, at + WEIGHT_SIZE);
+    put_outline(states, at + FINAL_PLACE);
     put(b"];\n");
 }
 
@@ -85,7 +94,8 @@ fn put_label(arcs: &[u8], at: usize, first: bool) {
         put(b"-");
     }
     if length <= 8 {
-        put(&arcs[at + 1..at + 1 + length]);
+        let symbols = at + SYMBOLS_PLACE;
+        put(&arcs[symbols..symbols + length]);
     }
 }
 
@@ -116,7 +126,7 @@ fn put_arc(arcs: &[u8], at: usize, tapes: usize) {
     put(b" -> ");
     put_number(target_at(arcs, at).0 as u64);
     put(b" [label=\"");
-    put_labels(arcs, label_place(at, 0), tapes);
+    put_labels(arcs, first_label(at), tapes);
     put(b" / ");
     put_number(arc_weight_at(arcs, at) as u64);
     put(b"\"];\n");
@@ -188,8 +198,8 @@ fn put_refusal(why: Refusal) {
 // The graph of the table that a text describes, or of its refusal. A text of at most 65,536 bytes has at most 2,047
 // arcs.
 fn draw_table(text: &[u8]) {
-    let mut states = [0u8; 10240];
-    let mut arcs = [0u8; 163840];
+    let mut states = [0u8; STATE_SPACE];
+    let mut arcs = [0u8; ARC_SPACE];
     let answer = text::read(text, &mut states, &mut arcs);
     match answer {
         TableAnswer::Table(c) => put_graph(c, &states, &arcs),

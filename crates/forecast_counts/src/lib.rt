@@ -7,6 +7,7 @@ use table::arc::label_place;
 use table::bytes::get16;
 use table::layout::ARC_SIZE;
 use table::layout::DELAYS_SIZE;
+use table::layout::SYMBOLS_PLACE;
 use table::symbol::read_symbol;
 ghost use mathlib.Core.Path.{_≡_};
 ghost use mathlib.Core.Bool.{false};
@@ -202,7 +203,7 @@ fn note_label(seen: &mut [u8], arcs: &[u8], at: usize, tape: usize)
     ensures { λ _. ⌜ now (seen .exit) ≡ noted (now (seen .entry)) (labelAt tape at (now (arcs .entry))) ⌝ }
 {
     let count = label_length_at(arcs, at, tape) as usize;
-    note_bytes(seen, arcs, label_place(at, tape) + 1, count);
+    note_bytes(seen, arcs, label_place(at, tape) + SYMBOLS_PLACE, count);
 }
 
 // Those of all labels on two tapes.

@@ -20,6 +20,7 @@ use table::arc::label_place;
 use table::arc::target_at;
 use table::bytes::copy_into;
 use table::bytes::put16;
+use table::layout::SYMBOLS_PLACE;
 use table::pair::Pair;
 use table::pair::PairList;
 use table::record::Label;
@@ -31,7 +32,7 @@ pub fn label_at(arcs: &[u8], at: usize, tape: u8) -> Label
     ensures { λ r. ⌜ r ≡ labelAt at tape (now (arcs .entry)) ⌝ }
 {
     let index = tape as usize - 1;
-    let from = label_place(at, index) + 1;
+    let from = label_place(at, index) + SYMBOLS_PLACE;
     let mut symbols = [0u8; 8];
     copy_into(&mut symbols, 0, &arcs[from..from + 8]);
     Label {

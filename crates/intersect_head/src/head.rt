@@ -24,6 +24,7 @@ use search_rows::Reached;
 use search_rows::store_within;
 use table::bytes::get16;
 use table::layout::CONFIG_SIZE;
+use table::layout::PRESENT;
 use table::layout::STATE_SIZE;
 use table::record::InputState;
 
@@ -171,7 +172,7 @@ impl Head {
         requires { ⌜ Startable plan self (now states) q (now work) ⌝ }
         ensures { λ r. ⌜ Enters plan self (now (states .entry)) q (now (work .entry)) r (now (work .exit)) ⌝ }
     {
-        if states[STATE_SIZE * q] != 1 {
+        if states[STATE_SIZE * q] != PRESENT {
             return self;
         }
         let row = start_row(InputState(q as u16));

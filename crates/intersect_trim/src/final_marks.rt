@@ -2,6 +2,7 @@
 use table::bytes::get16;
 use table::layout::CONFIG_SIZE;
 use table::layout::FINAL_PLACE;
+use table::layout::PRESENT;
 use table::layout::STATE_SIZE;
 ghost use mathlib.Core.Path.{_≡_};
 ghost use mathlib.Core.List.{_++_, map};
@@ -46,7 +47,7 @@ fn final_mark(work: &[u8], at: usize, states: &[u8]) -> u8
         return 0;
     }
     let place = record_place(work, at);
-    if states[place + FINAL_PLACE] == 1 {
+    if states[place + FINAL_PLACE] == PRESENT {
         1
     } else {
         0

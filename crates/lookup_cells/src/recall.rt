@@ -6,13 +6,13 @@ use lookup_moves::moves::Step;
 use lookup_moves::moves::moved_back;
 use table::answer::Counts;
 use table::layout::ARC_SIZE;
-use table::layout::LABELS_PLACE;
 ghost use mathlib.Core.Path.{_≡_};
 ghost use Prim.Native.Nat.{_+_, _*_, _≤_, _<_};
 ghost use lib.ListN.{length, replicate};
 ghost use Rattle.lookup_moves.specs.Moves.{Laid, Labelled, spotWith};
 ghost use Rattle.lookup_cells.specs.Recall.{backNumber, backAt, Knows};
-ghost use Rattle.automata.specs.Layout.{arcSize, labelsPlace};
+ghost use Rattle.automata.specs.Layout.{arcSize};
+ghost use Rattle.table.specs.Arcs.{firstLabel};
 
 // Nothing is known: 2^64 - 1 is no combination.
 pub fn no_memo() -> [usize; 2048]
@@ -31,14 +31,14 @@ fn lead_back(
     positions: &[usize],
     spans: &[usize],
 ) -> usize
-    requires { ⌜ Labelled (now arcs) (arcSize * e + labelsPlace)
+    requires { ⌜ Labelled (now arcs) (firstLabel (arcSize * e))
         × Laid (counts .tapes) (length (now text)) (spotWith (now starts) (now positions) (now spans) 0 0) ⌝ }
     ensures { λ r. ⌜ r ≡ backNumber (backAt (counts .tapes) (now (arcs .entry)) (now (text .entry))
         (now (starts .entry)) (now (positions .entry)) (now (spans .entry)) e) ⌝ }
 {
     let step = moved_back(
         arcs,
-        ARC_SIZE * e + LABELS_PLACE,
+        ARC_SIZE * e,
         counts.tapes,
         text,
         starts,
@@ -65,7 +65,7 @@ pub fn recall(
     memo: &mut [usize],
 ) -> usize
     requires { ⌜ (e < counts .arcs) × (counts .arcs ≤ 8192)
-        × ((f : _) → f < counts .arcs → Labelled (now arcs) (arcSize * f + labelsPlace))
+        × ((f : _) → f < counts .arcs → Labelled (now arcs) (firstLabel (arcSize * f)))
         × Laid (counts .tapes) (length (now text)) (spotWith (now starts) (now positions) (now spans) 0 0)
         × Knows counts (now arcs) (now text) (now starts) (now positions) (now spans) number (now numbers)
         (now memo) ⌝ }

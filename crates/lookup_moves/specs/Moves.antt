@@ -8,7 +8,7 @@ use lib.ListN.{length, getD, drop}
 use Rattle.automata.specs.Lists.{if, bind, sameList}
 use Rattle.automata.specs.Automaton.{Tuple}
 use Rattle.automata.specs.Calls.Work.{combinations}
-use Rattle.automata.specs.Layout.{labelSize, labelsSize}
+use Rattle.automata.specs.Layout.{labelSize, labelsSize, symbolsPlace}
 use Rattle.table.specs.Region.{part}
 use Rattle.lookup_moves.specs.declared.spot.Spot.{Spot}
 use Rattle.lookup_moves.specs.declared.moves.Step.{Step}
@@ -29,7 +29,7 @@ spotWith starts positions spans number all = record { starts = starts; positions
 unfoldable pub tapeMove : List ℕ → ℕ → List ℕ → ℕ → ℕ → ℕ → Option ℕ
 tapeMove arcs at text start size span =
     let n = getD arcs at 0 in
-    if (ltb size n) none (if (sameList (part (at + 1) n arcs) (part (start - n) n text)) (some (n * span)) none)
+    if (ltb size n) none (if (sameList (part (at + symbolsPlace) n arcs) (part (start - n) n text)) (some (n * span)) none)
 
 -- on n tapes from tape h on, its label at place at, where it has moved by k before
 unfoldable pub movesFrom : ℕ → ℕ → ℕ → ℕ → List ℕ → List ℕ → Spot → Option ℕ

@@ -4,9 +4,12 @@ ghost use Prim.Native.Nat.{_+_, _≤_};
 ghost use lib.ListN.{length, getD};
 ghost use Rattle.automata.specs.Lists.{sameList};
 ghost use Rattle.automata.specs.Layout.{labelSize};
+ghost use Rattle.table.specs.Arcs.{firstLabel};
 ghost use Rattle.table.specs.Region.{part};
 ghost use Rattle.lookup_moves.specs.Moves.{stepAs, tapeMove, movesFrom, Laid, Labelled, spotWith};
+use table::arc::first_label;
 use table::layout::LABEL_SIZE;
+use table::layout::SYMBOLS_PLACE;
 
 // How far the number of a combination moves, or that the labels do not end there.
 pub enum Step {
@@ -44,13 +47,13 @@ fn move_tape(arcs: &[u8], at: usize, text: &[u8], start: usize, size: usize, spa
     if size < n {
         return Step::Stuck;
     }
-    if !same_bytes(arcs, at + 1, text, start - n, n) {
+    if !same_bytes(arcs, at + SYMBOLS_PLACE, text, start - n, n) {
         return Step::Stuck;
     }
     Step::Moved(n * span)
 }
 
-// The labels from a place of the arcs on so many tapes against the strings before the positions.
+// The labels of the arc at a place on so many tapes against the strings before the positions.
 pub fn moved_back(
     arcs: &[u8],
     at: usize,
@@ -60,13 +63,13 @@ pub fn moved_back(
     positions: &[usize],
     spans: &[usize],
 ) -> Step
-    requires { ⌜ Labelled (now arcs) at × Laid tapes (length (now text))
+    requires { ⌜ Labelled (now arcs) (firstLabel at) × Laid tapes (length (now text))
         (spotWith (now starts) (now positions) (now spans) 0 0) ⌝ }
-    ensures { λ r. ⌜ stepAs r ≡ movesFrom tapes 0 at 0 (now (arcs .entry)) (now (text .entry))
+    ensures { λ r. ⌜ stepAs r ≡ movesFrom tapes 0 (firstLabel at) 0 (now (arcs .entry)) (now (text .entry))
         (spotWith (now (starts .entry)) (now (positions .entry)) (now (spans .entry)) 0 0) ⌝ }
 {
     let mut total: usize = 0;
-    let mut from = at;
+    let mut from = first_label(at);
     let mut h: usize = 0;
     let mut left = tapes;
     while 0 < left {

@@ -10,7 +10,7 @@ use lib.Dec.{eqb, ltb}
 use lib.ListN.{length, getD, take}
 use borrow.Author.Tests.{lt-ltb, eq-eqb, ne-eqb}
 use Rattle.automata.specs.Lists.{if}
-use Rattle.automata.specs.Layout.{arcSize, labelSize, labelsPlace}
+use Rattle.automata.specs.Layout.{arcSize, labelSize}
 use Rattle.table.specs.declared.answer.Counts.{Counts}
 use Rattle.lookup_tuple.specs.declared.Strings.{Strings}
 use Rattle.lookup_moves.specs.declared.spot.Spans.{Spans}
@@ -21,7 +21,7 @@ use Rattle.table_adjacency.proofs.ChainFacts.{First, first-arc, next-arc}
 use Rattle.path_search.specs.Search.{Search, searchOf, enter, entered, follow, followArcs}
 use Rattle.path_search.specs.FirstPath.{Kept}
 use Rattle.path_search.proofs.FollowFacts.{follow-front, follow-kept}
-use Rattle.table.specs.Arcs.{sourceOf}
+use Rattle.table.specs.Arcs.{sourceOf, firstLabel}
 use Rattle.path_search.specs.Tight.{shiftBy, shiftOf, tightTo, nextCell}
 use Rattle.path_search.specs.declared.answer.Reached.{Reached}
 use Rattle.path_search.specs.declared.answer.Reached.the-variants.{Cell, Nowhere}
@@ -116,17 +116,17 @@ module _ (c : Counts) (arcs text : List ℕ) (strings : Strings) (spans : Spans)
   -- ---- one arc
 
   -- what its labels ask
-  pub shift-requires : (e : ℕ) → e < c .arcs → Labelled arcs (arcSize * e + labelsPlace) × (c .tapes ≤ 8) × Spannable spans
+  pub shift-requires : (e : ℕ) → e < c .arcs → Labelled arcs (firstLabel (arcSize * e)) × (c .tapes ≤ 8) × Spannable spans
   shift-requires e l = let r = h .ready 0 (h .some-combination) in (r .each e l .labelled, r .laid .few, h .spannable)
 
   -- they move by less than a number of 64 bits has room for
   pub shift-fits : (e x : ℕ) → e < c .arcs → x ≡ shiftOf c arcs (spans .spans) e → x ≤ 20393268025000000
   shift-fits e x l p =
       let r = shift-requires e l in
-      let z : arcSize * e + labelsPlace + labelSize * 0 ≡ arcSize * e + labelsPlace = omega arith in
-      let m : shiftBy (c .tapes) 0 (arcSize * e + labelsPlace) arcs (spans .spans) ≤ c .tapes * 2549158503125000 =
+      let z : firstLabel (arcSize * e) + labelSize * 0 ≡ firstLabel (arcSize * e) = omega arith in
+      let m : shiftBy (c .tapes) 0 (firstLabel (arcSize * e)) arcs (spans .spans) ≤ c .tapes * 2549158503125000 =
       subst (λ (k : ℕ). shiftBy (c .tapes) 0 k arcs (spans .spans) ≤ c .tapes * 2549158503125000) z
-      (shift-small arcs (arcSize * e + labelsPlace) spans (r .0) (r .2) (c .tapes) 0 (omega (arith, r .1))) in
+      (shift-small arcs (firstLabel (arcSize * e)) spans (r .0) (r .2) (c .tapes) 0 (omega (arith, r .1))) in
       omega (arith, p, m, r .1)
 
   module _ (ws : List ℕ) (here e : ℕ) (l : e < c .arcs) (p : sourceOf arcs e ≡ here / spans .all)

@@ -6,12 +6,12 @@ use Prim.Native.Nat.{ℕ, zero, suc, _+_, _*_, _%_, _≤_, _<_}
 use lib.Dec.{eqb}
 use lib.ListN.{length}
 use Rattle.automata.specs.Lists.{if}
-use Rattle.automata.specs.Layout.{arcSize, labelsPlace}
+use Rattle.automata.specs.Layout.{arcSize}
 use Rattle.table.specs.declared.answer.Counts.{Counts}
 use Rattle.lookup_moves.specs.declared.spot.Spans.{Spans}
 use Rattle.lookup_moves.specs.Moves.{Labelled}
 use Rattle.path_search.specs.Search.{noArc, markAt}
-use Rattle.table.specs.Arcs.{sourceOf}
+use Rattle.table.specs.Arcs.{sourceOf, firstLabel}
 use Rattle.path_search.specs.Tight.{shiftOf, cellBefore}
 use Rattle.path_search.specs.Searchable.{Spannable}
 
@@ -22,7 +22,7 @@ pub record Retraceable (c : Counts) (arcs : List ℕ) (spans : Spans) : Type 0 w
   pub few-tapes : c .tapes ≤ 8
   pub few-arcs : c .arcs ≤ 8192
   pub lent : arcSize * c .arcs ≤ length arcs
-  pub labelled : (e : ℕ) → e < c .arcs → Labelled arcs (arcSize * e + labelsPlace)
+  pub labelled : (e : ℕ) → e < c .arcs → Labelled arcs (firstLabel (arcSize * e))
   pub source : (e : ℕ) → e < c .arcs → sourceOf arcs e < c .states
   pub fits : c .states * spans .all < 18446744073709551616
 

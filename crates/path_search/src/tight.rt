@@ -10,10 +10,10 @@ use lookup_moves::spot::spot_at;
 use lookup_tuple::Strings;
 use table::answer::Counts;
 use table::arc::arc_weight_at;
+use table::arc::first_label;
 use table::arc::target_at;
 use table::layout::ARC_SIZE;
 use table::layout::LABEL_SIZE;
-use table::layout::LABELS_PLACE;
 ghost use mathlib.Core.Path.{_≡_};
 ghost use Prim.Native.Nat.{_+_, _*_, _≤_, _<_};
 ghost use Rattle.lookup_moves.specs.Distances.{cellsOf};
@@ -23,16 +23,17 @@ ghost use Rattle.lookup_moves.specs.Spots.{spotOf};
 ghost use Rattle.path_search.specs.Tight.{shiftOf, endThere, tightTo};
 ghost use Rattle.path_search.specs.Answers.{reachedAs};
 ghost use Rattle.path_search.specs.Searchable.{Searchable, Weights, Spannable};
-ghost use Rattle.automata.specs.Layout.{arcSize, labelsPlace};
+ghost use Rattle.automata.specs.Layout.{arcSize};
+ghost use Rattle.table.specs.Arcs.{firstLabel};
 
 // By how much the labels of arc e move the number of a combination, with so many combinations behind each string.
 pub fn shift_of(counts: Counts, arcs: &[u8], e: usize, spans: Spans) -> usize
-    requires { ⌜ Labelled (now arcs) (arcSize * e + labelsPlace) × (counts .tapes ≤ 8) × Spannable spans ⌝ }
+    requires { ⌜ Labelled (now arcs) (firstLabel (arcSize * e)) × (counts .tapes ≤ 8) × Spannable spans ⌝ }
     ensures { λ r. ⌜ r ≡ shiftOf counts (now (arcs .entry)) (spans .spans) e ⌝ }
 {
     let behind = spans.spans;
     let mut shift: usize = 0;
-    let mut at = ARC_SIZE * e + LABELS_PLACE;
+    let mut at = first_label(ARC_SIZE * e);
     let mut h: usize = 0;
     while h < counts.tapes {
         shift += arcs[at] as usize * behind[h];
@@ -62,7 +63,7 @@ fn ends_at(
     let behind = spot.spans;
     let step = moved_back(
         arcs,
-        ARC_SIZE * e + LABELS_PLACE,
+        ARC_SIZE * e,
         counts.tapes,
         text,
         &starts,

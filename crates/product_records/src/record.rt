@@ -2,13 +2,14 @@
 use crate::sum::move_weight;
 use product_search::vertex::Move;
 use product_search::vertex::NO_ARC;
+use table::arc::first_label;
 use table::arc::store_arc_weight;
 use table::arc::store_ends;
 use table::bytes::get64;
 use table::bytes::put64;
 use table::layout::ARC_SIZE;
 use table::layout::LABEL_SIZE;
-use table::layout::LABELS_PLACE;
+use table::layout::SYMBOLS_PLACE;
 use table::record::ResultState;
 ghost use mathlib.Core.Path.{_≡_};
 ghost use Prim.Native.Nat.{_+_, _*_, _≤_, _<_};
@@ -25,9 +26,9 @@ fn copy_label(arcs: &[u8], from: usize, out: &mut [u8], to: usize)
     ensures { λ _. ⌜ now (out .exit) ≡ splice to (part from labelSize (now (arcs .entry))) (now (out .entry)) ⌝ }
 {
     let len = arcs[from];
-    let symbols = get64(arcs, from + 1);
+    let symbols = get64(arcs, from + SYMBOLS_PLACE);
     out[to] = len;
-    put64(out, to + 1, symbols);
+    put64(out, to + SYMBOLS_PLACE, symbols);
 }
 
 // A third of the labels of a record: 24 zeros.
@@ -59,7 +60,7 @@ fn store_side(arcs: &[u8], arc: u16, tapes: usize, out: &mut [u8], to: usize)
     if arc == NO_ARC {
         return;
     }
-    let mut from = ARC_SIZE * arc as usize + LABELS_PLACE;
+    let mut from = first_label(ARC_SIZE * arc as usize);
     let mut at = to;
     let mut left = tapes;
     while 0 < left {
@@ -145,6 +146,6 @@ pub fn store_move(
         first_arcs,
         second_arcs,
         out,
-        to + LABELS_PLACE,
+        first_label(to),
     );
 }

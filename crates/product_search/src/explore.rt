@@ -14,6 +14,7 @@ use crate::vertex::Vertex;
 use crate::vertex::enter_vertex;
 use search_chains::clear;
 use search_rows::Entered;
+use table::layout::ABSENT;
 use table::layout::STATE_SIZE;
 use table::layout::VERTEX_SIZE;
 use table::record::InputState;
@@ -45,7 +46,7 @@ impl Head {
             × (StatesLent (plan .second) (now states)) × (q < plan .second .states) ⌝ }
         ensures { λ r. ⌜ StartsOne plan self (x .0) (now (states .entry)) q (now (work .entry)) r (now (work .exit)) ⌝ }
     {
-        if states[STATE_SIZE * q] == 0 {
+        if states[STATE_SIZE * q] == ABSENT {
             return self;
         }
         let d = Vertex {
@@ -88,7 +89,7 @@ impl Head {
         ensures { λ r. ⌜ StartsBoth plan self (now («first_states» .entry)) q (now («second_states» .entry))
             (now (work .entry)) r (now (work .exit)) ⌝ }
     {
-        if first_states[STATE_SIZE * q] == 0 {
+        if first_states[STATE_SIZE * q] == ABSENT {
             return self;
         }
         self.start_all(plan, InputState(q as u16), second_states, work)

@@ -23,6 +23,7 @@ use search_rows::Reached;
 use table::answer::Counts;
 use table::arc::source_at;
 use table::arc::target_at;
+use table::layout::ABSENT;
 use table::layout::ARC_SIZE;
 use table::layout::FINAL_PLACE;
 use table::layout::STATE_SIZE;
@@ -48,7 +49,7 @@ pub fn may_end(counts: Counts, states: &[u8], x: InputState) -> bool
     if counts.states <= q {
         return true;
     }
-    if states[STATE_SIZE * q + FINAL_PLACE] == 0 {
+    if states[STATE_SIZE * q + FINAL_PLACE] == ABSENT {
         return false;
     }
     true

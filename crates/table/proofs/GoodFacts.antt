@@ -14,7 +14,7 @@ use Rattle.automata.specs.Lists.{all}
 use Rattle.automata.specs.Answer.{Answer, ok, forget, require}
 use Rattle.automata.specs.Refusal.{size, state}
 use Rattle.automata.specs.Memory.{isZero}
-use Rattle.automata.specs.Layout.{arcSize, labelSize, labelsSize}
+use Rattle.automata.specs.Layout.{arcSize, labelSize, labelsSize, labelsEnd, labelsPlace, targetPlace, contentPlace}
 use Rattle.table.specs.Region.{part}
 use Rattle.table.specs.Endian.{le}
 use Rattle.table.specs.Judging.{readLabel, labelsRead, readLabels, readArc}
@@ -94,8 +94,8 @@ tapes-good tapes x l h e f = sym (judged-tapes tapes x (ok tt) (ok tt) (ok tt) t
 
 -- source, target, weight and labels
 pub arc-good : (tapes states : ℕ) (x : List ℕ) → length x ≡ arcSize → ((i : ℕ) → getD x i 0 < 256) → (s t w : ℕ)
-    → s ≡ le (part 0 2 x) → t ≡ le (part 2 2 x) → w ≡ le (part 4 4 x) → s < states → t < states → w ≤ 999999999
-    → forget (readLabels tapes (take (arcSize - 8) (drop 8 x))) ≡ ok tt → forget (readArc tapes states x) ≡ ok tt
+    → s ≡ le (part 0 2 x) → t ≡ le (part targetPlace 2 x) → w ≡ le (part contentPlace 4 x) → s < states → t < states → w ≤ 999999999
+    → forget (readLabels tapes (take (labelsEnd - labelsPlace) (drop labelsPlace x))) ≡ ok tt → forget (readArc tapes states x) ≡ ok tt
 arc-good tapes states x l bytes s t w ps pt pw hs ht hw e =
     let fine : Answer (Unit {0}) = ok tt in
     let qs : fine ≡ require (ltb s states) state = rw (lt-ltb s states hs) in

@@ -18,7 +18,7 @@ use Rattle.automata.specs.LittleEndian.{little}
 use Rattle.automata.specs.Memory.{flagged, isZero, zeros}
 use Rattle.automata.proofs.AnswerFacts.{forget-map, forget-unit}
 use Rattle.automata.proofs.RecordFacts.{take-drop-take}
-use Rattle.automata.specs.Layout.{arcSize, stateSize, labelSize, labelsSize, weightSize}
+use Rattle.automata.specs.Layout.{arcSize, stateSize, labelSize, labelsSize, weightSize, labelsEnd, labelsPlace, contentPlace, targetPlace}
 use Rattle.table.specs.Region.{part}
 use Rattle.table.specs.Endian.{le}
 use Rattle.table.specs.Answers.{judgedAs}
@@ -213,28 +213,28 @@ judged-number k a xs test n v j h bytes e f = f ∙ rw (little-part k a xs h byt
 
 -- source, target, weight and labels side by side
 module _ (tapes states : ℕ) (x : List ℕ) (len : length x ≡ arcSize) (bytes : (i : ℕ) → getD x i 0 < 256) (s t w : ℕ)
-    (ps : s ≡ le (part 0 2 x)) (pt : t ≡ le (part 2 2 x)) (pw : w ≡ le (part 4 4 x)) (js jt jw jl inner middle r : Answer (Unit {0}))
+    (ps : s ≡ le (part 0 2 x)) (pt : t ≡ le (part targetPlace 2 x)) (pw : w ≡ le (part contentPlace 4 x)) (js jt jw jl inner middle r : Answer (Unit {0}))
     (qs : js ≡ require (ltb s states) state) (qt : jt ≡ require (ltb t states) state) (qw : jw ≡ require (leb w 999999999) size)
-    (ql : jl ≡ forget (readLabels tapes (take (arcSize - 8) (drop 8 x)))) where
+    (ql : jl ≡ forget (readLabels tapes (take (labelsEnd - labelsPlace) (drop labelsPlace x)))) where
   -- what the four are side by side, for weight and labels at lists of bytes
   abbrev fieldsRead : List ℕ → List ℕ → Answer (ℕ × (ℕ × (ℕ × List (List ℕ))))
   fieldsRead y z =
       beside (numberRead 2 (λ q. ltb q states) state (take 2 x))
-      (beside (numberRead 2 (λ q. ltb q states) state (take 2 (drop 2 x))) (beside (numberRead 4 (λ q. leb q 999999999) size (take 4 y)) (readLabels tapes z)))
+      (beside (numberRead 2 (λ q. ltb q states) state (take 2 (drop targetPlace x))) (beside (numberRead 4 (λ q. leb q 999999999) size (take 4 y)) (readLabels tapes z)))
 
   -- the four judgements one after the other
-  fields-judged : inner ≡ forget (beside jw jl) → middle ≡ forget (beside jt inner) → r ≡ forget (beside js middle) → r ≡ forget (fieldsRead (drop 4 x) (drop 8 x))
+  fields-judged : inner ≡ forget (beside jw jl) → middle ≡ forget (beside jt inner) → r ≡ forget (beside js middle) → r ≡ forget (fieldsRead (drop contentPlace x) (drop labelsPlace x))
   unfolding part
   fields-judged e f g =
-      let d : length (drop 8 x) ≤ labelsSize = simp length-drop (omega arith) in
+      let d : length (drop labelsPlace x) ≤ labelsSize = simp length-drop (omega arith) in
       let S = numberRead 2 (λ q. ltb q states) state (take 2 x) in
-      let T = numberRead 2 (λ q. ltb q states) state (take 2 (drop 2 x)) in
-      let W = numberRead 4 (λ q. leb q 999999999) size (take 4 (drop 4 x)) in
-      let L = readLabels tapes (drop 8 x) in
+      let T = numberRead 2 (λ q. ltb q states) state (take 2 (drop targetPlace x)) in
+      let W = numberRead 4 (λ q. leb q 999999999) size (take 4 (drop contentPlace x)) in
+      let L = readLabels tapes (drop labelsPlace x) in
       let fs : js ≡ forget S = judged-number 2 0 x (λ q. ltb q states) state s js (omega arith) bytes ps qs in
-      let ft : jt ≡ forget T = judged-number 2 2 x (λ q. ltb q states) state t jt (omega arith) bytes pt qt in
-      let fw : jw ≡ forget W = judged-number 4 4 x (λ q. leb q 999999999) size w jw (omega arith) bytes pw qw in
-      let fl : jl ≡ forget L = ql ∙ ap (λ (y : List ℕ). forget (readLabels tapes y)) (take-all labelsSize (drop 8 x) d) in
+      let ft : jt ≡ forget T = judged-number 2 targetPlace x (λ q. ltb q states) state t jt (omega arith) bytes pt qt in
+      let fw : jw ≡ forget W = judged-number 4 contentPlace x (λ q. leb q 999999999) size w jw (omega arith) bytes pw qw in
+      let fl : jl ≡ forget L = ql ∙ ap (λ (y : List ℕ). forget (readLabels tapes y)) (take-all labelsSize (drop labelsPlace x) d) in
       both-judged js middle r S (beside T (beside W L)) fs (both-judged jt inner middle T (beside W L) ft (both-judged jw jl inner W L fw fl e) f) g
 
   -- the record of an arc

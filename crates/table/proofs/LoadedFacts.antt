@@ -153,13 +153,13 @@ module _ (tapes states at : ℕ) (xs : List ℕ) (a : automata.Arc ℕ) (fits : 
       let ls = a .labels in
       let x = writeAll (labelRecord .write) ls in
       let z = zeros ((8 - tapes) * labelSize) in
-      let y = drop labelsSize (drop (at + 8) xs) in
+      let y = drop labelsSize (drop (at + labelsPlace) xs) in
       let m : length ls + (8 - tapes) ≡ 8 = omega (arith, w .width) in
       let n : length (x ++ z) ≤ labelsSize = rw (length-append, length-replicate, length-many labelRecord-lawful ls (w .labels)) (omega (arith, w .width)) in
-      let p : take labelsSize (drop (at + 8) xs) ≡ x ++ z = field labelsPlace labelsSize at arcSize xs (arcRecord tapes states .write a) e (omega arith) ∙ take-all labelsSize (x ++ z) n in
-      let q : drop (at + 8) xs ≡ x ++ (z ++ y) = sym (take-append-drop labelsSize (drop (at + 8) xs)) ∙ ap (λ (l : List ℕ). l ++ y) p ∙ append-assoc x z y in
-      ap (λ (i : ℕ). labelsAt 8 i xs) (add-assoc at 4 4 ∙ sym (add-zero (at + 8)))
-      ∙ labels-drop 8 (at + 8) 0 xs ∙ ap (labelsAt 8 0) q ∙ ap (λ (i : ℕ). labelsAt i 0 (x ++ (z ++ y))) (sym m) ∙ labels-written ls (8 - tapes) y (w .labels)
+      let p : take labelsSize (drop (at + labelsPlace) xs) ≡ x ++ z = field labelsPlace labelsSize at arcSize xs (arcRecord tapes states .write a) e (omega arith) ∙ take-all labelsSize (x ++ z) n in
+      let q : drop (at + labelsPlace) xs ≡ x ++ (z ++ y) = sym (take-append-drop labelsSize (drop (at + labelsPlace) xs)) ∙ ap (λ (l : List ℕ). l ++ y) p ∙ append-assoc x z y in
+      ap (λ (i : ℕ). labelsAt 8 i xs) (add-assoc at 4 4 ∙ sym (add-zero (at + labelsPlace)))
+      ∙ labels-drop 8 (at + labelsPlace) 0 xs ∙ ap (labelsAt 8 0) q ∙ ap (λ (i : ℕ). labelsAt i 0 (x ++ (z ++ y))) (sym m) ∙ labels-written ls (8 - tapes) y (w .labels)
 
   -- the arc that it stands for
   pub arc-decoded : arcAs tapes (arcAt at xs) ≡ a

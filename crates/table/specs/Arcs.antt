@@ -19,9 +19,13 @@ targetAt at xs = le (part (at + targetPlace) 2 xs)
 abbrev pub arcWeightAt : ℕ → List ℕ → ℕ
 arcWeightAt at xs = le (part (at + contentPlace) 4 xs)
 
+-- where its labels begin
+abbrev pub firstLabel : ℕ → ℕ
+firstLabel at = at + labelsPlace
+
 -- where its label on a tape stands, the tapes counted from 0
 abbrev pub labelPlace : ℕ → ℕ → ℕ
-labelPlace at tape = at + labelsPlace + labelSize * tape
+labelPlace at tape = firstLabel at + labelSize * tape
 
 -- ---- by its number
 

@@ -7,7 +7,7 @@ use lib.ListN.{length, getD, take, drop, replicate}
 use Rattle.automata.specs.Automaton as automata
 use Rattle.automata.specs.Lists.{All}
 use Rattle.automata.specs.Memory.{weightRecord, stateRecord}
-use Rattle.automata.specs.Layout.{weightSize, targetPlace, contentPlace, labelSize}
+use Rattle.automata.specs.Layout.{amountPlace, finalPlace, targetPlace, contentPlace, labelSize, symbolsPlace}
 use Rattle.table.specs.Region.{part}
 use Rattle.table.specs.Endian.{le}
 use Rattle.table.specs.declared.record.Weight.{Weight}
@@ -75,15 +75,15 @@ weightOf (suc f) n = Present n
 
 -- the weight at a place
 unfoldable pub weightAt : ℕ → List ℕ → Weight
-weightAt at xs = weightOf (getD xs at 0) (le (part (at + 1) 4 xs))
+weightAt at xs = weightOf (getD xs at 0) (le (part (at + amountPlace) 4 xs))
 
 -- the state at a place
 unfoldable pub stateAt : ℕ → List ℕ → State
-stateAt at xs = record { initial = weightAt at xs; last = weightAt (at + weightSize) xs }
+stateAt at xs = record { initial = weightAt at xs; last = weightAt (at + finalPlace) xs }
 
 -- the label at a place
 unfoldable pub labelAt : ℕ → List ℕ → Label
-labelAt at xs = record { len = getD xs at 0; symbols = part (at + 1) 8 xs }
+labelAt at xs = record { len = getD xs at 0; symbols = part (at + symbolsPlace) 8 xs }
 
 -- the n labels from a place
 unfoldable pub labelsAt : ℕ → ℕ → List ℕ → List Label

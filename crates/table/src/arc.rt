@@ -7,7 +7,7 @@ ghost use Rattle.automata.specs.Limits.{maxTapes};
 ghost use Rattle.automata.specs.Layout.{arcSize, contentPlace, contentSize};
 ghost use Rattle.table.specs.Region.{part, splice};
 ghost use Rattle.table.specs.Endian.{toLe};
-ghost use Rattle.table.specs.Arcs.{sourceAt, targetAt, arcWeightAt, labelPlace};
+ghost use Rattle.table.specs.Arcs.{sourceAt, targetAt, arcWeightAt, firstLabel, labelPlace};
 use crate::bytes::copy_into;
 use crate::bytes::get16;
 use crate::bytes::get32;
@@ -43,6 +43,14 @@ pub fn arc_weight_at(arcs: &[u8], at: usize) -> u32
     ensures { λ r. ⌜ r ≡ arcWeightAt at (now (arcs .entry)) ⌝ }
 {
     get32(arcs, at + CONTENT_PLACE)
+}
+
+// Where the labels of the arc begin. One stands behind the other.
+pub fn first_label(at: usize) -> usize
+    requires { ⌜ at < 18446744073709551000 ⌝ }
+    ensures { λ r. ⌜ r ≡ firstLabel at ⌝ }
+{
+    at + LABELS_PLACE
 }
 
 // Where the arc's label on a tape stands, the tapes counted from 0.

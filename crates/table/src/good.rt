@@ -14,11 +14,12 @@ ghost use Rattle.table.specs.Judging.{readLabel, labelsRead, readLabels,
 use crate::bytes::get16;
 use crate::bytes::get32;
 use crate::bytes::get64;
-use crate::layout::ARC_SIZE;
 use crate::layout::CONTENT_PLACE;
 use crate::layout::LABEL_SIZE;
+use crate::layout::LABELS_END;
 use crate::layout::LABELS_PLACE;
 use crate::layout::LABELS_SIZE;
+use crate::layout::SYMBOLS_PLACE;
 use crate::layout::TARGET_PLACE;
 
 // The highest bits of eight bytes.
@@ -43,7 +44,7 @@ fn good_label(labels: &[u8], at: usize) -> bool
     if 8 < len {
         return false;
     }
-    let word = get64(labels, at + 1);
+    let word = get64(labels, at + SYMBOLS_PLACE);
     if word & HIGHEST != 0 {
         return false;
     }
@@ -95,7 +96,7 @@ fn blank_labels(labels: &[u8], tapes: usize) -> bool
         if labels[at] != 0 {
             return false;
         }
-        if get64(labels, at + 1) != 0 {
+        if get64(labels, at + SYMBOLS_PLACE) != 0 {
             return false;
         }
         left -= 1;
@@ -130,5 +131,5 @@ pub fn good_arc(arc: &[u8], tapes: usize, states: usize) -> bool
     if 999999999 < get32(arc, CONTENT_PLACE) {
         return false;
     }
-    good_tapes(&arc[LABELS_PLACE..ARC_SIZE], tapes)
+    good_tapes(&arc[LABELS_PLACE..LABELS_END], tapes)
 }

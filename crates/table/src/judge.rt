@@ -18,14 +18,19 @@ use crate::answer::both;
 use crate::bytes::get16;
 use crate::bytes::get32;
 use crate::good::good_arc;
+use crate::layout::ABSENT;
+use crate::layout::AMOUNT_PLACE;
 use crate::layout::ARC_SIZE;
 use crate::layout::CONTENT_PLACE;
+use crate::layout::FINAL_PLACE;
 use crate::layout::LABEL_SIZE;
+use crate::layout::LABELS_END;
 use crate::layout::LABELS_PLACE;
 use crate::layout::LABELS_SIZE;
+use crate::layout::PRESENT;
 use crate::layout::STATE_SIZE;
+use crate::layout::SYMBOLS_PLACE;
 use crate::layout::TARGET_PLACE;
-use crate::layout::WEIGHT_SIZE;
 use crate::symbol::has_number;
 
 // Fine where the test passes, else the refusal.
@@ -44,11 +49,11 @@ fn judge_weight(bytes: &[u8], at: usize) -> Judged
     ensures { λ r. ⌜ judgedAs r ≡ forget (readWeight (part at weightSize (now (bytes .entry)))) ⌝ }
 {
     let flag = bytes[at];
-    let n = get32(bytes, at + 1);
-    if flag == 0 {
+    let n = get32(bytes, at + AMOUNT_PLACE);
+    if flag == ABSENT {
         return demand(n == 0, Refusal::Form);
     }
-    if flag != 1 {
+    if flag != PRESENT {
         return Judged::Refused(Refusal::Form);
     }
     demand(n <= 999999999, Refusal::Size)
@@ -61,7 +66,7 @@ fn judge_state_record(bytes: &[u8], at: usize) -> Judged
 {
     both(
         judge_weight(bytes, at),
-        judge_weight(bytes, at + WEIGHT_SIZE),
+        judge_weight(bytes, at + FINAL_PLACE),
     )
 }
 
@@ -105,8 +110,8 @@ fn judge_label(label: &[u8]) -> Judged
     ensures { λ r. ⌜ judgedAs r ≡ forget (readLabel (now (label .entry))) ⌝ }
 {
     let len = label[0];
-    let end = 1 + within(len);
-    if !all_symbols(&label[1..end]) {
+    let end = SYMBOLS_PLACE + within(len);
+    if !all_symbols(&label[SYMBOLS_PLACE..end]) {
         return Judged::Refused(Refusal::Form);
     }
     if !all_zero(&label[end..LABEL_SIZE]) {
@@ -150,7 +155,7 @@ fn judge_arc_record(arc: &[u8], tapes: usize, states: usize) -> Judged
     let source = demand((get16(arc, 0) as usize) < states, Refusal::State);
     let target = demand((get16(arc, TARGET_PLACE) as usize) < states, Refusal::State);
     let weight = demand(get32(arc, CONTENT_PLACE) <= 999999999, Refusal::Size);
-    let labels = judge_tapes(&arc[LABELS_PLACE..ARC_SIZE], tapes);
+    let labels = judge_tapes(&arc[LABELS_PLACE..LABELS_END], tapes);
     both(source, both(target, both(weight, labels)))
 }
 

@@ -1,8 +1,14 @@
 // The sizes of records in bytes and where their parts stand, and the columns of a table's text, each written down here
 // and nowhere else.
 
-// A state: its initial weight and its final weight.
+// A state: its initial weight and its final weight, each a flag, which says whether it is there, and a number.
 pub const WEIGHT_SIZE: usize = 5;
+
+pub const ABSENT: u8 = 0;
+
+pub const PRESENT: u8 = 1;
+
+pub const AMOUNT_PLACE: usize = 1;
 
 pub const FINAL_PLACE: usize = 5;
 
@@ -18,7 +24,11 @@ pub const LABELS_PLACE: usize = 8;
 // A label: its length and eight symbols.
 pub const LABEL_SIZE: usize = 9;
 
+pub const SYMBOLS_PLACE: usize = 1;
+
 pub const LABELS_SIZE: usize = 72;
+
+pub const LABELS_END: usize = LABELS_PLACE + LABELS_SIZE;
 
 pub const CONTENT_SIZE: usize = 76;
 
@@ -79,3 +89,17 @@ pub const WEIGHT_COLUMN: usize = 12;
 pub const LABELS_COLUMN: usize = 22;
 
 pub const ARC_WIDTH: usize = 23;
+
+// The first line of what the program `agree` reads: a number of it, and behind the number of pairs the pairs, each its
+// first tape, its second tape and its limit.
+pub const ENTRY_WIDTH: usize = 3;
+
+pub const PAIRS_COLUMN: usize = 3;
+
+pub const SHORTEST_LINE: usize = PAIRS_COLUMN + 1;
+
+pub const SECOND_COLUMN: usize = 3;
+
+pub const LIMIT_COLUMN: usize = 6;
+
+pub const PAIR_WIDTH: usize = 9;

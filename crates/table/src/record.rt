@@ -9,7 +9,10 @@ ghost use Rattle.table.specs.Endian.{toLe};
 ghost use Rattle.table.specs.Records.{weightBytes, stateBytes, weightAt, stateAt};
 use crate::bytes::get32;
 use crate::bytes::put32;
-use crate::layout::WEIGHT_SIZE;
+use crate::layout::ABSENT;
+use crate::layout::AMOUNT_PLACE;
+use crate::layout::FINAL_PLACE;
+use crate::layout::PRESENT;
 
 // The number of a state of a table that is read.
 pub struct InputState(pub u16);
@@ -41,7 +44,7 @@ fn put_flagged(bytes: &mut [u8], at: usize, flag: u8, v: u32)
     ensures { λ _. ⌜ now (bytes .exit) ≡ splice at (flag ∷ toLe 4 v) (now (bytes .entry)) ⌝ }
 {
     bytes[at] = flag;
-    put32(bytes, at + 1, v);
+    put32(bytes, at + AMOUNT_PLACE, v);
 }
 
 // The record of a weight.
@@ -50,8 +53,8 @@ fn store_weight(bytes: &mut [u8], at: usize, w: Weight)
     ensures { λ _. ⌜ now (bytes .exit) ≡ splice at (weightBytes w) (now (bytes .entry)) ⌝ }
 {
     match w {
-        Weight::Absent => put_flagged(bytes, at, 0, 0),
-        Weight::Present(n) => put_flagged(bytes, at, 1, n),
+        Weight::Absent => put_flagged(bytes, at, ABSENT, 0),
+        Weight::Present(n) => put_flagged(bytes, at, PRESENT, n),
     }
 }
 
@@ -63,7 +66,7 @@ pub fn store_state(bytes: &mut [u8], at: usize, s: State)
     let initial = s.initial;
     store_weight(bytes, at, initial);
     let last = s.last;
-    store_weight(bytes, at + WEIGHT_SIZE, last);
+    store_weight(bytes, at + FINAL_PLACE, last);
 }
 
 // The weight at a place.
@@ -71,10 +74,10 @@ fn load_weight(bytes: &[u8], at: usize) -> Weight
     requires { ⌜ at + weightSize ≤ length (now bytes) ⌝ }
     ensures { λ r. ⌜ r ≡ weightAt at (now (bytes .entry)) ⌝ }
 {
-    if bytes[at] == 0 {
+    if bytes[at] == ABSENT {
         return Weight::Absent;
     }
-    Weight::Present(get32(bytes, at + 1))
+    Weight::Present(get32(bytes, at + AMOUNT_PLACE))
 }
 
 // The state whose record stands at a place.
@@ -83,6 +86,6 @@ pub fn load_state(bytes: &[u8], at: usize) -> State
     ensures { λ r. ⌜ r ≡ stateAt at (now (bytes .entry)) ⌝ }
 {
     let initial = load_weight(bytes, at);
-    let last = load_weight(bytes, at + WEIGHT_SIZE);
+    let last = load_weight(bytes, at + FINAL_PLACE);
     State { initial, last }
 }

@@ -18,7 +18,7 @@ use Rattle.automata.proofs.RecordFacts.{All-at, Sized, record-at, chunks-writeA
 use Rattle.automata.proofs.FormatFacts.{all-sized, length-many}
 use Rattle.automata.proofs.MemoryFacts.{labelRecord-lawful, arcRecord-lawful, arcRecord-width, length-encodeStates, length-encodeArcs}
 use Rattle.automata.proofs.CallFacts.{put-ok}
-use Rattle.automata.specs.Layout.{arcSize, stateSize, labelSize, labelsSize}
+use Rattle.automata.specs.Layout.{arcSize, stateSize, labelSize, labelsSize, labelsPlace}
 use Rattle.table.specs.Region.{part, splice}
 use Rattle.table.proofs.RegionFacts.{splice-front}
 use Rattle.tapes_records.specs.Rewritten.{rewritten, chosenLabels, chosenArc}
@@ -71,7 +71,7 @@ module _ (tapes states : ℕ) (js : List ℕ) (few : tapes ≤ 8) (short : lengt
       let n : length y ≡ length js * labelSize = length-many labelRecord-lawful (chosen js ls) (chosen-labels ls js (w .labels) m) ∙ ap (λ (k : ℕ). k * labelSize) (length-map js (λ j. getD ls (j - 1) [])) in
       let t : take labelsSize x ≡ x = take-all labelsSize x (omega (arith, l, w .width, few)) in
       let z : drop (length y) (zeros labelsSize) ≡ zeros ((8 - length js) * labelSize) = zeros-behind (length y) ((8 - length js) * labelSize) (omega (arith, n, short)) in
-      ap (λ (u : List ℕ). take 8 (arcRecord tapes states .write a) ++ u)
+      ap (λ (u : List ℕ). take labelsPlace (arcRecord tapes states .write a) ++ u)
       (ap (λ (u : List ℕ). splice 0 (chosenLabels js u) (zeros labelsSize)) t ∙ ap (λ (u : List ℕ). splice 0 u (zeros labelsSize)) (labels-chosen ls (zeros ((8 - tapes) * labelSize)) js (w .labels) m)
       ∙ splice-front y (zeros labelsSize) ∙ ap (λ (u : List ℕ). y ++ u) z)
 

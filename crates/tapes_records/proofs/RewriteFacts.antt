@@ -8,6 +8,7 @@ use lib.ListN.{length, getD, take, drop, length-append, length-take, length-drop
 use lib.Seq.{drop-drop}
 use Rattle.automata.specs.Memory.{zeros}
 use Rattle.automata.specs.Layout.{arcSize, labelSize, labelsPlace, labelsSize}
+use Rattle.table.specs.Arcs.{firstLabel}
 use Rattle.table.specs.Region.{part, splice}
 use Rattle.table.proofs.RegionFacts.{length-part, part-suc, part-part, length-splice, drop-splice, splice-none, splice-append, splice-self}
 use Rattle.tapes_records.specs.Rewritten.{rewritten, chosenLabels, chosenArc}
@@ -91,25 +92,25 @@ unfolding chosenLabels part
 labels-end x js k left used to out old e f = sym (splice-none to out) ∙ rw e at f
 
 -- the labels of a record that stands in a list
-pub labels-found : (js arcs r : List ℕ) (at : ℕ) → r ≡ splice 0 (chosenLabels js (take (at + labelsPlace + labelsSize - (at + labelsPlace)) (drop (at + labelsPlace) arcs))) (zeros labelsSize)
-    → r ≡ splice 0 (chosenLabels js (part (at + labelsPlace) labelsSize arcs)) (zeros labelsSize)
+pub labels-found : (js arcs r : List ℕ) (from to : ℕ) → from ≡ to → r ≡ splice 0 (chosenLabels js (take (from + labelsSize - from) (drop from arcs))) (zeros labelsSize)
+    → r ≡ splice 0 (chosenLabels js (part to labelsSize arcs)) (zeros labelsSize)
 unfolding part
-labels-found js arcs r at e =
-    let g : at + labelsPlace + labelsSize - (at + labelsPlace) ≡ labelsSize = omega arith in
-    e ∙ ap (λ (n : ℕ). splice 0 (chosenLabels js (take n (drop (at + labelsPlace) arcs))) (zeros labelsSize)) g
+labels-found js arcs r from to f e =
+    let g : from + labelsSize - from ≡ labelsSize = omega arith in
+    e ∙ ap₂ (λ (n k : ℕ). splice 0 (chosenLabels js (take n (drop k arcs))) (zeros labelsSize)) g f
 
 -- a record whose labels were written over
 pub arc-chosen : (js arcs labels arcs2 : List ℕ) (at : ℕ) → at + arcSize ≤ length arcs → length js ≤ 8
-    → labels ≡ splice 0 (chosenLabels js (part (at + labelsPlace) labelsSize arcs)) (zeros labelsSize) → arcs2 ≡ splice (at + labelsPlace) labels arcs
+    → labels ≡ splice 0 (chosenLabels js (part (firstLabel at) labelsSize arcs)) (zeros labelsSize) → arcs2 ≡ splice (firstLabel at) labels arcs
     → arcs2 ≡ splice at (chosenArc js (part at arcSize arcs)) arcs
 unfolding chosenArc
 arc-chosen js arcs labels arcs2 at h few e f =
-    let b = length-labels js (part (at + labelsPlace) labelsSize arcs) in
-    let n : length labels ≡ labelsSize = ap length e ∙ length-splice 0 (chosenLabels js (part (at + labelsPlace) labelsSize arcs)) (zeros labelsSize) (omega arith) in
+    let b = length-labels js (part (firstLabel at) labelsSize arcs) in
+    let n : length labels ≡ labelsSize = ap length e ∙ length-splice 0 (chosenLabels js (part (firstLabel at) labelsSize arcs)) (zeros labelsSize) (omega arith) in
     let head = part at labelsPlace arcs in
     let l : length head ≡ labelsPlace = length-part at labelsPlace arcs (omega arith) in
     let p : part 0 labelsPlace (part at arcSize arcs) ≡ head = part-part 0 labelsPlace at arcSize arcs (omega arith) ∙ ap (λ (k : ℕ). part k labelsPlace arcs) (add-zero at) in
-    let q : part labelsPlace labelsSize (part at arcSize arcs) ≡ part (at + labelsPlace) labelsSize arcs = part-part labelsPlace labelsSize at arcSize arcs (omega arith) in
+    let q : part labelsPlace labelsSize (part at arcSize arcs) ≡ part (firstLabel at) labelsSize arcs = part-part labelsPlace labelsSize at arcSize arcs (omega arith) in
     f ∙ ap₂ (λ (k : ℕ) (x : List ℕ). splice (at + k) labels x) (sym l) (sym (splice-self at labelsPlace arcs (omega arith)))
     ∙ splice-append at head labels arcs (omega arith)
     ∙ ap₂ (λ (x y : List ℕ). splice at (x ++ y) arcs) (sym p) (e ∙ ap (λ (x : List ℕ). splice 0 (chosenLabels js x) (zeros labelsSize)) (sym q))

@@ -20,7 +20,7 @@ fn judge_state_line(line: &[u8]) -> Judged
     requires { ⌜ length (now line) ≡ stateWidth ⌝ }
     ensures { λ r. ⌜ judgedAs r ≡ forget (readStateLine (now (line .entry))) ⌝ }
 {
-    let initial = judge_weight(&line[0..10]);
+    let initial = judge_weight(&line[0..AMOUNT_WIDTH]);
     let last = judge_weight(&line[AMOUNT_WIDTH..STATE_END]);
     let weights = both(initial, last);
     both(weights, line_end(line[STATE_END]))

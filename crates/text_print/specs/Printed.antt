@@ -6,7 +6,7 @@ use lib.Dec.{eqb}
 use lib.ListN.{take, drop, getD}
 use Rattle.automata.specs.Lists.{if}
 use Rattle.automata.specs.TableText.{labelColumns, weightColumns, headerLine}
-use Rattle.automata.specs.Layout.{amountWidth, labelSize, labelsPlace, newline, numberWidth, weightSize}
+use Rattle.automata.specs.Layout.{amountPlace, amountWidth, labelSize, labelsPlace, newline, numberWidth, symbolsPlace, weightSize}
 use Rattle.table.specs.Arcs.{sourceAt, targetAt, arcWeightAt}
 use Rattle.table.specs.Region.{part}
 use Rattle.table.specs.Endian.{le}
@@ -16,7 +16,7 @@ use Rattle.text_store.specs.Recode.{recoded}
 
 -- the columns of the weight in a record
 unfoldable pub weightOfRecord : List ℕ → List ℕ
-weightOfRecord x = weightColumns .write (if (eqb (getD x 0 0) 0) none (some (le (part 1 4 x))))
+weightOfRecord x = weightColumns .write (if (eqb (getD x 0 0) 0) none (some (le (part amountPlace 4 x))))
 
 -- the line of the state in a record
 unfoldable pub lineOfState : List ℕ → List ℕ
@@ -24,7 +24,7 @@ lineOfState x = (weightOfRecord (take weightSize x) ++ weightOfRecord (drop weig
 
 -- the columns of the label in a record
 unfoldable pub columnsOfLabel : List ℕ → List ℕ
-columnsOfLabel x = labelColumns .write (take (getD x 0 0) (drop 1 x))
+columnsOfLabel x = labelColumns .write (take (getD x 0 0) (drop symbolsPlace x))
 
 -- source, target and weight in a record of an arc
 unfoldable pub numbersOfRecord : List ℕ → List ℕ

@@ -5,24 +5,28 @@ use table::arc::source_at;
 use table::arc::target_at;
 use table::bytes::copy_into;
 use table::bytes::get32;
+use table::layout::ABSENT;
+use table::layout::AMOUNT_PLACE;
 use table::layout::AMOUNT_WIDTH;
 use table::layout::ARC_SIZE;
 use table::layout::ARC_WIDTH;
 use table::layout::ARCS_COLUMN;
+use table::layout::FINAL_PLACE;
 use table::layout::HEADER_END;
 use table::layout::HEADER_WIDTH;
 use table::layout::LABEL_SIZE;
 use table::layout::LABEL_WIDTH;
 use table::layout::LABELS_COLUMN;
+use table::layout::LABELS_END;
 use table::layout::LABELS_PLACE;
 use table::layout::NEWLINE;
 use table::layout::NUMBER_WIDTH;
 use table::layout::STATE_END;
 use table::layout::STATE_SIZE;
 use table::layout::STATE_WIDTH;
+use table::layout::SYMBOLS_PLACE;
 use table::layout::TAPES_WIDTH;
 use table::layout::WEIGHT_COLUMN;
-use table::layout::WEIGHT_SIZE;
 use text_columns::decimal::write_decimal;
 ghost use mathlib.Core.Path.{_≡_};
 ghost use Prim.Native.Nat.{_+_, _*_, _≤_, min};
@@ -41,12 +45,12 @@ fn print_weight(weight: &[u8], out: &mut [u8], at: usize)
     requires { ⌜ (length (now weight) ≡ weightSize) × (at + amountWidth ≤ length (now out)) ⌝ }
     ensures { λ _. ⌜ now (out .exit) ≡ splice at (weightOfRecord (now (weight .entry))) (now (out .entry)) ⌝ }
 {
-    if weight[0] == 0 {
+    if weight[0] == ABSENT {
         let absent = [32u8, 32, 32, 32, 32, 32, 32, 32, 32, 45];
         copy_into(out, at, &absent);
         return;
     }
-    write_decimal(out, at, AMOUNT_WIDTH, get32(weight, 1) as usize);
+    write_decimal(out, at, AMOUNT_WIDTH, get32(weight, AMOUNT_PLACE) as usize);
 }
 
 // The line of the state in a record.
@@ -54,8 +58,8 @@ fn print_state(bytes: &[u8], out: &mut [u8], at: usize)
     requires { ⌜ (length (now bytes) ≡ stateSize) × (at + stateWidth ≤ length (now out)) ⌝ }
     ensures { λ _. ⌜ now (out .exit) ≡ splice at (lineOfState (now (bytes .entry))) (now (out .entry)) ⌝ }
 {
-    print_weight(&bytes[0..WEIGHT_SIZE], out, at);
-    print_weight(&bytes[WEIGHT_SIZE..10], out, at + AMOUNT_WIDTH);
+    print_weight(&bytes[0..FINAL_PLACE], out, at);
+    print_weight(&bytes[FINAL_PLACE..STATE_SIZE], out, at + AMOUNT_WIDTH);
     out[at + STATE_END] = NEWLINE;
 }
 
@@ -94,7 +98,11 @@ fn print_label(bytes: &[u8], out: &mut [u8], at: usize)
 {
     let n = label_length(bytes[0]);
     let mut columns = [32u8; 17];
-    copy_into(&mut columns, LABEL_WIDTH - n, &bytes[1..LABEL_SIZE]);
+    copy_into(
+        &mut columns,
+        LABEL_WIDTH - n,
+        &bytes[SYMBOLS_PLACE..LABEL_SIZE],
+    );
     copy_into(out, at, &columns[0..LABEL_WIDTH]);
 }
 
@@ -143,7 +151,7 @@ fn print_arc(bytes: &[u8], tapes: usize, out: &mut [u8], at: usize)
 {
     print_numbers(bytes, out, at);
     print_labels(
-        &bytes[LABELS_PLACE..ARC_SIZE],
+        &bytes[LABELS_PLACE..LABELS_END],
         tapes,
         out,
         at + LABELS_COLUMN,

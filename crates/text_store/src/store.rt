@@ -1,4 +1,5 @@
 // The lines of a text that was judged, stored as the records of a table. Nothing of them is judged again.
+use table::arc::first_label;
 use table::arc::store_arc_weight;
 use table::arc::store_ends;
 use table::bytes::copy_into;
@@ -8,12 +9,12 @@ use table::layout::ARC_WIDTH;
 use table::layout::LABEL_SIZE;
 use table::layout::LABEL_WIDTH;
 use table::layout::LABELS_COLUMN;
-use table::layout::LABELS_PLACE;
 use table::layout::LABELS_SIZE;
 use table::layout::NUMBER_WIDTH;
 use table::layout::STATE_END;
 use table::layout::STATE_SIZE;
 use table::layout::STATE_WIDTH;
+use table::layout::SYMBOLS_PLACE;
 use table::layout::WEIGHT_COLUMN;
 use table::record::ResultState;
 use table::record::State;
@@ -34,7 +35,7 @@ fn store_state_line(line: &[u8], states: &mut [u8], at: usize)
     requires { ⌜ (length (now line) ≡ stateWidth) × (at + stateSize ≤ length (now states)) ⌝ }
     ensures { λ _. ⌜ now (states .exit) ≡ splice at (stateOfLine (now (line .entry))) (now (states .entry)) ⌝ }
 {
-    let initial = columns_weight(&line[0..10]);
+    let initial = columns_weight(&line[0..AMOUNT_WIDTH]);
     let last = columns_weight(&line[AMOUNT_WIDTH..STATE_END]);
     store_state(states, at, State { initial, last });
 }
@@ -65,7 +66,7 @@ fn store_label(column: &[u8], arcs: &mut [u8], at: usize)
     let mut symbols = [0u8; 16];
     copy_into(&mut symbols, 0, &column[1..LABEL_WIDTH]);
     arcs[at] = (8 - blanks) as u8;
-    copy_into(arcs, at + 1, &symbols[blanks..blanks + 8]);
+    copy_into(arcs, at + SYMBOLS_PLACE, &symbols[blanks..blanks + 8]);
 }
 
 // The records of the labels on so many tapes.
@@ -115,8 +116,9 @@ fn store_arc_line(line: &[u8], tapes: usize, arcs: &mut [u8], at: usize)
     ensures { λ _. ⌜ now (arcs .exit) ≡ splice at (arcOfLine tapes (now (line .entry))) (now (arcs .entry)) ⌝ }
 {
     store_numbers(line, arcs, at);
-    store_no_labels(arcs, at + LABELS_PLACE);
-    store_labels(&line[LABELS_COLUMN..], tapes, arcs, at + LABELS_PLACE);
+    let labels = first_label(at);
+    store_no_labels(arcs, labels);
+    store_labels(&line[LABELS_COLUMN..], tapes, arcs, labels);
 }
 
 // The records of so many arc lines from a place of a text.

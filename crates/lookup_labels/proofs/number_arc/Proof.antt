@@ -8,15 +8,16 @@ use Rattle.lookup_labels.proofs.number_arc.Reads as reads
 use Rattle.lookup_labels.proofs.number_arc.Lts as lts
 use Rattle.search_chains.proofs.bucket_of.Reads as bucket-of-reads
 use Rattle.search_chains.proofs.hash_words.Reads as hash-words-reads
+use Rattle.table.proofs.arc.first_label.Reads as first-label-reads
 use Rattle.lookup_labels.proofs.lesser.Reads as lesser-reads
 use Rattle.lookup_labels.proofs.number_of.Reads as number-of-reads
 use Rattle.lookup_labels.proofs.wide.Reads as wide-reads
 
-mul-hash-words : tie.Need-mul-hash-words
-mul-hash-words c = search needs
+mul-first-label : tie.Need-mul-first-label
+mul-first-label c = search needs
 
-add-hash-words : tie.Need-add-hash-words
-add-hash-words c = search needs
+first-label-requires : tie.Need-first-label-requires
+first-label-requires c κs = search needs
 
 hash-words-requires : tie.Need-hash-words-requires
 hash-words-requires c κs = search needs
@@ -62,7 +63,7 @@ same-length-2 c = search needs
 
 returns : tie.Need-returns
 returns c =
-    let s = c .before .before .before .before .before .before .before .before .before in
+    let s = c .before .before .before .before .before .before .before .before .before .before in
     let a = now (s .args .owners) in
     let e = s .args .e in
     numbers-of _ e _ a _ _ (c .before .before .before .before .bucket-of .ensures .1) _ (c .before .before .wide .ensures) _ (c .lesser .ensures) _ (c .before .number-of .ensures)
@@ -71,8 +72,8 @@ pub number-arc-spec : {M : Type 1} → statement M
 number-arc-spec =
     tie.close
     (tie.spec
-    mul-hash-words
-    add-hash-words
+    mul-first-label
+    first-label-requires
     hash-words-requires
     bucket-of-requires
     mul-wide

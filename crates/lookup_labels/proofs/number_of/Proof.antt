@@ -7,6 +7,7 @@ use Rattle.lookup_labels.proofs.number_of.Tie as tie
 use Rattle.lookup_labels.proofs.number_of.Reads as reads
 use Rattle.lookup_labels.proofs.number_of.Lts as lts
 use Rattle.lookup_labels.proofs.same_words.Reads as same-words-reads
+use Rattle.table.proofs.arc.first_label.Reads as first-label-reads
 
 cast-result : tie.Need-cast-result
 cast-result c = search needs
@@ -14,17 +15,17 @@ cast-result c = search needs
 returns : tie.Need-returns
 returns c = λ small. (refl, λ before. absurd (omega (arith, before, c .if1 .taken)))
 
-mul-same-words : tie.Need-mul-same-words
-mul-same-words c = search needs
+mul-first-label : tie.Need-mul-first-label
+mul-first-label c = search needs
 
-add-same-words : tie.Need-add-same-words
-add-same-words c = search needs
+first-label-requires : tie.Need-first-label-requires
+first-label-requires c κs = search needs
 
-mul-same-words-2 : tie.Need-mul-same-words-2
-mul-same-words-2 c = search needs
+mul-first-label-2 : tie.Need-mul-first-label-2
+mul-first-label-2 c = search needs
 
-add-same-words-2 : tie.Need-add-same-words-2
-add-same-words-2 c = search needs
+first-label-requires-2 : tie.Need-first-label-requires-2
+first-label-requires-2 c κs = search needs
 
 same-words-requires : tie.Need-same-words-requires
 same-words-requires c κs = search needs
@@ -33,7 +34,10 @@ cast-result-2 : tie.Need-cast-result-2
 cast-result-2 c = search needs
 
 returns-2 : tie.Need-returns-2
-returns-2 c = λ small. (refl, λ before. c .before .same-words .ensures (c .if2 .taken))
+returns-2 c =
+    let d = c .before .before .before .first-label .ensures in
+    let e = c .before .before .first-label2 .ensures in
+    λ small. (refl, λ before. rw (← d, ← e) (c .before .same-words .ensures (c .if2 .taken)))
 
 returns-3 : tie.Need-returns-3
 returns-3 c = λ small. absurd (omega (arith, small))
@@ -44,10 +48,10 @@ number-of-spec =
     (tie.spec
     cast-result
     returns
-    mul-same-words
-    add-same-words
-    mul-same-words-2
-    add-same-words-2
+    mul-first-label
+    first-label-requires
+    mul-first-label-2
+    first-label-requires-2
     same-words-requires
     cast-result-2
     returns-2

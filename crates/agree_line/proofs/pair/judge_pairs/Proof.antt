@@ -14,9 +14,10 @@ use Rattle.agree_line.proofs.pair.judge_pairs.Reads as reads
 use Rattle.agree_line.proofs.pair.judge_pairs.Lts as lts
 use Rattle.agree_line.proofs.pair.judge_pair.Reads as judge-pair-reads
 use Rattle.table.proofs.answer.both.Reads as both-reads
+use Rattle.automata.specs.Layout.{pairWidth}
 
 abbrev Inv-loop : tie.InvT-loop
-Inv-loop columns count judged₀ left₀ at₀ judged left at = (at + left * 9 ≡ length columns) × (forget (beside (judgedAs judged) (pairsRead left (drop at columns))) ≡ forget (pairsRead count columns))
+Inv-loop columns count judged₀ left₀ at₀ judged left at = (at + left * pairWidth ≡ length columns) × (forget (beside (judgedAs judged) (pairsRead left (drop at columns))) ≡ forget (pairsRead count columns))
 
 abbrev μ-loop : tie.MeasureT-loop
 μ-loop columns count judged₀ left₀ at₀ judged left at = left

@@ -14,10 +14,11 @@ use Rattle.agree_line.proofs.pair.store_pairs.Tie as tie
 use Rattle.agree_line.proofs.pair.store_pairs.Reads as reads
 use Rattle.agree_line.proofs.pair.store_pairs.Lts as lts
 use Rattle.agree_line.proofs.pair.store_pair.Reads as store-pair-reads
+use Rattle.automata.specs.Layout.{pairWidth}
 
 abbrev Inv-loop : tie.InvT-loop
-Inv-loop columns count pairs₀ left₀ at₀ to₀ pairs left at to = (at + left * 9 ≤ length columns) × (to + left * 3 ≤ length pairs) × (length pairs ≡ length pairs₀)
-    × (splice to (recoded bytesOfColumns 9 left (drop at columns)) pairs ≡ splice 0 (recoded bytesOfColumns 9 count columns) pairs₀)
+Inv-loop columns count pairs₀ left₀ at₀ to₀ pairs left at to = (at + left * pairWidth ≤ length columns) × (to + left * 3 ≤ length pairs) × (length pairs ≡ length pairs₀)
+    × (splice to (recoded bytesOfColumns pairWidth left (drop at columns)) pairs ≡ splice 0 (recoded bytesOfColumns pairWidth count columns) pairs₀)
 
 abbrev μ-loop : tie.MeasureT-loop
 μ-loop columns count pairs₀ left₀ at₀ to₀ pairs left at to = left
@@ -58,14 +59,14 @@ loop-again c = let l = c .before .before .before .before .before .before .loop i
       omega arith,
       omega (arith, k),
       k ∙ l .inv .2,
-      recode-turn bytesOfColumns 9 3 pair-sized _ _ _ (l .at) (l .to) (l .left) (c .before .before .before .before .before .loop-test .taken) (l .inv .0) (l .inv .1) (c .before .before .store-pair .ensures) ∙ l .inv .3,
+      recode-turn bytesOfColumns pairWidth 3 pair-sized _ _ _ (l .at) (l .to) (l .left) (c .before .before .before .before .before .loop-test .taken) (l .inv .0) (l .inv .1) (c .before .before .store-pair .ensures) ∙ l .inv .3,
     )
 
 same-length : tie.Need-same-length Inv-loop μ-loop
 same-length c = search needs
 
 returns : tie.Need-returns Inv-loop μ-loop
-returns c = let l = c .before .loop in sym (recode-done bytesOfColumns 9 _ _ (l .to) (l .left) (omega arith)) ∙ l .inv .3
+returns c = let l = c .before .loop in sym (recode-done bytesOfColumns pairWidth _ _ (l .to) (l .left) (omega arith)) ∙ l .inv .3
 
 pub store-pairs-spec : {M : Type 1} → statement M
 store-pairs-spec =

@@ -10,9 +10,6 @@ use Rattle.lookup_moves.proofs.moves.moved_back.Reads as moved-back-reads
 mul-moved-back : tie.Need-mul-moved-back
 mul-moved-back c = search needs
 
-add-moved-back : tie.Need-add-moved-back
-add-moved-back c = search needs
-
 moved-back-requires : tie.Need-moved-back-requires
 moved-back-requires c κs = search needs
 
@@ -33,7 +30,6 @@ lead-back-spec =
     tie.close
     (tie.spec
     mul-moved-back
-    add-moved-back
     moved-back-requires
     enum-known-step
     enum-told

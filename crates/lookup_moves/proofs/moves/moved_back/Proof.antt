@@ -13,17 +13,24 @@ use Rattle.lookup_moves.proofs.moves.moved_back.Reads as reads
 use Rattle.lookup_moves.proofs.moves.moved_back.Lts as lts
 use Rattle.lookup_moves.proofs.moves.move_tape.Reads as move-tape-reads
 use Rattle.automata.specs.Layout.{labelSize}
+use Rattle.table.specs.Arcs.{firstLabel}
+use Rattle.table.proofs.arc.first_label.Reads as first-label-reads
 
 abbrev Inv-loop : tie.InvT-loop
 Inv-loop arcs at tapes text starts positions spans total₀ from₀ h₀ left₀ total from h left =
-    (h + left ≡ tapes) × (from ≡ at + labelSize * h) × (total ≤ h * 2549158503125000)
-    × (movesFrom left h from total arcs text (spotWith starts positions spans 0 0) ≡ movesFrom tapes 0 at 0 arcs text (spotWith starts positions spans 0 0))
+    (h + left ≡ tapes) × (from ≡ firstLabel at + labelSize * h) × (total ≤ h * 2549158503125000)
+    × (movesFrom left h from total arcs text (spotWith starts positions spans 0 0) ≡ movesFrom tapes 0 (firstLabel at) 0 arcs text (spotWith starts positions spans 0 0))
 
 abbrev μ-loop : tie.MeasureT-loop
 μ-loop arcs at tapes text starts positions spans total₀ from₀ h₀ left₀ total from h left = left
 
+first-label-requires : tie.Need-first-label-requires Inv-loop μ-loop
+first-label-requires c κs = omega (arith, c .before .before .before .before .before .pre .0 .lent)
+
 loop-holds : tie.Need-loop-holds Inv-loop μ-loop
-loop-holds c = (search needs, omega arith, omega arith, refl)
+loop-holds c =
+    let f = c .first-label .ensures in
+    (search needs, omega (arith, f), omega arith, rw f refl)
 
 mul-move-tape : tie.Need-mul-move-tape Inv-loop μ-loop
 mul-move-tape c = search needs
@@ -45,7 +52,7 @@ shared-slice-read-move-tape-3 c = search needs
 
 move-tape-requires : tie.Need-move-tape-requires Inv-loop μ-loop
 move-tape-requires c κs =
-    let s = c .before .before .before .before .before .before .before .before .before .before in
+    let s = c .before .before .before .before .before .before .before .before .before .before .before in
     let l = c .before .before .before .before .loop in
     let k = c .before .before .before .loop-test .taken in
     let p = s .pre .0 in
@@ -71,7 +78,7 @@ returns c =
 
 add-total : tie.Need-add-total Inv-loop μ-loop
 add-total c =
-    let s = c .before .before .before .before .before .before .before .before .before .before .before .before .before .before in
+    let s = c .before .before .before .before .before .before .before .before .before .before .before .before .before .before .before in
     let l = c .before .before .before .before .before .before .before .before .loop in
     let k = c .before .before .before .before .before .before .before .loop-test .taken in
     let b = turn-bound (l .left) (l .left - 1) (l .h) (l .from) (l .total) _ _ (spotWith (now (s .args .starts)) (now (s .args .positions)) (now (s .args .spans)) 0 0) _ (omega (arith, k)) (c .before .before .before .move-tape .ensures) _ (c .before .step .given .1)
@@ -94,7 +101,7 @@ loop-again : tie.Need-loop-again Inv-loop μ-loop
 loop-again c =
     let l = c .before .before .before .before .before .before .before .before .loop in
     let k = c .before .before .before .before .before .before .before .loop-test .taken in
-    let s = c .before .before .before .before .before .before .before .before .before .before .before .before .before .before in
+    let s = c .before .before .before .before .before .before .before .before .before .before .before .before .before .before .before in
     let b = turn-bound (l .left) (l .left - 1) (l .h) (l .from) (l .total) _ _ (spotWith (now (s .args .starts)) (now (s .args .positions)) (now (s .args .spans)) 0 0) _ (omega (arith, k)) (c .before .before .before .move-tape .ensures) _ (c .before .step .given .1)
     (subst (λ (i : ℕ). getD (s .args .arcs .now) i 0 ≤ 8) (sym (l .inv .1)) (s .pre .0 .short (l .h) (omega (arith, k, s .pre .1 .few, l .inv .0)))) (s .pre .1 .small (l .h)) in (
       omega (arith, k, l .inv .0),
@@ -112,6 +119,7 @@ moved-back-spec =
     (tie.spec
     Inv-loop
     μ-loop
+    first-label-requires
     loop-holds
     mul-move-tape
     shared-slice-read-move-tape

@@ -16,10 +16,6 @@ mul-moved-back : tie.Need-mul-moved-back
 mul-moved-back c =
     let s = c .before .before .before .before .before .before in omega (arith, s .pre .1, s .pre .0 .ready _ (s .pre .2) .few-arcs)
 
-add-moved-back : tie.Need-add-moved-back
-add-moved-back c =
-    let s = c .before .before .before .before .before .before in omega (arith, s .pre .1, s .pre .0 .ready _ (s .pre .2) .few-arcs)
-
 slice-aggregate-moved-back : tie.Need-slice-aggregate-moved-back
 slice-aggregate-moved-back c = search needs
 
@@ -58,7 +54,6 @@ ends-at-spec =
     (tie.spec
     spot-at-requires
     mul-moved-back
-    add-moved-back
     slice-aggregate-moved-back
     slice-aggregate-moved-back-2
     slice-aggregate-moved-back-3

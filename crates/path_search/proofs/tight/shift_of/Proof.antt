@@ -9,31 +9,33 @@ use Rattle.path_search.proofs.tight.shift_of.Statement.{statement}
 use Rattle.path_search.proofs.tight.shift_of.Tie as tie
 use Rattle.path_search.proofs.tight.shift_of.Reads as reads
 use Rattle.path_search.proofs.tight.shift_of.Lts as lts
-use Rattle.automata.specs.Layout.{arcSize, labelSize, labelsPlace}
+use Rattle.automata.specs.Layout.{arcSize, labelSize}
+use Rattle.table.specs.Arcs.{firstLabel}
+use Rattle.table.proofs.arc.first_label.Reads as first-label-reads
 
 abbrev Inv-loop : tie.InvT-loop
 Inv-loop counts arcs e behind shift₀ at₀ h₀ shift at h =
-    (h ≤ counts .tapes) × (at ≡ arcSize * e + labelsPlace + labelSize * h) × (shift ≤ h * 2549158503125000)
-    × (shift + shiftBy (counts .tapes - h) h at arcs behind ≡ shiftBy (counts .tapes) 0 (arcSize * e + labelsPlace) arcs behind)
+    (h ≤ counts .tapes) × (at ≡ firstLabel (arcSize * e) + labelSize * h) × (shift ≤ h * 2549158503125000)
+    × (shift + shiftBy (counts .tapes - h) h at arcs behind ≡ shiftBy (counts .tapes) 0 (firstLabel (arcSize * e)) arcs behind)
 
 abbrev μ-loop : tie.MeasureT-loop
 μ-loop counts arcs e behind shift₀ at₀ h₀ shift at h = counts .tapes - h
 
-mul-at : tie.Need-mul-at Inv-loop μ-loop
-mul-at c = search needs
+mul-first-label : tie.Need-mul-first-label Inv-loop μ-loop
+mul-first-label c = search needs
 
-add-at : tie.Need-add-at Inv-loop μ-loop
-add-at c = search needs
+first-label-requires : tie.Need-first-label-requires Inv-loop μ-loop
+first-label-requires c κs = omega (arith, c .before .before .pre .0 .lent)
 
 loop-holds : tie.Need-loop-holds Inv-loop μ-loop
-loop-holds c = (search needs, omega arith, omega arith, shift-start _ _ _ _ _)
+loop-holds c = let f = c .first-label .ensures in (search needs, omega (arith, f), omega arith, rw f (shift-start _ _ _ _ _))
 
 shared-slice-read-shift : tie.Need-shared-slice-read-shift Inv-loop μ-loop
 shared-slice-read-shift c = search needs
 
 cast-shift : tie.Need-cast-shift Inv-loop μ-loop
 cast-shift c =
-    let s = c .before .before .before .before .before in
+    let s = c .before .before .before .before .before .before .before in
     let l = c .before .before .before .loop in
     let k = c .before .if1 .taken in
     omega (arith, label-short _ (s .args .e) (l .h) (l .at) (s .pre .0) (omega (arith, k, s .pre .1)) (l .inv .1))
@@ -46,7 +48,7 @@ array-read-shift c = search needs
 
 mul-shift-2 : tie.Need-mul-shift-2 Inv-loop μ-loop
 mul-shift-2 c =
-    let s = c .before .before .before .before .before in
+    let s = c .before .before .before .before .before .before .before in
     let l = c .before .before .before .loop in
     let k = c .before .if1 .taken in
     let b = shift-bound _ _ (s .args .e) (l .h) (l .at) (s .pre .0) (s .pre .2) (omega (arith, k, s .pre .1)) (l .inv .1) in
@@ -54,14 +56,14 @@ mul-shift-2 c =
 
 add-shift : tie.Need-add-shift Inv-loop μ-loop
 add-shift c =
-    let s = c .before .before .before .before .before in
+    let s = c .before .before .before .before .before .before .before in
     let l = c .before .before .before .loop in
     let k = c .before .if1 .taken in
     let b = shift-bound _ _ (s .args .e) (l .h) (l .at) (s .pre .0) (s .pre .2) (omega (arith, k, s .pre .1)) (l .inv .1) in
     omega (arith, b, k, l .inv .2, s .pre .1)
 
-add-at-2 : tie.Need-add-at-2 Inv-loop μ-loop
-add-at-2 c = search needs
+add-at : tie.Need-add-at Inv-loop μ-loop
+add-at c = search needs
 
 add-h : tie.Need-add-h Inv-loop μ-loop
 add-h c = search needs
@@ -71,7 +73,7 @@ loop-less c = search needs
 
 loop-again : tie.Need-loop-again Inv-loop μ-loop
 loop-again c =
-    let s = c .before .before .before .before .before in
+    let s = c .before .before .before .before .before .before .before in
     let l = c .before .before .before .loop in
     let k = c .before .if1 .taken in
     let b = shift-bound _ _ (s .args .e) (l .h) (l .at) (s .pre .0) (s .pre .2) (omega (arith, k, s .pre .1)) (l .inv .1) in
@@ -84,7 +86,7 @@ loop-again c =
 
 returns : tie.Need-returns Inv-loop μ-loop
 returns c =
-    let s = c .before .before .before .before in
+    let s = c .before .before .before .before .before .before in
     let l = c .before .before .loop in
     shift-end _ _ (s .args .counts .tapes - l .h) _ _ _ (omega (arith, c .if1 .left)) ∙ l .inv .3
 
@@ -94,8 +96,8 @@ shift-of-spec =
     (tie.spec
     Inv-loop
     μ-loop
-    mul-at
-    add-at
+    mul-first-label
+    first-label-requires
     loop-holds
     shared-slice-read-shift
     cast-shift
@@ -103,7 +105,7 @@ shift-of-spec =
     array-read-shift
     mul-shift-2
     add-shift
-    add-at-2
+    add-at
     add-h
     loop-less
     loop-again

@@ -11,12 +11,14 @@ use Rattle.product_records.proofs.record.store_side.Tie as tie
 use Rattle.product_records.proofs.record.store_side.Reads as reads
 use Rattle.product_records.proofs.record.store_side.Lts as lts
 use Rattle.product_records.proofs.record.copy_label.Reads as copy-label-reads
-use Rattle.automata.specs.Layout.{arcSize, labelSize, labelsPlace}
+use Rattle.table.proofs.arc.first_label.Reads as first-label-reads
+use Rattle.automata.specs.Layout.{arcSize, labelSize}
+use Rattle.table.specs.Arcs.{firstLabel}
 
 abbrev Inv-loop : tie.InvT-loop
 Inv-loop arcs arc tapes out₀ to from₀ at₀ left₀ out from at left =
     (from + labelSize * left ≤ length arcs) × (at + labelSize * left ≤ length out) × (length out ≡ length out₀)
-    × (splice at (part from (labelSize * left) arcs) out ≡ splice to (part (arcSize * arc + labelsPlace) (labelSize * tapes) arcs) out₀)
+    × (splice at (part from (labelSize * left) arcs) out ≡ splice to (part (firstLabel (arcSize * arc)) (labelSize * tapes) arcs) out₀)
 
 abbrev μ-loop : tie.MeasureT-loop
 μ-loop arcs arc tapes out₀ to from₀ at₀ left₀ out from at left = left
@@ -24,20 +26,23 @@ abbrev μ-loop : tie.MeasureT-loop
 returns : tie.Need-returns Inv-loop μ-loop
 returns c = side-ended _ _ _ _ _ (c .if1 .taken)
 
-mul-from : tie.Need-mul-from Inv-loop μ-loop
-mul-from c = search needs
+mul-first-label : tie.Need-mul-first-label Inv-loop μ-loop
+mul-first-label c = search needs
 
-add-from : tie.Need-add-from Inv-loop μ-loop
-add-from c = search needs
+first-label-requires : tie.Need-first-label-requires Inv-loop μ-loop
+first-label-requires c κs = search needs
 
 loop-holds : tie.Need-loop-holds Inv-loop μ-loop
-loop-holds c = let s = c .before .before .before in let h = s .pre .0 (c .if1 .left) in (omega (arith, h), search needs, refl, refl)
+loop-holds c =
+    let f = c .first-label .ensures in
+    let h = c .before .before .before .before .pre .0 (c .before .if1 .left) in
+    (omega (arith, f, h), search needs, refl, rw f refl)
 
 copy-label-requires : tie.Need-copy-label-requires Inv-loop μ-loop
 copy-label-requires c κs = search needs
 
-add-from-2 : tie.Need-add-from-2 Inv-loop μ-loop
-add-from-2 c = search needs
+add-from : tie.Need-add-from Inv-loop μ-loop
+add-from c = search needs
 
 add-at : tie.Need-add-at Inv-loop μ-loop
 add-at c = search needs
@@ -58,7 +63,7 @@ same-length : tie.Need-same-length Inv-loop μ-loop
 same-length c = search needs
 
 returns-2 : tie.Need-returns-2 Inv-loop μ-loop
-returns-2 c = let l = c .before .loop in side-arc _ _ _ _ _ _ (c .before .before .if1 .left) (labels-done _ (l .from) (l .at) (l .left) _ _ (omega arith) (l .inv .3))
+returns-2 c = let l = c .before .loop in side-arc _ _ _ _ _ _ (c .before .before .before .if1 .left) (labels-done _ (l .from) (l .at) (l .left) _ _ (omega arith) (l .inv .3))
 
 pub store-side-spec : {M : Type 1} → statement M
 store-side-spec =
@@ -67,11 +72,11 @@ store-side-spec =
     Inv-loop
     μ-loop
     returns
-    mul-from
-    add-from
+    mul-first-label
+    first-label-requires
     loop-holds
     copy-label-requires
-    add-from-2
+    add-from
     add-at
     sub-left
     loop-less

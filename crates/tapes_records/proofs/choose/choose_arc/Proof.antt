@@ -6,13 +6,14 @@ use Rattle.tapes_records.proofs.choose.choose_arc.Tie as tie
 use Rattle.tapes_records.proofs.choose.choose_arc.Reads as reads
 use Rattle.tapes_records.proofs.choose.choose_arc.Lts as lts
 use Rattle.tapes_records.proofs.choose.labels_at.Reads as labels-at-reads
+use Rattle.table.proofs.arc.first_label.Reads as first-label-reads
 use Rattle.table.proofs.bytes.copy_into.Reads as copy-into-reads
 
 labels-at-requires : tie.Need-labels-at-requires
 labels-at-requires c κs = search needs
 
-add-copy-into : tie.Need-add-copy-into
-add-copy-into c = search needs
+first-label-requires : tie.Need-first-label-requires
+first-label-requires c κs = search needs
 
 slice-aggregate-copy-into : tie.Need-slice-aggregate-copy-into
 slice-aggregate-copy-into c = search needs
@@ -24,14 +25,17 @@ same-length : tie.Need-same-length
 same-length c = search needs
 
 returns : tie.Need-returns
-returns c = let s = c .before .before .before .before .before .before .before .before .before in arc-chosen _ _ _ _ (s .args .at) (s .pre .1) (chosen-few _ _ (s .pre .0 .few)) (c .before .before .before .before .before .labels-at .ensures) (c .before .before .copy-into .ensures)
+returns c =
+    let s = c .before .before .before .before .before .before .before .before .before .before in
+    let f = c .before .before .before .before .first-label .ensures in
+    arc-chosen _ _ _ _ (s .args .at) (s .pre .1) (chosen-few _ _ (s .pre .0 .few)) (c .before .before .before .before .before .before .labels-at .ensures) (rw (← f) (c .before .before .copy-into .ensures))
 
 pub choose-arc-spec : {M : Type 1} → statement M
 choose-arc-spec =
     tie.close
     (tie.spec
     labels-at-requires
-    add-copy-into
+    first-label-requires
     slice-aggregate-copy-into
     copy-into-requires
     same-length

@@ -7,9 +7,10 @@ use Rattle.tapes_records.proofs.choose.labels_at.Tie as tie
 use Rattle.tapes_records.proofs.choose.labels_at.Reads as reads
 use Rattle.tapes_records.proofs.choose.labels_at.Lts as lts
 use Rattle.tapes_records.proofs.choose.copy_labels.Reads as copy-labels-reads
+use Rattle.table.proofs.arc.first_label.Reads as first-label-reads
 
-add-from : tie.Need-add-from
-add-from c = search needs
+first-label-requires : tie.Need-first-label-requires
+first-label-requires c κs = search needs
 
 add-copy-labels : tie.Need-add-copy-labels
 add-copy-labels c = search needs
@@ -30,13 +31,15 @@ copy-labels-requires : tie.Need-copy-labels-requires
 copy-labels-requires c κs = search needs
 
 returns : tie.Need-returns
-returns c = let s = c .before .before .before .before .before .before in labels-found _ (now (s .args .arcs)) _ (s .args .at) (c .before .copy-labels .ensures)
+returns c =
+    let s = c .before .before .before .before .before .before .before in
+    labels-found _ (now (s .args .arcs)) _ _ _ (c .before .before .before .before .first-label .ensures) (c .before .copy-labels .ensures)
 
 pub labels-at-spec : {M : Type 1} → statement M
 labels-at-spec =
     tie.close
     (tie.spec
-    add-from
+    first-label-requires
     add-copy-labels
     sub-copy-labels
     part-copy-labels-start

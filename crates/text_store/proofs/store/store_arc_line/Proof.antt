@@ -6,14 +6,15 @@ use Rattle.text_store.proofs.store.store_arc_line.Tie as tie
 use Rattle.text_store.proofs.store.store_arc_line.Reads as reads
 use Rattle.text_store.proofs.store.store_arc_line.Lts as lts
 use Rattle.text_store.proofs.store.store_labels.Reads as store-labels-reads
+use Rattle.table.proofs.arc.first_label.Reads as first-label-reads
 use Rattle.text_store.proofs.store.store_no_labels.Reads as store-no-labels-reads
 use Rattle.text_store.proofs.store.store_numbers.Reads as store-numbers-reads
 
 store-numbers-requires : tie.Need-store-numbers-requires
 store-numbers-requires c κs = search needs
 
-add-store-no-labels : tie.Need-add-store-no-labels
-add-store-no-labels c = search needs
+first-label-requires : tie.Need-first-label-requires
+first-label-requires c κs = search needs
 
 store-no-labels-requires : tie.Need-store-no-labels-requires
 store-no-labels-requires c κs = search needs
@@ -27,9 +28,6 @@ part-store-labels-start c = search needs
 part-store-labels-end : tie.Need-part-store-labels-end
 part-store-labels-end c = search needs
 
-add-store-labels : tie.Need-add-store-labels
-add-store-labels c = search needs
-
 store-labels-requires : tie.Need-store-labels-requires
 store-labels-requires c κs = search needs
 
@@ -37,20 +35,21 @@ same-length : tie.Need-same-length
 same-length c = search needs
 
 returns : tie.Need-returns
-returns c = let s = c .before .before .before .before .before .before .before .before .before .before .before .before .before .before .before in
-    arc-stored (s .args .tapes) _ (s .pre .0) (s .args .at) _ _ _ _ (s .pre .1 .0) (s .pre .1 .1) (c .before .before .before .before .before .before .before .before .before .before .before .store-numbers .ensures) (c .before .before .before .before .before .before .before .store-no-labels .ensures) (c .before .before .store-labels .ensures)
+returns c =
+    let s = c .before .before .before .before .before .before .before .before .before .before .before .before .before .before .before .before in
+    let f = c .before .before .before .before .before .before .before .before .before .first-label .ensures in
+    arc-stored (s .args .tapes) _ (s .pre .0) (s .args .at) _ _ _ _ _ f (s .pre .1 .0) (s .pre .1 .1) (c .before .before .before .before .before .before .before .before .before .before .before .before .store-numbers .ensures) (c .before .before .before .before .before .before .before .store-no-labels .ensures) (c .before .before .store-labels .ensures)
 
 pub store-arc-line-spec : {M : Type 1} → statement M
 store-arc-line-spec =
     tie.close
     (tie.spec
     store-numbers-requires
-    add-store-no-labels
+    first-label-requires
     store-no-labels-requires
     sub-store-labels
     part-store-labels-start
     part-store-labels-end
-    add-store-labels
     store-labels-requires
     same-length
     returns)
