@@ -221,6 +221,6 @@ module _ (m : Memory) (t : Automaton ℕ) (w : WellFormed t) (h : Holds m t) (k 
   label-field d l i e =
       let a = getD (t .arcs) k d in
       let v = All-at (WellFormedArc (t .tapes) (length (t .states))) (t .arcs) d k (w .arcs) (rw (h .arcs) at l) in
-      arc-field d l (labelsPlace + i * labelSize) 9 (omega (arith, w .counts .tapesFit))
+      arc-field d l (labelsPlace + i * labelSize) labelSize (omega (arith, w .counts .tapesFit))
       ∙ ap (take labelSize) (sym (drop-drop (i * labelSize) labelsPlace (arcRecord (t .tapes) (length (t .states)) .write a)))
       ∙ record-at (labelRecord .write) labelSize [] i (a .labels) (zeros ((maxTapes - t .tapes) * labelSize)) (all-sized labelRecord-lawful (a .labels) (v .labels)) (omega (arith, v .width))

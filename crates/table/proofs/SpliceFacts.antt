@@ -177,3 +177,21 @@ module _ {A : Type 0} where
   pub splice-front : (ys xs : List A) → splice 0 ys xs ≡ ys ++ drop (length ys) xs
   unfolding splice
   splice-front ys xs = rw zero-add
+
+  -- a part of a region written: the region with that part written
+  pub splice-within : (a k : ℕ) (ys zs xs : List A) → k + length ys ≤ length zs → a + length zs ≤ length xs → splice (a + k) ys (splice a zs xs) ≡ splice a (splice k ys zs) xs
+  unfolding splice
+  splice-within a k ys zs xs h l =
+      let n = k + length ys in
+      let rest = drop (a + length zs) xs in
+      let la : length (take a xs) ≡ a = length-take a xs ∙ omega arith in
+      let p : take (a + k) (splice a zs xs) ≡ take a xs ++ take k zs = take-splice-in a k zs xs (omega arith) (omega arith) in
+      let e : a + k + length ys ≡ length (take a xs) + n = omega (arith, la) in
+      let d : drop (a + k + length ys) (splice a zs xs) ≡ drop n zs ++ rest =
+      ap (λ (i : ℕ). drop i (splice a zs xs)) e ∙ drop-append-add (take a xs) (zs ++ rest) n ∙ drop-append-le n zs rest h in
+      let m : length (splice k ys zs) ≡ length zs = length-splice k ys zs h in
+      ap₂ (λ (f g : List A). f ++ (ys ++ g)) p d
+      ∙ append-assoc (take a xs) (take k zs) (ys ++ (drop n zs ++ rest))
+      ∙ ap (λ (u : List A). take a xs ++ (take k zs ++ u)) (sym (append-assoc ys (drop n zs) rest))
+      ∙ ap (λ (u : List A). take a xs ++ u) (sym (append-assoc (take k zs) (ys ++ drop n zs) rest))
+      ∙ ap (λ (i : ℕ). take a xs ++ (splice k ys zs ++ drop (a + i) xs)) (sym m)

@@ -1,10 +1,10 @@
 -- A table whose tapes are chosen: its records are those of the table, each with the labels of the chosen tapes.
 use Prim.Native.Nat.{ℕ, _+_, _-_, _*_, _≤_, min}
 use mathlib.Core.Path.{_≡_, refl, sym, ap, ap₂, subst, _∙_}
-use mathlib.Core.List.{List, [], _∷_, _++_, map}
+use mathlib.Core.List.{List, [], _∷_, _++_, append-nil, map}
 use native.Mathlib.Omega.{arith}
 use lib.ListN.{length, getD, take, drop, length-append, length-take, length-replicate, length-map, replicate-append-replicate, take-append-drop}
-use lib.Seq.{take-all, drop-at}
+use lib.Seq.{take-all, drop-at, drop-length}
 use Rattle.automata.specs.Lists.{All}
 use Rattle.automata.specs.Records.{chunks, writeAll}
 use Rattle.automata.specs.Automaton.{Arc, Automaton}
@@ -60,9 +60,10 @@ module _ (tapes states : ℕ) (js : List ℕ) (few : tapes ≤ 8) (short : lengt
   -- the record of an arc
   arc-rewritten : (a : Arc ℕ) → WellFormedArc tapes states a
       → chosenArc js (arcRecord tapes states .write a) ≡ arcRecord (length js) states .write (relabelledArc (chosen js) a)
-  unfolding chosenArc part
+  unfolding chosenArc part splice
   arc-rewritten a w =
       let ls = a .labels in
+      let r = arcRecord tapes states .write a in
       let x = writeAll (labelRecord .write) ls ++ zeros ((8 - tapes) * labelSize) in
       let y = writeAll (labelRecord .write) (chosen js ls) in
       let m : Named (length ls) js = subst (λ (n : ℕ). Named n js) (sym (w .width)) named in
@@ -71,9 +72,13 @@ module _ (tapes states : ℕ) (js : List ℕ) (few : tapes ≤ 8) (short : lengt
       let n : length y ≡ length js * labelSize = length-many labelRecord-lawful (chosen js ls) (chosen-labels ls js (w .labels) m) ∙ ap (λ (k : ℕ). k * labelSize) (length-map js (λ j. getD ls (j - 1) [])) in
       let t : take labelsSize x ≡ x = take-all labelsSize x (omega (arith, l, w .width, few)) in
       let z : drop (length y) (zeros labelsSize) ≡ zeros ((8 - length js) * labelSize) = zeros-behind (length y) ((8 - length js) * labelSize) (omega (arith, n, short)) in
-      ap (λ (u : List ℕ). take labelsPlace (arcRecord tapes states .write a) ++ u)
-      (ap (λ (u : List ℕ). splice 0 (chosenLabels js u) (zeros labelsSize)) t ∙ ap (λ (u : List ℕ). splice 0 u (zeros labelsSize)) (labels-chosen ls (zeros ((8 - tapes) * labelSize)) js (w .labels) m)
-      ∙ splice-front y (zeros labelsSize) ∙ ap (λ (u : List ℕ). y ++ u) z)
+      let u = splice 0 (chosenLabels js (take labelsSize x)) (zeros labelsSize) in
+      let v : u ≡ y ++ zeros ((8 - length js) * labelSize) =
+      ap (λ (k : List ℕ). splice 0 (chosenLabels js k) (zeros labelsSize)) t ∙ ap (λ (k : List ℕ). splice 0 k (zeros labelsSize)) (labels-chosen ls (zeros ((8 - tapes) * labelSize)) js (w .labels) m)
+      ∙ splice-front y (zeros labelsSize) ∙ ap (λ (k : List ℕ). y ++ k) z in
+      let lu : length u ≡ length x = ap length v ∙ length-append y (zeros ((8 - length js) * labelSize)) ∙ rw (n, length-replicate) (omega (arith, l, w .width, few, short)) in
+      let e : drop (labelsPlace + length u) r ≡ [] = ap (λ (k : ℕ). drop (labelsPlace + k) r) lu ∙ ap (λ (k : ℕ). drop k r) (sym (length-append (take labelsPlace r) x)) ∙ drop-length r in
+      ap (λ (k : List ℕ). take labelsPlace r ++ (u ++ k)) e ∙ ap (λ (k : List ℕ). take labelsPlace r ++ k) (append-nil u ∙ v)
 
   -- the records of arcs
   arcs-rewritten : (xs : List (Arc ℕ)) → All (WellFormedArc tapes states) xs

@@ -2,7 +2,6 @@
 use Prim.Native.Nat.{ℕ, zero, suc, _+_, _-_, _*_, _≤_, _<_}
 use mathlib.Core.Path.{_≡_, refl, sym, ap, ap₂, _∙_}
 use mathlib.Core.List.{List, [], _∷_, _++_}
-use native.Mathlib.Nat.{add-zero}
 use native.Mathlib.Omega.{arith}
 use lib.ListN.{length, getD, take, drop, length-append, length-take, length-drop}
 use lib.Seq.{drop-drop}
@@ -10,7 +9,7 @@ use Rattle.automata.specs.Memory.{zeros}
 use Rattle.automata.specs.Layout.{arcSize, labelSize, labelsPlace, labelsSize}
 use Rattle.table.specs.Arcs.{firstLabel}
 use Rattle.table.specs.Region.{part, splice}
-use Rattle.table.proofs.RegionFacts.{length-part, part-suc, part-part, length-splice, drop-splice, splice-none, splice-append, splice-self}
+use Rattle.table.proofs.RegionFacts.{length-part, part-suc, part-part, length-splice, drop-splice, splice-none, splice-append, splice-self, splice-within}
 use Rattle.tapes_records.specs.Rewritten.{rewritten, chosenLabels, chosenArc}
 
 -- ---- records in a loop
@@ -107,22 +106,20 @@ unfolding chosenArc
 arc-chosen js arcs labels arcs2 at h few e f =
     let b = length-labels js (part (firstLabel at) labelsSize arcs) in
     let n : length labels ≡ labelsSize = ap length e ∙ length-splice 0 (chosenLabels js (part (firstLabel at) labelsSize arcs)) (zeros labelsSize) (omega arith) in
-    let head = part at labelsPlace arcs in
-    let l : length head ≡ labelsPlace = length-part at labelsPlace arcs (omega arith) in
-    let p : part 0 labelsPlace (part at arcSize arcs) ≡ head = part-part 0 labelsPlace at arcSize arcs (omega arith) ∙ ap (λ (k : ℕ). part k labelsPlace arcs) (add-zero at) in
-    let q : part labelsPlace labelsSize (part at arcSize arcs) ≡ part (firstLabel at) labelsSize arcs = part-part labelsPlace labelsSize at arcSize arcs (omega arith) in
-    f ∙ ap₂ (λ (k : ℕ) (x : List ℕ). splice (at + k) labels x) (sym l) (sym (splice-self at labelsPlace arcs (omega arith)))
-    ∙ splice-append at head labels arcs (omega arith)
-    ∙ ap₂ (λ (x y : List ℕ). splice at (x ++ y) arcs) (sym p) (e ∙ ap (λ (x : List ℕ). splice 0 (chosenLabels js x) (zeros labelsSize)) (sym q))
+    let arc = part at arcSize arcs in
+    let l : length arc ≡ arcSize = length-part at arcSize arcs h in
+    let q : part labelsPlace labelsSize arc ≡ part (firstLabel at) labelsSize arcs = part-part labelsPlace labelsSize at arcSize arcs (omega arith) in
+    f ∙ ap (splice (firstLabel at) labels) (sym (splice-self at arcSize arcs h)) ∙ splice-within at labelsPlace labels arc arcs (omega (arith, n, l)) (omega (arith, l))
+    ∙ ap (λ (x : List ℕ). splice at (splice labelsPlace x arc) arcs) (e ∙ ap (λ (x : List ℕ). splice 0 (chosenLabels js x) (zeros labelsSize)) (sym q))
 
 -- it is as long as it was
 pub length-chosenArc : (js arc : List ℕ) → length js ≤ 8 → length arc ≡ arcSize → length (chosenArc js arc) ≡ arcSize
 unfolding chosenArc
 length-chosenArc js arc few h =
     let b = length-labels js (part labelsPlace labelsSize arc) in
-    let l : length (part 0 labelsPlace arc) ≡ labelsPlace = length-part 0 labelsPlace arc (omega arith) in
-    let s : length (splice 0 (chosenLabels js (part labelsPlace labelsSize arc)) (zeros labelsSize)) ≡ labelsSize = length-splice 0 (chosenLabels js (part labelsPlace labelsSize arc)) (zeros labelsSize) (omega arith) in
-    length-append (part 0 labelsPlace arc) (splice 0 (chosenLabels js (part labelsPlace labelsSize arc)) (zeros labelsSize)) ∙ omega (arith, l, s)
+    let labels = splice 0 (chosenLabels js (part labelsPlace labelsSize arc)) (zeros labelsSize) in
+    let n : length labels ≡ labelsSize = length-splice 0 (chosenLabels js (part labelsPlace labelsSize arc)) (zeros labelsSize) (omega arith) in
+    length-splice labelsPlace labels arc (omega (arith, n, h)) ∙ h
 
 -- the first tapes of a list are as few as they are
 pub chosen-few : (tapes : List ℕ) (used : ℕ) → used ≤ 8 → length (take used tapes) ≤ 8

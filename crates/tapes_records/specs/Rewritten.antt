@@ -18,7 +18,7 @@ chosenLabels js labels = writeAll (λ j. part (labelSize * (j - 1)) labelSize la
 
 -- an arc's record with these labels, and zeros behind them
 unfoldable pub chosenArc : List ℕ → List ℕ → List ℕ
-chosenArc js arc = part 0 labelsPlace arc ++ splice 0 (chosenLabels js (part labelsPlace labelsSize arc)) (zeros labelsSize)
+chosenArc js arc = splice labelsPlace (splice 0 (chosenLabels js (part labelsPlace labelsSize arc)) (zeros labelsSize)) arc
 
 -- an arc's record whose states have numbers higher by k
 unfoldable pub raisedArc : ℕ → List ℕ → List ℕ

@@ -24,8 +24,8 @@ use Rattle.text.specs.declared.WriteAnswer.{WriteAnswer}
 use Rattle.text.specs.Answers.{writtenAs, refusedBy, writtenOf}
 
 -- the length of n states and m arcs, of t tapes, in range
-pub text-fits : (t n m : ℕ) → t ≤ 8 → n ≤ 1024 → m ≤ 8192 → m * (arcWidth + t * labelWidth) ≤ 778240
-text-fits t n m ht hn hm = mul-le-mul hm (let k : arcWidth + t * labelWidth ≤ 95 = omega arith in k)
+pub text-fits : (t n m : ℕ) → t ≤ 8 → n ≤ 1024 → m ≤ 8192 → m * (arcWidth + t * labelWidth) ≤ 8192 * (arcWidth + 8 * labelWidth)
+text-fits t n m ht hn hm = mul-le-mul hm (let k : arcWidth + t * labelWidth ≤ arcWidth + 8 * labelWidth = omega arith in k)
 
 refused-same : {A : Type 0} (r : Answer A) (k : ℕ) → forget r ≡ refused k → r ≡ refused k
 refused-same (ok a) k e = absurd (refused≢ok (sym e))

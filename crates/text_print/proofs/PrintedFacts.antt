@@ -12,7 +12,7 @@ use lib.Seq.{take-all, take-take, length-take-le}
 use borrow.Author.Tests.{eq-eqb, ne-eqb}
 use Rattle.automata.specs.Lists.{if}
 use Rattle.automata.specs.TableText.{absent, blanks, labelColumns, weightColumns, headerLine}
-use Rattle.automata.specs.Layout.{arcSize, stateSize, amountWidth, arcWidth, headerEnd, headerWidth, labelSize, labelsPlace, labelWidth, labelsColumn, labelsSize, newline, numberWidth, stateEnd, stateWidth, tapesWidth, weightColumn, weightSize}
+use Rattle.automata.specs.Layout.{arcSize, stateSize, amountWidth, arcWidth, headerEnd, headerWidth, labelSize, labelsPlace, labelWidth, labelsColumn, labelsSize, newline, numberWidth, stateEnd, stateWidth, tapesWidth, weightColumn, weightSize, arcsColumn}
 use Rattle.table.specs.Arcs.{sourceAt, targetAt, arcWeightAt}
 use Rattle.table.specs.Region.{part, splice}
 use Rattle.table.specs.Endian.{le}
@@ -89,7 +89,7 @@ take-min zero y = ap (λ (k : ℕ). take k y) (zero-min (length y))
 take-min (suc b) [] = ap (λ (k : ℕ). take {A = ℕ} k []) (min-zero (suc b))
 take-min (suc b) (c ∷ y) = ap (λ (k : ℕ). take k (c ∷ y)) (suc-min-suc b (length y)) ∙ ap (λ (l : List ℕ). c ∷ l) (take-min b y)
 
-module _ (x : List ℕ) (h : length x ≡ labelWidth) where
+module _ (x : List ℕ) (h : length x ≡ labelSize) where
   symbols-eight : length (drop 1 x) ≡ 8
   symbols-eight = length-drop 1 x ∙ omega arith
 
@@ -177,7 +177,7 @@ length-header c =
     three-fields (decimalText tapesWidth (c .tapes)) (decimalText numberWidth (c .states)) (decimalText numberWidth (c .arcs)) (length-decimal tapesWidth (c .tapes)) (length-decimal numberWidth (c .states)) (length-decimal numberWidth (c .arcs))
 
 pub header-printed : (c : Counts) (xs us vs ws : List ℕ) → headerWidth ≤ length xs → us ≡ splice 0 (decimalText tapesWidth (c .tapes)) xs → vs ≡ splice 3 (decimalText numberWidth (c .states)) us
-    → ws ≡ splice labelWidth (decimalText numberWidth (c .arcs)) vs → set ws headerEnd newline ≡ splice 0 (headerOf c) xs
+    → ws ≡ splice arcsColumn (decimalText numberWidth (c .arcs)) vs → set ws headerEnd newline ≡ splice 0 (headerOf c) xs
 unfolding headerOf decimalText
 header-printed c xs us vs ws h e f g =
     let a = decimalText tapesWidth (c .tapes) in
@@ -186,9 +186,9 @@ header-printed c xs us vs ws h e f g =
     let la = length-decimal tapesWidth (c .tapes) in
     let lb = length-decimal numberWidth (c .states) in
     let ld = length-decimal numberWidth (c .arcs) in
-    let l : length (a ++ b) ≡ labelWidth = length-append a b ∙ omega arith in
+    let l : length (a ++ b) ≡ arcsColumn = length-append a b ∙ omega arith in
     let m : length ((a ++ b) ++ d) ≡ headerEnd = length-append (a ++ b) d ∙ omega arith in
     let p = splice-behind 0 3 a b xs us vs e f (omega arith) (omega arith) in
-    let q = splice-behind 0 labelWidth (a ++ b) d xs vs ws p g (omega arith) (omega arith) in
+    let q = splice-behind 0 arcsColumn (a ++ b) d xs vs ws p g (omega arith) (omega arith) in
     snoc-behind 0 headerEnd ((a ++ b) ++ d) xs ws newline q (omega arith) (omega arith)
     ∙ ap (λ (z : List ℕ). splice 0 (z ++ (newline ∷ [])) xs) (append-assoc a b d)

@@ -8,7 +8,7 @@ use lib.ListN.{length, take, drop, set, replicate, length-append, length-drop, l
 use lib.Seq.{drop-drop, drop-append-le, take-append-add, take-all, length-take-le}
 use Rattle.automata.specs.Memory.{weightRecord, stateRecord, labelRecord, zeros}
 use Rattle.automata.specs.TableText.{afterBlanks}
-use Rattle.automata.specs.Layout.{arcSize, stateSize, amountWidth, arcWidth, labelWidth, contentPlace, labelsColumn, labelsSize, numberWidth, stateEnd, stateWidth, weightColumn}
+use Rattle.automata.specs.Layout.{arcSize, stateSize, amountWidth, arcWidth, labelWidth, contentPlace, labelsColumn, labelsSize, numberWidth, stateEnd, stateWidth, weightColumn, labelSize}
 use Rattle.table.specs.Arcs.{firstLabel}
 use Rattle.table.specs.Region.{splice}
 use Rattle.table.specs.Endian.{toLe}
@@ -85,7 +85,7 @@ module _ (x : List ℕ) (h : length x ≡ labelWidth) (b : ℕ) (e : b ≡ blank
       rw (n, t) (ap (λ (i : ℕ). take i (l ++ zeros 8)) q ∙ take-append-add l (zeros 8) b ∙ ap (λ (w : List ℕ). l ++ w) (take-replicate b 8 0 k ∙ ap zeros (sym o))
       ∙ ap (λ (w : List ℕ). w ++ zeros (8 - length w)) d)
 
-  pub label-stored : (at : ℕ) (xs z ws : List ℕ) → at + labelWidth ≤ length xs → z ≡ splice 0 (take 8 (drop 1 x)) (replicate 16 0)
+  pub label-stored : (at : ℕ) (xs z ws : List ℕ) → at + labelSize ≤ length xs → z ≡ splice 0 (take 8 (drop 1 x)) (replicate 16 0)
       → ws ≡ splice (at + 1) (take (b + 8 - b) (drop b z)) (set xs at (8 - b)) → ws ≡ splice at (labelOfColumns x) xs
   unfolding labelOfColumns
   label-stored at xs z ws h f e =
@@ -123,7 +123,7 @@ splice-over a ys zs xs h k =
     ∙ splice-append a ys d xs (omega arith)
 
 -- the size of a label's record
-pub label-sized : (x : List ℕ) → length x ≡ labelWidth → length (labelOfColumns x) ≡ labelWidth
+pub label-sized : (x : List ℕ) → length x ≡ labelWidth → length (labelOfColumns x) ≡ labelSize
 unfolding labelOfColumns
 label-sized x e =
     let l = afterBlanks (drop 1 x) in
@@ -132,16 +132,16 @@ label-sized x e =
     ap length (label-bytes l) ∙ ap suc (length-append l (zeros (8 - length l)) ∙ rw length-replicate (omega arith))
 
 -- the bytes of the labels, and zeros for the tapes that are not there
-labels-over : (at tapes : ℕ) (r us vs ws : List ℕ) → length r ≡ tapes * labelWidth → tapes ≤ 8 → at + labelsSize ≤ length us → vs ≡ splice at noLabels us → ws ≡ splice at r vs
-    → ws ≡ splice at (r ++ zeros ((8 - tapes) * labelWidth)) us
+labels-over : (at tapes : ℕ) (r us vs ws : List ℕ) → length r ≡ tapes * labelSize → tapes ≤ 8 → at + labelsSize ≤ length us → vs ≡ splice at noLabels us → ws ≡ splice at r vs
+    → ws ≡ splice at (r ++ zeros ((8 - tapes) * labelSize)) us
 unfolding noLabels
 labels-over at tapes r us vs ws l h k e f =
-    let m : labelsSize - length r ≡ (8 - tapes) * labelWidth = omega arith in
+    let m : labelsSize - length r ≡ (8 - tapes) * labelSize = omega arith in
     f ∙ rw e (splice-over at r (zeros labelsSize) us (omega arith) (omega arith) ∙ ap (λ (z : List ℕ). splice at (r ++ z) us) (drop-replicate (length r) labelsSize 0 ∙ ap zeros m))
 
 module _ (tapes : ℕ) (x : List ℕ) (h : length x ≡ arcWidth + tapes * labelWidth) where
-  labels-length : length (recoded labelOfColumns labelWidth tapes (drop labelsColumn x)) ≡ tapes * labelWidth
-  labels-length = length-recoded labelOfColumns labelWidth labelWidth label-sized tapes (drop labelsColumn x) (rw (length-drop labelsColumn x) (omega arith))
+  labels-length : length (recoded labelOfColumns labelWidth tapes (drop labelsColumn x)) ≡ tapes * labelSize
+  labels-length = length-recoded labelOfColumns labelWidth labelSize label-sized tapes (drop labelsColumn x) (rw (length-drop labelsColumn x) (omega arith))
 
   -- the numbers, then the labels from a place on, which is that of the first label
   pub arc-stored : (at place : ℕ) (xs us vs ws : List ℕ) → place ≡ firstLabel at → tapes ≤ 8 → at + arcSize ≤ length xs → us ≡ splice at (numberBytes x) xs
@@ -154,13 +154,13 @@ module _ (tapes : ℕ) (x : List ℕ) (h : length x ≡ arcWidth + tapes * label
       let r = recoded labelOfColumns labelWidth tapes (drop labelsColumn x) in
       let u : length us ≡ length xs = ap length e ∙ length-splice at (numberBytes x) xs (omega arith) in
       let d : take (length x - labelsColumn) (drop labelsColumn x) ≡ drop labelsColumn x = take-all (length x - labelsColumn) (drop labelsColumn x) (rw (length-drop labelsColumn x) (omega arith)) in
-      let w : ws ≡ splice (firstLabel at) (r ++ zeros ((8 - tapes) * labelWidth)) us = labels-over (firstLabel at) tapes r us vs ws labels-length t (omega arith) p (q ∙ ap (λ (z : List ℕ). splice (firstLabel at) (recoded labelOfColumns labelWidth tapes z) vs) d) in
-      let m : length (r ++ zeros ((8 - tapes) * labelWidth)) ≡ labelsSize = length-append r (zeros ((8 - tapes) * labelWidth)) ∙ rw (labels-length, length-replicate) (omega arith) in
-      splice-behind at (firstLabel at) (numberBytes x) (r ++ zeros ((8 - tapes) * labelWidth)) xs us ws e w refl (omega arith)
+      let w : ws ≡ splice (firstLabel at) (r ++ zeros ((8 - tapes) * labelSize)) us = labels-over (firstLabel at) tapes r us vs ws labels-length t (omega arith) p (q ∙ ap (λ (z : List ℕ). splice (firstLabel at) (recoded labelOfColumns labelWidth tapes z) vs) d) in
+      let m : length (r ++ zeros ((8 - tapes) * labelSize)) ≡ labelsSize = length-append r (zeros ((8 - tapes) * labelSize)) ∙ rw (labels-length, length-replicate) (omega arith) in
+      splice-behind at (firstLabel at) (numberBytes x) (r ++ zeros ((8 - tapes) * labelSize)) xs us ws e w refl (omega arith)
 
   -- the size of an arc's record
   pub arc-sized : tapes ≤ 8 → length (arcOfLine tapes x) ≡ arcSize
   unfolding arcOfLine numberBytes
   arc-sized t =
       let r = recoded labelOfColumns labelWidth tapes (drop labelsColumn x) in
-      length-append (numberBytes x) (r ++ zeros ((8 - tapes) * labelWidth)) ∙ rw (length-append r (zeros ((8 - tapes) * labelWidth)), labels-length, length-replicate) (omega arith)
+      length-append (numberBytes x) (r ++ zeros ((8 - tapes) * labelSize)) ∙ rw (length-append r (zeros ((8 - tapes) * labelSize)), labels-length, length-replicate) (omega arith)

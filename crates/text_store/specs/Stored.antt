@@ -4,7 +4,7 @@ use Prim.Native.Nat.{ℕ, _-_, _*_, _%_}
 use lib.ListN.{take, drop}
 use Rattle.automata.specs.Memory.{stateRecord, labelRecord, zeros}
 use Rattle.automata.specs.TableText.{afterBlanks}
-use Rattle.automata.specs.Layout.{amountWidth, labelWidth, labelsColumn, labelsSize, numberWidth, weightColumn}
+use Rattle.automata.specs.Layout.{amountWidth, labelWidth, labelsColumn, labelsSize, numberWidth, weightColumn, labelSize}
 use Rattle.table.specs.Endian.{toLe}
 use Rattle.text_columns.specs.Columns.{columnsValue, columnsWeight}
 use Rattle.text_store.specs.Recode.{recoded}
@@ -29,4 +29,4 @@ noLabels = zeros labelsSize
 
 -- the record of the arc in a line, of a table with so many tapes
 unfoldable pub arcOfLine : ℕ → List ℕ → List ℕ
-arcOfLine tapes x = numberBytes x ++ (recoded labelOfColumns labelWidth tapes (drop labelsColumn x) ++ zeros ((8 - tapes) * labelWidth))
+arcOfLine tapes x = numberBytes x ++ (recoded labelOfColumns labelWidth tapes (drop labelsColumn x) ++ zeros ((8 - tapes) * labelSize))

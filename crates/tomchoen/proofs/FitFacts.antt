@@ -5,6 +5,7 @@ use Prim.Native.Nat.{ℕ, _+_, _*_, _≤_, _<_}
 use native.Mathlib.Omega.{arith}
 use native.Mathlib.Nat.{mul-le-mul}
 use lib.ListN.{length}
+use Rattle.automata.specs.Layout.{arcWidth, labelWidth}
 use Rattle.automata.specs.Answer.{Answer, ok, refused}
 use Rattle.automata.specs.Automaton.{Automaton}
 use Rattle.automata.specs.Table.{WellFormed}
@@ -88,7 +89,7 @@ text-short A wf =
     let b = mul-le-mul (c .arcsFit) (width (c .tapesFit)) in
     omega (arith, l, b, c .statesFit)
   where
-    width : A .tapes ≤ 8 → 23 + A .tapes * 9 ≤ 95
+    width : A .tapes ≤ 8 → arcWidth + A .tapes * labelWidth ≤ arcWidth + 8 * labelWidth
     width h = omega arith
 
 print-fits : (r : Answer (List ℕ)) (output : List ℕ) → ((x : List ℕ) → r ≡ ok x → length x < 4294967296) → BytesFit (print r output .answer)

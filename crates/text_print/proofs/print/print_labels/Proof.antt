@@ -17,7 +17,7 @@ use Rattle.text_print.proofs.print.print_label.Reads as print-label-rea
 use Rattle.automata.specs.Layout.{labelSize, labelWidth}
 
 abbrev Inv-loop : tie.InvT-loop
-Inv-loop records tapes out₀ start left₀ at₀ to₀ out left at to = (at + left * labelWidth ≤ length records) × (to + left * labelWidth ≤ length out) × (length out ≡ length out₀)
+Inv-loop records tapes out₀ start left₀ at₀ to₀ out left at to = (at + left * labelSize ≤ length records) × (to + left * labelWidth ≤ length out) × (length out ≡ length out₀)
     × (splice to (recoded columnsOfLabel labelSize left (drop at records)) out ≡ splice start (recoded columnsOfLabel labelSize tapes records) out₀)
 
 abbrev μ-loop : tie.MeasureT-loop

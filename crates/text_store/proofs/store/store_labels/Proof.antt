@@ -14,10 +14,10 @@ use Rattle.text_store.proofs.store.store_labels.Tie as tie
 use Rattle.text_store.proofs.store.store_labels.Reads as reads
 use Rattle.text_store.proofs.store.store_labels.Lts as lts
 use Rattle.text_store.proofs.store.store_label.Reads as store-label-reads
-use Rattle.automata.specs.Layout.{labelWidth}
+use Rattle.automata.specs.Layout.{labelWidth, labelSize}
 
 abbrev Inv-loop : tie.InvT-loop
-Inv-loop labels tapes arcs₀ start left₀ at₀ to₀ arcs left at to = (at + left * labelWidth ≤ length labels) × (to + left * labelWidth ≤ length arcs) × (length arcs ≡ length arcs₀)
+Inv-loop labels tapes arcs₀ start left₀ at₀ to₀ arcs left at to = (at + left * labelWidth ≤ length labels) × (to + left * labelSize ≤ length arcs) × (length arcs ≡ length arcs₀)
     × (splice to (recoded labelOfColumns labelWidth left (drop at labels)) arcs ≡ splice start (recoded labelOfColumns labelWidth tapes labels) arcs₀)
 
 abbrev μ-loop : tie.MeasureT-loop
@@ -59,7 +59,7 @@ loop-again c = let l = c .before .before .before .before .before .before .loop i
       omega arith,
       omega (arith, k),
       k ∙ l .inv .2,
-      recode-turn labelOfColumns labelWidth labelWidth label-sized _ _ _ (l .at) (l .to) (l .left) (c .before .before .before .before .before .loop-test .taken) (l .inv .0) (l .inv .1) (c .before .before .store-label .ensures) ∙ l .inv .3,
+      recode-turn labelOfColumns labelWidth labelSize label-sized _ _ _ (l .at) (l .to) (l .left) (c .before .before .before .before .before .loop-test .taken) (l .inv .0) (l .inv .1) (c .before .before .store-label .ensures) ∙ l .inv .3,
     )
 
 same-length : tie.Need-same-length Inv-loop μ-loop
