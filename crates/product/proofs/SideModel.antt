@@ -119,14 +119,13 @@ module _ (m : Memory) (s : Sound m) where
     unfolding part
     labels-model =
         let x = writeAll (labelRecord .write) (a .labels) in
-        let z = zeros ((8 - m .tapes) * labelSize) in
         let t : labelsPlace + labelSize * m .tapes ≤ arcSize = omega (arith, few-tapes m s) in
         let l : length x ≡ labelSize * m .tapes = length-many labelRecord-lawful (a .labels) (formed .labels) ∙ (omega (arith, formed .width, sound-holds m s .tapes)) in
         let d : getD (A .arcs) i a ≡ a = place-default (A .arcs) i a at in
         sym (part-part labelsPlace (labelSize * m .tapes) (arcSize * i) arcSize (m .arcBytes) t)
         ∙ ap (part labelsPlace (labelSize * m .tapes)) (arc-bytes m s i there a)
         ∙ ap (λ (b : Arc ℕ). part labelsPlace (labelSize * m .tapes) (arcRecord (m .tapes) (m .states) .write b)) d
-        ∙ take-at x z (labelSize * m .tapes) l
+        ∙ take-at x _ (labelSize * m .tapes) l
 
     -- the side follows the arc
     pub side-follows : (x : Option ℕ) → PlaceBelow (length (A .states)) x → SideOf m i (placeNumber x) (a .weight) (a .labels)

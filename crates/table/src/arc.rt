@@ -58,7 +58,7 @@ pub fn label_place(at: usize, tape: usize) -> usize
     requires { ⌜ (at < 18446744073709551000) × (tape < maxTapes) ⌝ }
     ensures { λ r. ⌜ r ≡ labelPlace at tape ⌝ }
 {
-    at + LABELS_PLACE + LABEL_SIZE * tape
+    first_label(at) + LABEL_SIZE * tape
 }
 
 // How many symbols the arc has on a tape.
@@ -66,7 +66,7 @@ pub fn label_length_at(arcs: &[u8], at: usize, tape: usize) -> u8
     requires { ⌜ (at + arcSize ≤ length (now arcs)) × (tape < maxTapes) ⌝ }
     ensures { λ r. ⌜ r ≡ getD (now (arcs .entry)) (labelPlace at tape) 0 ⌝ }
 {
-    arcs[at + LABELS_PLACE + LABEL_SIZE * tape]
+    arcs[label_place(at, tape)]
 }
 
 // The states of an arc that is made, written at its place.

@@ -22,7 +22,7 @@ use Rattle.text_columns.specs.Columns.{decimalText}
 use Rattle.text_columns.proofs.WriteFacts.{length-decimal}
 use Rattle.text_store.specs.Recode.{recoded}
 use Rattle.text_print.specs.Printed.{weightOfRecord, lineOfState, columnsOfLabel, numbersOfRecord, lineOfArc, headerOf}
-use Rattle.text_store.proofs.RecodeFacts.{length-recoded}
+use Rattle.text_store.proofs.RecodeFacts.{length-recoded, recoded-take}
 use Rattle.text_store.proofs.StoredFacts.{take-replicate}
 
 -- ---- a weight
@@ -161,8 +161,10 @@ module _ (tapes : ℕ) (x : List ℕ) (h : length x ≡ arcSize) (k : tapes ≤ 
       let r = recoded columnsOfLabel labelSize tapes (drop labelsPlace x) in
       let n = numbers-length x in
       let m = labels-length in
-      let d : take labelsSize (drop labelsPlace x) ≡ drop labelsPlace x = take-all labelsSize (drop labelsPlace x) (rw (length-drop labelsPlace x) (omega arith)) in
-      let g : vs ≡ splice (at + labelsColumn) r us = f ∙ ap (λ (z : List ℕ). splice (at + labelsColumn) (recoded columnsOfLabel labelSize tapes z) us) d in
+      let y = drop labelsPlace x in
+      let d : recoded columnsOfLabel labelSize tapes (take labelsSize y) ≡ r =
+      sym (recoded-take columnsOfLabel labelSize tapes (take labelsSize y)) ∙ ap (recoded columnsOfLabel labelSize tapes) (take-take (tapes * labelSize) labelsSize y (omega arith)) ∙ recoded-take columnsOfLabel labelSize tapes y in
+      let g : vs ≡ splice (at + labelsColumn) r us = f ∙ ap (λ (z : List ℕ). splice (at + labelsColumn) z us) d in
       let w = splice-behind at (at + labelsColumn) (numbersOfRecord x) r xs us vs e g (omega arith) (omega arith) in
       snoc-behind at (at + (labelsColumn + tapes * labelWidth)) (numbersOfRecord x ++ r) xs vs newline w (omega (arith, before-end)) (omega (arith, before-end))
 

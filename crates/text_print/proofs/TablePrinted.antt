@@ -90,7 +90,7 @@ module _ (t n : ℕ) (few : n ≤ 1024) (a : Arc ℕ) (v : WellFormedArc t n a) 
       let dt = decimalText numberWidth (a .target) in
       let dw = decimalText amountWidth (a .weight) in
       let ls = writeAll (labelColumns .write) (a .labels) in
-      ap₂ (λ (x y : List ℕ). (x ++ y) ++ (newline ∷ [])) numbers-written (labels-written (zeros ((8 - t) * labelWidth)))
+      ap₂ (λ (x y : List ℕ). (x ++ y) ++ (newline ∷ [])) numbers-written (labels-written _)
       ∙ ap (λ (x : List ℕ). x ++ (newline ∷ [])) (append-assoc ds (dt ++ dw) ls ∙ ap (λ (x : List ℕ). ds ++ x) (append-assoc dt dw ls))
 
 arc-each : (t n : ℕ) → n ≤ 1024 → (y : List ℕ) (a : Arc ℕ) → length y ≡ arcRecord t n .width → arcRecord t n .read y ≡ ok a → lineOfArc t y ≡ arcLine t n .write a
