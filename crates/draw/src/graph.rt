@@ -6,7 +6,7 @@ use table::answer::Refusal;
 use table::answer::TableAnswer;
 use table::answer::refusal_number;
 use table::arc::arc_weight_at;
-use table::arc::first_label;
+use table::arc::labels_start;
 use table::arc::source_at;
 use table::arc::target_at;
 use table::bytes::get32;
@@ -126,7 +126,7 @@ fn put_arc(arcs: &[u8], at: usize, tapes: usize) {
     put(b" -> ");
     put_number(target_at(arcs, at).0 as u64);
     put(b" [label=\"");
-    put_labels(arcs, first_label(at), tapes);
+    put_labels(arcs, labels_start(at), tapes);
     put(b" / ");
     put_number(arc_weight_at(arcs, at) as u64);
     put(b"\"];\n");

@@ -26,7 +26,7 @@ use Rattle.table.specs.declared.record.Label.{Label}
 use Rattle.lookup_moves.specs.declared.spot.Spot.{Spot}
 use Rattle.lookup_moves.specs.Moves.{Laid, Labelled, Spotted}
 use Rattle.lookup_moves.specs.Distances.{cellsOf, lowered}
-use Rattle.table.specs.Arcs.{sourceOf, targetOf, arcWeight, firstLabel}
+use Rattle.table.specs.Arcs.{sourceOf, targetOf, arcWeight, labelsStart}
 use Rattle.lookup_cells.specs.Pushes.{backBy, cellAt, cellBack, passed, pushed, Pushed, start, more, Still, Passable, Ready, Settles}
 use Rattle.lookup_cells.proofs.DistanceFacts.{val, Distances}
 use Rattle.lookup_cells.proofs.MoveMeaning.{shift, place-moved, labelled, Before, moves-sound, moves-complete}
@@ -73,21 +73,21 @@ module _ (c : Counts) (states arcs text : List ℕ) (sound : Sound (lent c state
     arc-at : getElem? (table .arcs) e ≡ some arc
     arc-at = arc-loaded (lent c states arcs) sound e lt
 
-    arc-labelled : Labelled arcs (firstLabel (arcSize * e))
+    arc-labelled : Labelled arcs (labelsStart (arcSize * e))
     unfolding arcAt contentAt
     arc-labelled = record {
       lent = omega (arith, arcs-lent (lent c states arcs) sound);
-      short = labels-short 8 (firstLabel (arcSize * e)) arcs
+      short = labels-short 8 (labelsStart (arcSize * e)) arcs
           (subst (λ (k : ℕ). All Padded (labelsAt 8 k arcs)) (add-assoc (arcSize * e) 4 4) (arc-canonical (lent c states arcs) sound e lt .padded));
     }
 
-    pub arc-labels : labelled (c .tapes) (firstLabel (arcSize * e)) arcs ≡ arc .labels
+    pub arc-labels : labelled (c .tapes) (labelsStart (arcSize * e)) arcs ≡ arc .labels
     unfolding arcAt contentAt
     arc-labels =
-        ap (map labelAs) (sym (take-labels (c .tapes) 8 (firstLabel (arcSize * e)) arcs (few-tapes (lent c states arcs) sound))
+        ap (map labelAs) (sym (take-labels (c .tapes) 8 (labelsStart (arcSize * e)) arcs (few-tapes (lent c states arcs) sound))
         ∙ ap (λ (k : ℕ). take (c .tapes) (labelsAt 8 k arcs)) (sym (add-assoc (arcSize * e) 4 4)))
 
-    arc-spotted : Positions ps t × Spotted text s 0 ps t × (firstLabel (arcSize * e) + labelSize * c .tapes ≤ length arcs) × ((i : ℕ) → i < c .tapes → getD arcs (firstLabel (arcSize * e) + labelSize * i) 0 ≤ 8)
+    arc-spotted : Positions ps t × Spotted text s 0 ps t × (labelsStart (arcSize * e) + labelSize * c .tapes ≤ length arcs) × ((i : ℕ) → i < c .tapes → getD arcs (labelsStart (arcSize * e) + labelSize * i) 0 ≤ 8)
     arc-spotted =
         let f = few-tapes (lent c states arcs) sound in
         (spot .positions, spot .spotted, omega (arith, arc-labelled .lent, f), λ i h. arc-labelled .short i (omega (arith, f)))
@@ -96,7 +96,7 @@ module _ (c : Counts) (states arcs text : List ℕ) (sound : Sound (lent c state
     pub arc-before : (k : ℕ) → backBy (c .tapes) e arcs text s ≡ some k → Before (arc .labels) t ps k
     arc-before k f =
         let (pos, sp, room, short) = arc-spotted in
-        let (i, j, b) = moves-sound (c .tapes) 0 (firstLabel (arcSize * e)) 0 arcs text s ps t tapes-are pos sp room short k f in
+        let (i, j, b) = moves-sound (c .tapes) 0 (labelsStart (arcSize * e)) 0 arcs text s ps t tapes-are pos sp room short k f in
         let z : i ≡ k = omega (arith, j) in
         subst (λ (n : ℕ). Before (arc .labels) t ps n) z (subst (λ (ls : List (List ℕ)). Before ls t ps i) arc-labels b)
 
@@ -105,9 +105,9 @@ module _ (c : Counts) (states arcs text : List ℕ) (sound : Sound (lent c state
         → backBy (c .tapes) e arcs text s ≡ some (shift (arc .labels) t)
     arc-back ps′ rest pos′ m q =
         let (pos, sp, room, short) = arc-spotted in
-        let z : 0 + shift (labelled (c .tapes) (firstLabel (arcSize * e)) arcs) t ≡ shift (arc .labels) t
-        = zero-add (shift (labelled (c .tapes) (firstLabel (arcSize * e)) arcs) t) ∙ ap (λ (ls : List (List ℕ)). shift ls t) arc-labels in
-        moves-complete (c .tapes) 0 (firstLabel (arcSize * e)) 0 arcs text s ps t tapes-are pos sp room short ps′ rest pos′
+        let z : 0 + shift (labelled (c .tapes) (labelsStart (arcSize * e)) arcs) t ≡ shift (arc .labels) t
+        = zero-add (shift (labelled (c .tapes) (labelsStart (arcSize * e)) arcs) t) ∙ ap (λ (ls : List (List ℕ)). shift ls t) arc-labels in
+        moves-complete (c .tapes) 0 (labelsStart (arcSize * e)) 0 arcs text s ps t tapes-are pos sp room short ps′ rest pos′
         (ap (moved ps′) arc-labels ∙ m) (ap (λ (ls : List (List ℕ)). leftQuotients ls (dropAll ps′ t)) arc-labels ∙ q) ∙ ap some z
 
     module _ (k : ℕ) (b : Before (arc .labels) t ps k) where

@@ -17,7 +17,7 @@ use Rattle.lookup_labels.specs.Numbers.{Numbered}
 use Rattle.lookup_cells.specs.Pushes.{backBy}
 use Rattle.lookup_cells.specs.Recall.{backNumber, backAt, Fresh, Recalls}
 use Rattle.automata.specs.Layout.{arcSize}
-use Rattle.table.specs.Arcs.{firstLabel}
+use Rattle.table.specs.Arcs.{labelsStart}
 
 -- ---- the number of a move
 
@@ -40,7 +40,7 @@ back-some (some k) by number e at-most small = ap some (sym e)
 -- at a combination with this number
 module _ (tapes e : ℕ) (arcs text starts positions spans : List ℕ) (number all by : ℕ) (found : by ≡ backNumber (backAt tapes arcs text starts positions spans e)) where
   any : backBy tapes e arcs text (spotWith starts positions spans number all) ≡ backAt tapes arcs text starts positions spans e
-  any = moves-any starts positions spans number all 0 0 tapes 0 (firstLabel (arcSize * e)) 0 arcs text
+  any = moves-any starts positions spans number all 0 0 tapes 0 (labelsStart (arcSize * e)) 0 arcs text
 
   pub leads-none : ((k : ℕ) → backBy tapes e arcs text (spotWith starts positions spans number all) ≡ some k → k ≤ number) → number < by
       → backBy tapes e arcs text (spotWith starts positions spans number all) ≡ none
@@ -123,8 +123,8 @@ module _ (number n : ℕ) (back : ℕ → Option ℕ) (numbers memo : List ℕ) 
     }
 
 -- arcs with the same labels lead alike
-pub back-alike : (tapes n e f k : ℕ) (arcs text numbers : List ℕ) (s : Spot) → tapes ≤ 8 → ((g : ℕ) → g < n → Labelled arcs (firstLabel (arcSize * g))) → Numbered tapes n arcs numbers
+pub back-alike : (tapes n e f k : ℕ) (arcs text numbers : List ℕ) (s : Spot) → tapes ≤ 8 → ((g : ℕ) → g < n → Labelled arcs (labelsStart (arcSize * g))) → Numbered tapes n arcs numbers
     → e < n → k ≡ getD numbers e 0 → k < 1024 → f < n → getD numbers f 0 ≡ k → backBy tapes f arcs text s ≡ backBy tapes e arcs text s
 back-alike tapes n e f k arcs text numbers s few labelled h in-all own small lt same =
-    moves-alike arcs text tapes 0 (firstLabel (arcSize * f)) (firstLabel (arcSize * e)) 0 s (omega (arith, labelled f lt .lent, few)) (omega (arith, labelled e in-all .lent, few))
+    moves-alike arcs text tapes 0 (labelsStart (arcSize * f)) (labelsStart (arcSize * e)) 0 s (omega (arith, labelled f lt .lent, few)) (omega (arith, labelled e in-all .lent, few))
     (λ j l. labelled f lt .short j (omega (arith, l, few))) (h .alike f e lt in-all (same ∙ own) (omega (arith, own, small)))

@@ -7,7 +7,7 @@ use mathlib.Core.Option.{Option, none, some}
 use mathlib.Core.List.{List}
 use Prim.Native.Nat.{ℕ, _+_, _-_, _*_, _≤_, _<_}
 use lib.ListN.{length, getD}
-use Rattle.table.specs.Arcs.{sourceOf, targetOf, arcWeight, firstLabel}
+use Rattle.table.specs.Arcs.{sourceOf, targetOf, arcWeight, labelsStart}
 use Rattle.table.specs.declared.answer.Counts.{Counts}
 use Rattle.lookup_moves.specs.declared.spot.Spot.{Spot}
 use Rattle.lookup_moves.specs.Distances.{far, cellsOf, lowered, sum}
@@ -18,7 +18,7 @@ use Rattle.automata.specs.Layout.{arcSize}
 
 -- how far back its labels lead from the combination, if they end there
 abbrev pub backBy : ℕ → ℕ → List ℕ → List ℕ → Spot → Option ℕ
-backBy tapes e arcs text s = movesFrom tapes 0 (firstLabel (arcSize * e)) 0 arcs text s
+backBy tapes e arcs text s = movesFrom tapes 0 (labelsStart (arcSize * e)) 0 arcs text s
 
 -- the cell of a state at the combination
 abbrev pub cellAt : Spot → ℕ → ℕ
@@ -58,7 +58,7 @@ toDo queue xs = countOf queue + 2 * sum xs
 -- what an arc's record is known to hold: labels, two of so many states, a weight, and a move that leads to a
 -- combination
 pub record Passable (tapes states e : ℕ) (arcs text : List ℕ) (s : Spot) : Type 0 where
-  pub labelled : Labelled arcs (firstLabel (arcSize * e))
+  pub labelled : Labelled arcs (labelsStart (arcSize * e))
   pub source : sourceOf arcs e < states
   pub target : targetOf arcs e < states
   pub light : arcWeight arcs e ≤ 999999999

@@ -12,7 +12,7 @@ ghost use lib.ListN.{length, replicate};
 ghost use Rattle.lookup_moves.specs.Moves.{Laid, Labelled, spotWith};
 ghost use Rattle.lookup_cells.specs.Recall.{backNumber, backAt, Knows};
 ghost use Rattle.automata.specs.Layout.{arcSize};
-ghost use Rattle.table.specs.Arcs.{firstLabel};
+ghost use Rattle.table.specs.Arcs.{labelsStart};
 
 // Nothing is known: 2^64 - 1 is no combination.
 pub fn no_memo() -> [usize; 2048]
@@ -31,7 +31,7 @@ fn lead_back(
     positions: &[usize],
     spans: &[usize],
 ) -> usize
-    requires { ⌜ Labelled (now arcs) (firstLabel (arcSize * e))
+    requires { ⌜ Labelled (now arcs) (labelsStart (arcSize * e))
         × Laid (counts .tapes) (length (now text)) (spotWith (now starts) (now positions) (now spans) 0 0) ⌝ }
     ensures { λ r. ⌜ r ≡ backNumber (backAt (counts .tapes) (now (arcs .entry)) (now (text .entry))
         (now (starts .entry)) (now (positions .entry)) (now (spans .entry)) e) ⌝ }
@@ -65,7 +65,7 @@ pub fn recall(
     memo: &mut [usize],
 ) -> usize
     requires { ⌜ (e < counts .arcs) × (counts .arcs ≤ 8192)
-        × ((f : _) → f < counts .arcs → Labelled (now arcs) (firstLabel (arcSize * f)))
+        × ((f : _) → f < counts .arcs → Labelled (now arcs) (labelsStart (arcSize * f)))
         × Laid (counts .tapes) (length (now text)) (spotWith (now starts) (now positions) (now spans) 0 0)
         × Knows counts (now arcs) (now text) (now starts) (now positions) (now spans) number (now numbers)
         (now memo) ⌝ }

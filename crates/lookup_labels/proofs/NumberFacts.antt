@@ -13,7 +13,7 @@ use Rattle.table.proofs.PartFacts.{part-part, part-add, part-zero}
 use Rattle.table.proofs.EndianFacts.{Bytes, le-same}
 use Rattle.lookup_labels.specs.Numbers.{wordsAt, Numbers, Numbered}
 use Rattle.automata.specs.Layout.{arcSize, labelSize}
-use Rattle.table.specs.Arcs.{firstLabel}
+use Rattle.table.specs.Arcs.{labelsStart}
 
 -- ---- words
 
@@ -129,5 +129,5 @@ module _ (arcs : List ℕ) (words : ℕ) where
         front x ∙ ap (part 0 (labelSize * tapes)) w ∙ sym (front y);
   }
     where
-      front : (x : ℕ) → part (firstLabel (arcSize * x)) (labelSize * tapes) arcs ≡ part 0 (labelSize * tapes) (wordsAt words arcs x)
-      front x = ap (λ (k : ℕ). part k (labelSize * tapes) arcs) (omega arith) ∙ sym (part-part 0 (labelSize * tapes) (firstLabel (arcSize * x)) (8 * words) arcs (omega (arith, fits)))
+      front : (x : ℕ) → part (labelsStart (arcSize * x)) (labelSize * tapes) arcs ≡ part 0 (labelSize * tapes) (wordsAt words arcs x)
+      front x = ap (λ (k : ℕ). part k (labelSize * tapes) arcs) (omega arith) ∙ sym (part-part 0 (labelSize * tapes) (labelsStart (arcSize * x)) (8 * words) arcs (omega (arith, fits)))

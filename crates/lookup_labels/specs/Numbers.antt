@@ -4,16 +4,16 @@ use mathlib.Core.List.{List}
 use Prim.Native.Nat.{ℕ, _+_, _*_, _<_, min}
 use lib.ListN.{length, getD, set}
 use Rattle.table.specs.Region.{part}
-use Rattle.table.specs.Arcs.{firstLabel}
+use Rattle.table.specs.Arcs.{labelsStart}
 use Rattle.automata.specs.Layout.{arcSize, labelSize}
 
 -- the labels of arc e on so many tapes
 abbrev pub labelsAt : ℕ → List ℕ → ℕ → List ℕ
-labelsAt tapes arcs e = part (firstLabel (arcSize * e)) (labelSize * tapes) arcs
+labelsAt tapes arcs e = part (labelsStart (arcSize * e)) (labelSize * tapes) arcs
 
 -- the words of eight bytes that hold them, so many
 abbrev pub wordsAt : ℕ → List ℕ → ℕ → List ℕ
-wordsAt words arcs e = part (firstLabel (arcSize * e)) (8 * words) arcs
+wordsAt words arcs e = part (labelsStart (arcSize * e)) (8 * words) arcs
 
 -- Arc e got a number, and the owners of the numbers went from a to b, the numbers from xs to ys. It is that of the
 -- bucket of its labels, where no arc before it has that number or its owner has the same words.

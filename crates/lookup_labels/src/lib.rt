@@ -3,7 +3,7 @@
 use search_chains::bucket_of;
 use search_chains::hash_words;
 use table::answer::Counts;
-use table::arc::first_label;
+use table::arc::labels_start;
 use table::bytes::get64;
 use table::layout::ARC_SIZE;
 use table::layout::LABEL_SIZE;
@@ -75,8 +75,8 @@ fn number_of(arcs: &[u8], d: usize, e: usize, k: usize, words: usize) -> u16
     }
     if same_words(
         arcs,
-        first_label(ARC_SIZE * d),
-        first_label(ARC_SIZE * e),
+        labels_start(ARC_SIZE * d),
+        labels_start(ARC_SIZE * e),
         words,
     ) {
         return k as u16;
@@ -101,7 +101,7 @@ fn number_arc(arcs: &[u8], e: usize, words: usize, owners: &mut [u16], numbers: 
     ensures { λ _. ⌜ Numbers (now (arcs .entry)) e words (now (owners .exit)) (now (owners .entry))
         (now (numbers .exit)) (now (numbers .entry)) ⌝ }
 {
-    let k = bucket_of(hash_words(arcs, first_label(ARC_SIZE * e), words, 0), 1024);
+    let k = bucket_of(hash_words(arcs, labels_start(ARC_SIZE * e), words, 0), 1024);
     let d = wide(owners[k]);
     numbers[e] = number_of(arcs, d, e, k, words);
     owners[k] = lesser(d, e) as u16;

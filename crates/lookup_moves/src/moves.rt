@@ -4,10 +4,10 @@ ghost use Prim.Native.Nat.{_+_, _≤_};
 ghost use lib.ListN.{length, getD};
 ghost use Rattle.automata.specs.Lists.{sameList};
 ghost use Rattle.automata.specs.Layout.{labelSize};
-ghost use Rattle.table.specs.Arcs.{firstLabel};
+ghost use Rattle.table.specs.Arcs.{labelsStart};
 ghost use Rattle.table.specs.Region.{part};
 ghost use Rattle.lookup_moves.specs.Moves.{stepAs, tapeMove, movesFrom, Laid, Labelled, spotWith};
-use table::arc::first_label;
+use table::arc::labels_start;
 use table::layout::LABEL_SIZE;
 use table::layout::SYMBOLS_PLACE;
 
@@ -63,13 +63,13 @@ pub fn moved_back(
     positions: &[usize],
     spans: &[usize],
 ) -> Step
-    requires { ⌜ Labelled (now arcs) (firstLabel at) × Laid tapes (length (now text))
+    requires { ⌜ Labelled (now arcs) (labelsStart at) × Laid tapes (length (now text))
         (spotWith (now starts) (now positions) (now spans) 0 0) ⌝ }
-    ensures { λ r. ⌜ stepAs r ≡ movesFrom tapes 0 (firstLabel at) 0 (now (arcs .entry)) (now (text .entry))
+    ensures { λ r. ⌜ stepAs r ≡ movesFrom tapes 0 (labelsStart at) 0 (now (arcs .entry)) (now (text .entry))
         (spotWith (now (starts .entry)) (now (positions .entry)) (now (spans .entry)) 0 0) ⌝ }
 {
     let mut total: usize = 0;
-    let mut from = first_label(at);
+    let mut from = labels_start(at);
     let mut h: usize = 0;
     let mut left = tapes;
     while 0 < left {

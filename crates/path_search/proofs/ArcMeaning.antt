@@ -22,7 +22,7 @@ use Rattle.lookup_tuple.specs.declared.Strings.{Strings}
 use Rattle.lookup_tuple.specs.Strings.{Stands}
 use Rattle.lookup_moves.specs.declared.spot.Spans.{Spans}
 use Rattle.lookup_moves.specs.Spots.{Spanned, spotOf}
-use Rattle.table.specs.Arcs.{targetOf, firstLabel}
+use Rattle.table.specs.Arcs.{targetOf, labelsStart}
 use Rattle.lookup_cells.specs.Pushes.{backBy}
 use Rattle.lookup_cells.proofs.MoveMeaning.{combinations-positive, label-length, first-short, next-short, labelled, shift, place-moved}
 use Rattle.lookup_cells.proofs.PushMeaning.{AtSpot, ready, arc-labels, arc-before, arc-back}
@@ -78,7 +78,7 @@ module _ (c : Counts) (states arcs text : List ℕ) (sound : Sound (lent c state
         let at = spot 0 (combinations-positive t) in
         let ls = ready c states arcs text sound t tapes-are (spotOf s spans 0) (digits 0 t) at .each e lt .labelled in
         let few = few-tapes (lent c states arcs) sound in
-        shift-means (c .tapes) 0 (firstLabel (arcSize * e)) arcs (spans .spans) t tapes-are
+        shift-means (c .tapes) 0 (labelsStart (arcSize * e)) arcs (spans .spans) t tapes-are
         (λ j h. ap (λ (k : ℕ). getD (spans .spans) k 0) (zero-add j) ∙ span-at text t s stands spans spanned j (omega (arith, few)))
         (omega (arith, ls .lent, few)) (λ i h. ls .short i (omega (arith, few)))
         ∙ ap (λ (l : List (List ℕ)). shift l t) (arc-labels c states arcs text sound t tapes-are (spotOf s spans 0) (digits 0 t) at e lt)

@@ -24,7 +24,7 @@ use Rattle.lookup_moves.specs.Distances.{far, cellsOf}
 use Rattle.lookup_moves.specs.Moves.{stepAs, movesFrom, Laid, Labelled, spotWith}
 use Rattle.lookup_moves.specs.Spots.{spotOf}
 use Rattle.lookup_moves.proofs.MoveFacts.{laid-any, moves-any}
-use Rattle.table.specs.Arcs.{targetOf, arcWeight, firstLabel}
+use Rattle.table.specs.Arcs.{targetOf, arcWeight, labelsStart}
 use Rattle.lookup_cells.specs.Pushes.{backBy}
 use Rattle.path_search.specs.Tight.{shiftBy, endThere, tightTo}
 use Rattle.path_search.specs.Searchable.{Spannable, Weights}
@@ -48,12 +48,12 @@ module _ (arcs spans : List ℕ) (left h at shift : ℕ) where
   shift-end d = rw d (omega arith)
 
 -- a label has at most eight symbols
-pub label-short : (arcs : List ℕ) (e h at : ℕ) → Labelled arcs (firstLabel (arcSize * e)) → h < 8 → at ≡ firstLabel (arcSize * e) + labelSize * h → getD arcs at 0 ≤ 8
+pub label-short : (arcs : List ℕ) (e h at : ℕ) → Labelled arcs (labelsStart (arcSize * e)) → h < 8 → at ≡ labelsStart (arcSize * e) + labelSize * h → getD arcs at 0 ≤ 8
 label-short arcs e h at l lt is = omega (arith, l .short h lt, ap (λ (i : ℕ). getD arcs i 0) is)
 
 -- so what is added for it is not too much
-pub shift-bound : (arcs : List ℕ) (spans : Spans) (e h at : ℕ) → Labelled arcs (firstLabel (arcSize * e)) → Spannable spans → h < 8
-    → at ≡ firstLabel (arcSize * e) + labelSize * h → getD arcs at 0 * getD (spans .spans) h 0 ≤ 2549158503125000
+pub shift-bound : (arcs : List ℕ) (spans : Spans) (e h at : ℕ) → Labelled arcs (labelsStart (arcSize * e)) → Spannable spans → h < 8
+    → at ≡ labelsStart (arcSize * e) + labelSize * h → getD arcs at 0 * getD (spans .spans) h 0 ≤ 2549158503125000
 shift-bound arcs spans e h at l s lt is = omega (arith, mul-le-mul (label-short arcs e h at l lt is) (s .small h))
 
 -- ---- whether labels end at a combination
@@ -65,10 +65,10 @@ module _ (s t : Spot) (is : s ≡ t) where
       laid-any (s .starts) (s .positions) (s .spans) (s .number) (s .all) 0 0 n size (subst (Laid n size) (sym is) p)
 
   module _ (tapes e : ℕ) (arcs text : List ℕ) (r : Step)
-      (f : stepAs r ≡ movesFrom tapes 0 (firstLabel (arcSize * e)) 0 arcs text (spotWith (s .starts) (s .positions) (s .spans) 0 0)) where
+      (f : stepAs r ≡ movesFrom tapes 0 (labelsStart (arcSize * e)) 0 arcs text (spotWith (s .starts) (s .positions) (s .spans) 0 0)) where
     -- the call tells how far back they lead from the combination
     back-is : stepAs r ≡ backBy tapes e arcs text t
-    back-is = f ∙ moves-any (s .starts) (s .positions) (s .spans) 0 0 (s .number) (s .all) tapes 0 (firstLabel (arcSize * e)) 0 arcs text
+    back-is = f ∙ moves-any (s .starts) (s .positions) (s .spans) 0 0 (s .number) (s .all) tapes 0 (labelsStart (arcSize * e)) 0 arcs text
         ∙ ap (backBy tapes e arcs text) is
 
     -- where it tells a move, they end there

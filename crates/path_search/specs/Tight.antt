@@ -17,7 +17,7 @@ use Rattle.lookup_tuple.specs.declared.Strings.{Strings}
 use Rattle.lookup_moves.specs.declared.spot.Spans.{Spans}
 use Rattle.lookup_moves.specs.Spots.{spotOf}
 use Rattle.lookup_cells.specs.Ends.{fromState}
-use Rattle.table.specs.Arcs.{sourceOf, targetOf, arcWeight, firstLabel}
+use Rattle.table.specs.Arcs.{sourceOf, targetOf, arcWeight, labelsStart}
 use Rattle.lookup_cells.specs.Pushes.{backBy}
 
 -- by how much labels move the number of a combination: those of n tapes from tape h on, the first at place `at`, by the
@@ -28,7 +28,7 @@ shiftBy (suc n) h at arcs spans = getD arcs at 0 * getD spans h 0 + shiftBy n (h
 
 -- by how much the labels of arc e do
 abbrev pub shiftOf : Counts → List ℕ → List ℕ → ℕ → ℕ
-shiftOf c arcs spans e = shiftBy (c .tapes) 0 (firstLabel (arcSize * e)) arcs spans
+shiftOf c arcs spans e = shiftBy (c .tapes) 0 (labelsStart (arcSize * e)) arcs spans
 
 -- the labels end there
 abbrev pub endThere : Option ℕ → Bool

@@ -11,7 +11,7 @@ use Rattle.table.specs.declared.answer.Counts.{Counts}
 use Rattle.lookup_moves.specs.declared.spot.Spans.{Spans}
 use Rattle.lookup_moves.specs.Moves.{Labelled}
 use Rattle.path_search.specs.Search.{noArc, markAt}
-use Rattle.table.specs.Arcs.{sourceOf, firstLabel}
+use Rattle.table.specs.Arcs.{sourceOf, labelsStart}
 use Rattle.path_search.specs.Tight.{shiftOf, cellBefore}
 use Rattle.path_search.specs.Searchable.{Spannable}
 
@@ -22,7 +22,7 @@ pub record Retraceable (c : Counts) (arcs : List ℕ) (spans : Spans) : Type 0 w
   pub few-tapes : c .tapes ≤ 8
   pub few-arcs : c .arcs ≤ 8192
   pub lent : arcSize * c .arcs ≤ length arcs
-  pub labelled : (e : ℕ) → e < c .arcs → Labelled arcs (firstLabel (arcSize * e))
+  pub labelled : (e : ℕ) → e < c .arcs → Labelled arcs (labelsStart (arcSize * e))
   pub source : (e : ℕ) → e < c .arcs → sourceOf arcs e < c .states
   pub fits : c .states * spans .all < 18446744073709551616
 

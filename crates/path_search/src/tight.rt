@@ -10,7 +10,7 @@ use lookup_moves::spot::spot_at;
 use lookup_tuple::Strings;
 use table::answer::Counts;
 use table::arc::arc_weight_at;
-use table::arc::first_label;
+use table::arc::labels_start;
 use table::arc::target_at;
 use table::layout::ARC_SIZE;
 use table::layout::LABEL_SIZE;
@@ -24,16 +24,16 @@ ghost use Rattle.path_search.specs.Tight.{shiftOf, endThere, tightTo};
 ghost use Rattle.path_search.specs.Answers.{reachedAs};
 ghost use Rattle.path_search.specs.Searchable.{Searchable, Weights, Spannable};
 ghost use Rattle.automata.specs.Layout.{arcSize};
-ghost use Rattle.table.specs.Arcs.{firstLabel};
+ghost use Rattle.table.specs.Arcs.{labelsStart};
 
 // By how much the labels of arc e move the number of a combination, with so many combinations behind each string.
 pub fn shift_of(counts: Counts, arcs: &[u8], e: usize, spans: Spans) -> usize
-    requires { ⌜ Labelled (now arcs) (firstLabel (arcSize * e)) × (counts .tapes ≤ 8) × Spannable spans ⌝ }
+    requires { ⌜ Labelled (now arcs) (labelsStart (arcSize * e)) × (counts .tapes ≤ 8) × Spannable spans ⌝ }
     ensures { λ r. ⌜ r ≡ shiftOf counts (now (arcs .entry)) (spans .spans) e ⌝ }
 {
     let behind = spans.spans;
     let mut shift: usize = 0;
-    let mut at = first_label(ARC_SIZE * e);
+    let mut at = labels_start(ARC_SIZE * e);
     let mut h: usize = 0;
     while h < counts.tapes {
         shift += arcs[at] as usize * behind[h];

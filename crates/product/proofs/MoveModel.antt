@@ -135,18 +135,18 @@ module _ (a b : Memory) (sa : Sound a) (sb : Sound b) where
   record Sides (i j p q : ℕ) (s : Content ℕ) : Type 0 where
     first-weight : ℕ
     second-weight : ℕ
-    first-labels : List (List ℕ)
+    labels-starts : List (List ℕ)
     second-labels : List (List ℕ)
-    first : SideOf a i p first-weight first-labels
+    first : SideOf a i p first-weight labels-starts
     second : SideOf b j q second-weight second-labels
     weight-is : s .weight ≡ first-weight + second-weight
-    labels-are : s .labels ≡ first-labels ++ second-labels
+    labels-are : s .labels ≡ labels-starts ++ second-labels
 
   sides : (c : product.Vertex) (i j : ℕ) (s : Content ℕ) → Below c → Carries A B c i j s → Sides i j (placeNumber (c .0)) (placeNumber (c .1)) s
   sides c _ _ _ h (by-both {i} {j} {a = x} {b = y} e f) = record {
     first-weight = x .weight;
     second-weight = y .weight;
-    first-labels = x .labels;
+    labels-starts = x .labels;
     second-labels = y .labels;
     first = side-follows a sa i x e (c .0) (h .0);
     second = side-follows b sb j y f (c .1) (h .1);
@@ -156,7 +156,7 @@ module _ (a b : Memory) (sa : Sound a) (sb : Sound b) where
   sides c _ _ _ h (by-second {j} {f = u} {b = y} e f) = record {
     first-weight = u;
     second-weight = y .weight;
-    first-labels = emptyTuple (A .tapes);
+    labels-starts = emptyTuple (A .tapes);
     second-labels = y .labels;
     first = side-stays a sa (c .0) u (h .0) e;
     second = side-follows b sb j y f (c .1) (h .1);
@@ -166,7 +166,7 @@ module _ (a b : Memory) (sa : Sound a) (sb : Sound b) where
   sides c _ _ _ h (by-first {i} {g = u} {a = x} e f) = record {
     first-weight = x .weight;
     second-weight = u;
-    first-labels = x .labels;
+    labels-starts = x .labels;
     second-labels = emptyTuple (B .tapes);
     first = side-follows a sa i x f (c .0) (h .0);
     second = side-stays b sb (c .1) u (h .1) e;
@@ -200,13 +200,13 @@ module _ (a b : Memory) (sa : Sound a) (sb : Sound b) where
         ≡ writeAll (labelRecord .write) (s .labels) ++ zeros ((8 - (A .tapes + B .tapes)) * labelSize)
     labels-written i j p q s d =
         let f = labelRecord .write in
-        let x = writeAll f (d .first-labels) in
+        let x = writeAll f (d .labels-starts) in
         let y = writeAll f (d .second-labels) in
         let z : labelsSize - labelSize * a .tapes - labelSize * b .tapes ≡ (8 - (A .tapes + B .tapes)) * labelSize = omega (arith, few, sound-holds a sa .tapes, sound-holds b sb .tapes) in
         (λ k. d .first .written k ++ (d .second .written k ++ zeros (z k)))
         ∙ sym (append-assoc x y (zeros ((8 - (A .tapes + B .tapes)) * labelSize)))
         ∙ ap (λ (l : List ℕ). l ++ zeros ((8 - (A .tapes + B .tapes)) * labelSize))
-        (sym (writeAll-append f (d .first-labels) (d .second-labels)) ∙ ap (writeAll f) (sym (d .labels-are)))
+        (sym (writeAll-append f (d .labels-starts) (d .second-labels)) ∙ ap (writeAll f) (sym (d .labels-are)))
 
     arc-of : (k : ℕ) (x : Edge (Content ℕ)) (m : Move) → RecordOf A B cs x m → ArcOf k x m
     unfolding moveSum moveRecord moveFront moveLabels

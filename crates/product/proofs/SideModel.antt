@@ -24,7 +24,7 @@ use Rattle.automata.proofs.SoundFacts.{sound-well-formed, sound-holds}
 use Rattle.automata.proofs.WellFormedFacts.{all-place}
 use Rattle.automata.specs.Layout.{arcSize, stateSize, labelSize, labelsPlace}
 use Rattle.table.specs.Region.{part}
-use Rattle.table.specs.Arcs.{arcWeight, firstLabel}
+use Rattle.table.specs.Arcs.{arcWeight, labelsStart}
 use Rattle.table.specs.declared.record.Weight.{Weight}
 use Rattle.table.specs.declared.record.Weight.the-variants.{Absent, Present}
 use Rattle.table.specs.Records.{optionOf, stateAs, stateAt, arcAs, arcAt, contentAt}
@@ -115,7 +115,7 @@ module _ (m : Memory) (s : Sound m) where
     weight-model =
         ap (λ (x : Arc ℕ). x .weight) (Option·some-injective (arcAs (m .tapes) (arcAt (arcSize * i) (m .arcBytes))) a (sym (arc-loaded m s i there) ∙ at))
 
-    labels-model : part (firstLabel (arcSize * i)) (labelSize * m .tapes) (m .arcBytes) ≡ writeAll (labelRecord .write) (a .labels)
+    labels-model : part (labelsStart (arcSize * i)) (labelSize * m .tapes) (m .arcBytes) ≡ writeAll (labelRecord .write) (a .labels)
     unfolding part
     labels-model =
         let x = writeAll (labelRecord .write) (a .labels) in

@@ -10,7 +10,7 @@ use Rattle.automata.specs.Lists.{if}
 use Rattle.automata.specs.Memory.{zeros}
 use Rattle.automata.proofs.TestFacts.{eqb-false, false-not-true, T-true}
 use Rattle.automata.specs.Layout.{arcSize, contentPlace, labelSize, labelsPlace, labelsSize}
-use Rattle.table.specs.Arcs.{firstLabel}
+use Rattle.table.specs.Arcs.{labelsStart}
 use Rattle.table.specs.Region.{part, splice}
 use Rattle.table.specs.Endian.{le, toLe}
 use Rattle.table.proofs.EndianFacts.{Bytes, toLe-part}
@@ -64,7 +64,7 @@ unfolding sideOver
 side-ended arcs tapes k to out e = rw e
 
 -- its arc
-pub side-arc : (arcs : List ℕ) (tapes k to : ℕ) (out out2 : List ℕ) → (k ≡ noArc → ⊥) → out2 ≡ splice to (part (firstLabel (arcSize * k)) (labelSize * tapes) arcs) out
+pub side-arc : (arcs : List ℕ) (tapes k to : ℕ) (out out2 : List ℕ) → (k ≡ noArc → ⊥) → out2 ≡ splice to (part (labelsStart (arcSize * k)) (labelSize * tapes) arcs) out
     → out2 ≡ sideOver arcs tapes k to out
 unfolding sideOver
 side-arc arcs tapes k to out out2 e h = rw (eqb-false k noArc e) h
@@ -113,9 +113,9 @@ module _ (arcs : List ℕ) (tapes k : ℕ) (h : (k ≡ noArc → ⊥) → arcSiz
   unfolding sideLabels
   length-side = go (eqb k noArc) (λ f. eqb-differs k noArc f)
     where
-      go : (b : Bool) → (b ≡ false → k ≡ noArc → ⊥) → length (if b (zeros (labelSize * tapes)) (part (firstLabel (arcSize * k)) (labelSize * tapes) arcs)) ≡ labelSize * tapes
+      go : (b : Bool) → (b ≡ false → k ≡ noArc → ⊥) → length (if b (zeros (labelSize * tapes)) (part (labelsStart (arcSize * k)) (labelSize * tapes) arcs)) ≡ labelSize * tapes
       go true f = length-replicate (labelSize * tapes) 0
-      go false f = let l = h (f refl) in length-part (firstLabel (arcSize * k)) (labelSize * tapes) arcs (omega (arith, l, t))
+      go false f = let l = h (f refl) in length-part (labelsStart (arcSize * k)) (labelSize * tapes) arcs (omega (arith, l, t))
 
   -- written over zeros between two other regions
   side-between : (to at : ℕ) (p q out out1 out2 : List ℕ) → at ≡ to + length p → to + length (p ++ (zeros (labelSize * tapes) ++ q)) ≤ length out
@@ -127,7 +127,7 @@ module _ (arcs : List ℕ) (tapes k : ℕ) (h : (k ≡ noArc → ⊥) → arcSiz
       z = zeros (labelSize * tapes)
 
       y : List ℕ
-      y = part (firstLabel (arcSize * k)) (labelSize * tapes) arcs
+      y = part (labelsStart (arcSize * k)) (labelSize * tapes) arcs
 
       w : List ℕ
       w = splice to (p ++ (z ++ q)) out
@@ -136,7 +136,7 @@ module _ (arcs : List ℕ) (tapes k : ℕ) (h : (k ≡ noArc → ⊥) → arcSiz
       go true f = refl
       go false f =
           let r = h (f refl) in
-          let ly : length y ≡ length z = length-part (firstLabel (arcSize * k)) (labelSize * tapes) arcs (omega (arith, r, t)) ∙ sym (length-replicate (labelSize * tapes) 0) in
+          let ly : length y ≡ length z = length-part (labelsStart (arcSize * k)) (labelSize * tapes) arcs (omega (arith, r, t)) ∙ sym (length-replicate (labelSize * tapes) 0) in
           ap (λ (j : ℕ). splice j y w) e ∙ splice-between to p y z q out ly l
 
 module _ (a1 a2 : List ℕ) (n k : ℕ) (m : Move) (f : (m .first ≡ noArc → ⊥) → arcSize * m .first + arcSize ≤ length a1)
@@ -184,14 +184,14 @@ front-stored m weight to out out1 out2 h a b =
 
 -- the whole record
 pub move-stored : (s1 a1 s2 a2 w : List ℕ) (n k : ℕ) (m : Move) (weight to : ℕ) (out out1 out2 : List ℕ) → to + arcSize ≤ length out → weight ≡ moveSum s1 a1 s2 a2 w m
-    → out1 ≡ splice to (moveFront m weight) out → out2 ≡ splice (firstLabel to) (moveLabels a1 a2 n k m) out1 → length (moveLabels a1 a2 n k m) ≡ labelsSize
+    → out1 ≡ splice to (moveFront m weight) out → out2 ≡ splice (labelsStart to) (moveLabels a1 a2 n k m) out1 → length (moveLabels a1 a2 n k m) ≡ labelsSize
     → (out2 ≡ splice to (moveRecord s1 a1 s2 a2 w n k m) out) × (length (moveRecord s1 a1 s2 a2 w n k m) ≡ arcSize)
 unfolding moveRecord moveFront
 move-stored s1 a1 s2 a2 w n k m weight to out out1 out2 h e a b l =
     let f = moveFront m weight in
     let lf : length f ≡ labelsPlace = refl in
     let x = moveLabels a1 a2 n k m in
-    let p : out2 ≡ splice to (f ++ x) out = splice-behind to (firstLabel to) f x out out1 out2 a b (omega (arith, lf)) (omega (arith, lf, l)) in
+    let p : out2 ≡ splice to (f ++ x) out = splice-behind to (labelsStart to) f x out out1 out2 a b (omega (arith, lf)) (omega (arith, lf, l)) in
     (p ∙ ap (λ (v : ℕ). splice to (moveFront m v ++ x) out) e, length-append (moveFront m (moveSum s1 a1 s2 a2 w m)) x ∙ (omega (arith, l)))
 
 -- the size of the record of a move

@@ -13,7 +13,7 @@ use Rattle.automata.specs.Memory.{zeros}
 use Rattle.automata.specs.Layout.{arcSize, stateSize, stepSize, vertexSize, labelSize, labelsSize}
 use Rattle.table.specs.Region.{part, splice}
 use Rattle.table.specs.Endian.{toLe}
-use Rattle.table.specs.Arcs.{arcWeight, firstLabel}
+use Rattle.table.specs.Arcs.{arcWeight, labelsStart}
 use Rattle.table.specs.Records.{optionOf, stateAs, stateAt}
 use Rattle.table.specs.declared.record.Weight.{Weight}
 use Rattle.table.specs.declared.record.Weight.the-variants.{Absent, Present}
@@ -70,11 +70,11 @@ moveSum s1 a1 s2 a2 w m =
 
 -- the records of the labels of a side with so many tapes: those of its arc, zeros where its path has ended
 unfoldable pub sideLabels : List ℕ → ℕ → ℕ → List ℕ
-sideLabels arcs tapes k = if (eqb k noArc) (zeros (labelSize * tapes)) (part (firstLabel (arcSize * k)) (labelSize * tapes) arcs)
+sideLabels arcs tapes k = if (eqb k noArc) (zeros (labelSize * tapes)) (part (labelsStart (arcSize * k)) (labelSize * tapes) arcs)
 
 -- bytes with the labels of a side's arc written over them from a place on; the same bytes where its path has ended
 unfoldable pub sideOver : List ℕ → ℕ → ℕ → ℕ → List ℕ → List ℕ
-sideOver arcs tapes k to out = if (eqb k noArc) out (splice to (part (firstLabel (arcSize * k)) (labelSize * tapes) arcs) out)
+sideOver arcs tapes k to out = if (eqb k noArc) out (splice to (part (labelsStart (arcSize * k)) (labelSize * tapes) arcs) out)
 
 -- the 8 bytes before the labels of a move of a weight
 unfoldable pub moveFront : Move → ℕ → List ℕ

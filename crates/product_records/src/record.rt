@@ -2,7 +2,7 @@
 use crate::sum::move_weight;
 use product_search::vertex::Move;
 use product_search::vertex::NO_ARC;
-use table::arc::first_label;
+use table::arc::labels_start;
 use table::arc::store_arc_weight;
 use table::arc::store_ends;
 use table::bytes::get64;
@@ -60,7 +60,7 @@ fn store_side(arcs: &[u8], arc: u16, tapes: usize, out: &mut [u8], to: usize)
     if arc == NO_ARC {
         return;
     }
-    let mut from = first_label(ARC_SIZE * arc as usize);
+    let mut from = labels_start(ARC_SIZE * arc as usize);
     let mut at = to;
     let mut left = tapes;
     while 0 < left {
@@ -146,6 +146,6 @@ pub fn store_move(
         first_arcs,
         second_arcs,
         out,
-        first_label(to),
+        labels_start(to),
     );
 }

@@ -20,12 +20,12 @@ abbrev pub arcWeightAt : ℕ → List ℕ → ℕ
 arcWeightAt at xs = le (part (at + contentPlace) 4 xs)
 
 -- where its labels begin
-abbrev pub firstLabel : ℕ → ℕ
-firstLabel at = at + labelsPlace
+abbrev pub labelsStart : ℕ → ℕ
+labelsStart at = at + labelsPlace
 
 -- where its label on a tape stands, the tapes counted from 0
 abbrev pub labelPlace : ℕ → ℕ → ℕ
-labelPlace at tape = firstLabel at + labelSize * tape
+labelPlace at tape = labelsStart at + labelSize * tape
 
 -- ---- by its number
 

@@ -7,7 +7,7 @@ ghost use Rattle.automata.specs.Limits.{maxTapes};
 ghost use Rattle.automata.specs.Layout.{arcSize, contentPlace, contentSize};
 ghost use Rattle.table.specs.Region.{part, splice};
 ghost use Rattle.table.specs.Endian.{toLe};
-ghost use Rattle.table.specs.Arcs.{sourceAt, targetAt, arcWeightAt, firstLabel, labelPlace};
+ghost use Rattle.table.specs.Arcs.{sourceAt, targetAt, arcWeightAt, labelsStart, labelPlace};
 use crate::bytes::copy_into;
 use crate::bytes::get16;
 use crate::bytes::get32;
@@ -46,9 +46,9 @@ pub fn arc_weight_at(arcs: &[u8], at: usize) -> u32
 }
 
 // Where the labels of the arc begin. One stands behind the other.
-pub fn first_label(at: usize) -> usize
+pub fn labels_start(at: usize) -> usize
     requires { ⌜ at < 18446744073709551000 ⌝ }
-    ensures { λ r. ⌜ r ≡ firstLabel at ⌝ }
+    ensures { λ r. ⌜ r ≡ labelsStart at ⌝ }
 {
     at + LABELS_PLACE
 }
@@ -58,7 +58,7 @@ pub fn label_place(at: usize, tape: usize) -> usize
     requires { ⌜ (at < 18446744073709551000) × (tape < maxTapes) ⌝ }
     ensures { λ r. ⌜ r ≡ labelPlace at tape ⌝ }
 {
-    first_label(at) + LABEL_SIZE * tape
+    labels_start(at) + LABEL_SIZE * tape
 }
 
 // How many symbols the arc has on a tape.

@@ -7,7 +7,7 @@ use lib.ListN.{length, getD, take, drop, length-append, length-take, length-drop
 use lib.Seq.{drop-drop}
 use Rattle.automata.specs.Memory.{zeros}
 use Rattle.automata.specs.Layout.{arcSize, labelSize, labelsPlace, labelsSize}
-use Rattle.table.specs.Arcs.{firstLabel}
+use Rattle.table.specs.Arcs.{labelsStart}
 use Rattle.table.specs.Region.{part, splice}
 use Rattle.table.proofs.RegionFacts.{length-part, part-suc, part-part, length-splice, drop-splice, splice-none, splice-append, splice-self, splice-within}
 use Rattle.tapes_records.specs.Rewritten.{rewritten, chosenLabels, chosenArc}
@@ -100,16 +100,16 @@ labels-found js arcs r from to f e =
 
 -- a record whose labels were written over
 pub arc-chosen : (js arcs labels arcs2 : List ℕ) (at : ℕ) → at + arcSize ≤ length arcs → length js ≤ 8
-    → labels ≡ splice 0 (chosenLabels js (part (firstLabel at) labelsSize arcs)) (zeros labelsSize) → arcs2 ≡ splice (firstLabel at) labels arcs
+    → labels ≡ splice 0 (chosenLabels js (part (labelsStart at) labelsSize arcs)) (zeros labelsSize) → arcs2 ≡ splice (labelsStart at) labels arcs
     → arcs2 ≡ splice at (chosenArc js (part at arcSize arcs)) arcs
 unfolding chosenArc
 arc-chosen js arcs labels arcs2 at h few e f =
-    let b = length-labels js (part (firstLabel at) labelsSize arcs) in
-    let n : length labels ≡ labelsSize = ap length e ∙ length-splice 0 (chosenLabels js (part (firstLabel at) labelsSize arcs)) (zeros labelsSize) (omega arith) in
+    let b = length-labels js (part (labelsStart at) labelsSize arcs) in
+    let n : length labels ≡ labelsSize = ap length e ∙ length-splice 0 (chosenLabels js (part (labelsStart at) labelsSize arcs)) (zeros labelsSize) (omega arith) in
     let arc = part at arcSize arcs in
     let l : length arc ≡ arcSize = length-part at arcSize arcs h in
-    let q : part labelsPlace labelsSize arc ≡ part (firstLabel at) labelsSize arcs = part-part labelsPlace labelsSize at arcSize arcs (omega arith) in
-    f ∙ ap (splice (firstLabel at) labels) (sym (splice-self at arcSize arcs h)) ∙ splice-within at labelsPlace labels arc arcs (omega (arith, n, l)) (omega (arith, l))
+    let q : part labelsPlace labelsSize arc ≡ part (labelsStart at) labelsSize arcs = part-part labelsPlace labelsSize at arcSize arcs (omega arith) in
+    f ∙ ap (splice (labelsStart at) labels) (sym (splice-self at arcSize arcs h)) ∙ splice-within at labelsPlace labels arc arcs (omega (arith, n, l)) (omega (arith, l))
     ∙ ap (λ (x : List ℕ). splice at (splice labelsPlace x arc) arcs) (e ∙ ap (λ (x : List ℕ). splice 0 (chosenLabels js x) (zeros labelsSize)) (sym q))
 
 -- it is as long as it was

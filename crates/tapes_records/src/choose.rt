@@ -1,5 +1,5 @@
 // The labels on chosen tapes, moved to the front of each arc's record.
-use table::arc::first_label;
+use table::arc::labels_start;
 use table::bytes::copy_into;
 use table::layout::ARC_SIZE;
 use table::layout::LABEL_SIZE;
@@ -9,7 +9,7 @@ ghost use Prim.Native.Nat.{_+_, _-_, _*_, _≤_};
 ghost use lib.ListN.{length, take};
 ghost use Rattle.automata.specs.Memory.{zeros};
 ghost use Rattle.automata.specs.Layout.{arcSize, labelSize, labelsSize};
-ghost use Rattle.table.specs.Arcs.{firstLabel};
+ghost use Rattle.table.specs.Arcs.{labelsStart};
 ghost use Rattle.table.specs.Region.{part, splice};
 ghost use Rattle.tapes_records.specs.Choice.{Choice};
 ghost use Rattle.tapes_records.specs.Rewritten.{rewritten, chosenLabels, chosenArc};
@@ -44,10 +44,10 @@ fn copy_labels(labels: &[u8], tapes: &[u8], used: usize, out: &mut [u8])
 fn labels_at(arcs: &[u8], at: usize, tapes: &[u8], used: usize) -> [u8; LABELS_SIZE]
     requires { ⌜ Choice (now tapes) used × (at + arcSize ≤ length (now arcs)) ⌝ }
     ensures { λ r. ⌜ r ≡ splice 0 (chosenLabels (take used (now (tapes .entry)))
-        (part (firstLabel at) labelsSize (now (arcs .entry)))) (zeros labelsSize) ⌝ }
+        (part (labelsStart at) labelsSize (now (arcs .entry)))) (zeros labelsSize) ⌝ }
 {
     let mut labels = [0u8; LABELS_SIZE];
-    let from = first_label(at);
+    let from = labels_start(at);
     copy_labels(&arcs[from..from + LABELS_SIZE], tapes, used, &mut labels);
     labels
 }
@@ -59,7 +59,7 @@ fn choose_arc(arcs: &mut [u8], at: usize, tapes: &[u8], used: usize)
         (part at arcSize (now (arcs .entry)))) (now (arcs .entry)) ⌝ }
 {
     let labels = labels_at(arcs, at, tapes, used);
-    copy_into(arcs, first_label(at), &labels);
+    copy_into(arcs, labels_start(at), &labels);
 }
 
 // The first `count` records of arcs, each with the labels on the first `used` tapes of a list alone.

@@ -9,7 +9,7 @@ use lib.Seq.{drop-drop, drop-append-le, take-append-add, take-all, length-take-l
 use Rattle.automata.specs.Memory.{weightRecord, stateRecord, labelRecord, zeros}
 use Rattle.automata.specs.TableText.{afterBlanks}
 use Rattle.automata.specs.Layout.{arcSize, stateSize, amountWidth, arcWidth, labelWidth, contentPlace, labelsColumn, labelsSize, numberWidth, stateEnd, stateWidth, weightColumn, labelSize}
-use Rattle.table.specs.Arcs.{firstLabel}
+use Rattle.table.specs.Arcs.{labelsStart}
 use Rattle.table.specs.Region.{splice}
 use Rattle.table.specs.Endian.{toLe}
 use Rattle.table.specs.Records.{optionOf, stateBytes}
@@ -144,7 +144,7 @@ module _ (tapes : ℕ) (x : List ℕ) (h : length x ≡ arcWidth + tapes * label
   labels-length = length-recoded labelOfColumns labelWidth labelSize label-sized tapes (drop labelsColumn x) (rw (length-drop labelsColumn x) (omega arith))
 
   -- the numbers, then the labels from a place on, which is that of the first label
-  pub arc-stored : (at place : ℕ) (xs us vs ws : List ℕ) → place ≡ firstLabel at → tapes ≤ 8 → at + arcSize ≤ length xs → us ≡ splice at (numberBytes x) xs
+  pub arc-stored : (at place : ℕ) (xs us vs ws : List ℕ) → place ≡ labelsStart at → tapes ≤ 8 → at + arcSize ≤ length xs → us ≡ splice at (numberBytes x) xs
       → vs ≡ splice place noLabels us → ws ≡ splice place (recoded labelOfColumns labelWidth tapes (take (length x - labelsColumn) (drop labelsColumn x))) vs
       → ws ≡ splice at (arcOfLine tapes x) xs
   unfolding arcOfLine numberBytes
@@ -154,9 +154,9 @@ module _ (tapes : ℕ) (x : List ℕ) (h : length x ≡ arcWidth + tapes * label
       let r = recoded labelOfColumns labelWidth tapes (drop labelsColumn x) in
       let u : length us ≡ length xs = ap length e ∙ length-splice at (numberBytes x) xs (omega arith) in
       let d : take (length x - labelsColumn) (drop labelsColumn x) ≡ drop labelsColumn x = take-all (length x - labelsColumn) (drop labelsColumn x) (rw (length-drop labelsColumn x) (omega arith)) in
-      let w : ws ≡ splice (firstLabel at) (r ++ zeros ((8 - tapes) * labelSize)) us = labels-over (firstLabel at) tapes r us vs ws labels-length t (omega arith) p (q ∙ ap (λ (z : List ℕ). splice (firstLabel at) (recoded labelOfColumns labelWidth tapes z) vs) d) in
+      let w : ws ≡ splice (labelsStart at) (r ++ zeros ((8 - tapes) * labelSize)) us = labels-over (labelsStart at) tapes r us vs ws labels-length t (omega arith) p (q ∙ ap (λ (z : List ℕ). splice (labelsStart at) (recoded labelOfColumns labelWidth tapes z) vs) d) in
       let m : length (r ++ zeros ((8 - tapes) * labelSize)) ≡ labelsSize = length-append r (zeros ((8 - tapes) * labelSize)) ∙ rw (labels-length, length-replicate) (omega arith) in
-      splice-behind at (firstLabel at) (numberBytes x) (r ++ zeros ((8 - tapes) * labelSize)) xs us ws e w refl (omega arith)
+      splice-behind at (labelsStart at) (numberBytes x) (r ++ zeros ((8 - tapes) * labelSize)) xs us ws e w refl (omega arith)
 
   -- the size of an arc's record
   pub arc-sized : tapes ≤ 8 → length (arcOfLine tapes x) ≡ arcSize

@@ -1,5 +1,5 @@
 // The lines of a text that was judged, stored as the records of a table. Nothing of them is judged again.
-use table::arc::first_label;
+use table::arc::labels_start;
 use table::arc::store_arc_weight;
 use table::arc::store_ends;
 use table::bytes::copy_into;
@@ -116,7 +116,7 @@ fn store_arc_line(line: &[u8], tapes: usize, arcs: &mut [u8], at: usize)
     ensures { λ _. ⌜ now (arcs .exit) ≡ splice at (arcOfLine tapes (now (line .entry))) (now (arcs .entry)) ⌝ }
 {
     store_numbers(line, arcs, at);
-    let labels = first_label(at);
+    let labels = labels_start(at);
     store_no_labels(arcs, labels);
     store_labels(&line[LABELS_COLUMN..], tapes, arcs, labels);
 }

@@ -8,16 +8,16 @@ use Rattle.lookup_labels.proofs.number_arc.Reads as reads
 use Rattle.lookup_labels.proofs.number_arc.Lts as lts
 use Rattle.search_chains.proofs.bucket_of.Reads as bucket-of-reads
 use Rattle.search_chains.proofs.hash_words.Reads as hash-words-reads
-use Rattle.table.proofs.arc.first_label.Reads as first-label-reads
+use Rattle.table.proofs.arc.labels_start.Reads as labels-start-reads
 use Rattle.lookup_labels.proofs.lesser.Reads as lesser-reads
 use Rattle.lookup_labels.proofs.number_of.Reads as number-of-reads
 use Rattle.lookup_labels.proofs.wide.Reads as wide-reads
 
-mul-first-label : tie.Need-mul-first-label
-mul-first-label c = search needs
+mul-labels-start : tie.Need-mul-labels-start
+mul-labels-start c = search needs
 
-first-label-requires : tie.Need-first-label-requires
-first-label-requires c κs = search needs
+labels-start-requires : tie.Need-labels-start-requires
+labels-start-requires c κs = search needs
 
 hash-words-requires : tie.Need-hash-words-requires
 hash-words-requires c κs = search needs
@@ -72,8 +72,8 @@ pub number-arc-spec : {M : Type 1} → statement M
 number-arc-spec =
     tie.close
     (tie.spec
-    mul-first-label
-    first-label-requires
+    mul-labels-start
+    labels-start-requires
     hash-words-requires
     bucket-of-requires
     mul-wide

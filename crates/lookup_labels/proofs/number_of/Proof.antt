@@ -7,7 +7,7 @@ use Rattle.lookup_labels.proofs.number_of.Tie as tie
 use Rattle.lookup_labels.proofs.number_of.Reads as reads
 use Rattle.lookup_labels.proofs.number_of.Lts as lts
 use Rattle.lookup_labels.proofs.same_words.Reads as same-words-reads
-use Rattle.table.proofs.arc.first_label.Reads as first-label-reads
+use Rattle.table.proofs.arc.labels_start.Reads as labels-start-reads
 
 cast-result : tie.Need-cast-result
 cast-result c = search needs
@@ -15,17 +15,17 @@ cast-result c = search needs
 returns : tie.Need-returns
 returns c = λ small. (refl, λ before. absurd (omega (arith, before, c .if1 .taken)))
 
-mul-first-label : tie.Need-mul-first-label
-mul-first-label c = search needs
+mul-labels-start : tie.Need-mul-labels-start
+mul-labels-start c = search needs
 
-first-label-requires : tie.Need-first-label-requires
-first-label-requires c κs = search needs
+labels-start-requires : tie.Need-labels-start-requires
+labels-start-requires c κs = search needs
 
-mul-first-label-2 : tie.Need-mul-first-label-2
-mul-first-label-2 c = search needs
+mul-labels-start-2 : tie.Need-mul-labels-start-2
+mul-labels-start-2 c = search needs
 
-first-label-requires-2 : tie.Need-first-label-requires-2
-first-label-requires-2 c κs = search needs
+labels-start-requires-2 : tie.Need-labels-start-requires-2
+labels-start-requires-2 c κs = search needs
 
 same-words-requires : tie.Need-same-words-requires
 same-words-requires c κs = search needs
@@ -35,8 +35,8 @@ cast-result-2 c = search needs
 
 returns-2 : tie.Need-returns-2
 returns-2 c =
-    let d = c .before .before .before .first-label .ensures in
-    let e = c .before .before .first-label2 .ensures in
+    let d = c .before .before .before .labels-start .ensures in
+    let e = c .before .before .labels-start2 .ensures in
     λ small. (refl, λ before. rw (← d, ← e) (c .before .same-words .ensures (c .if2 .taken)))
 
 returns-3 : tie.Need-returns-3
@@ -48,10 +48,10 @@ number-of-spec =
     (tie.spec
     cast-result
     returns
-    mul-first-label
-    first-label-requires
-    mul-first-label-2
-    first-label-requires-2
+    mul-labels-start
+    labels-start-requires
+    mul-labels-start-2
+    labels-start-requires-2
     same-words-requires
     cast-result-2
     returns-2

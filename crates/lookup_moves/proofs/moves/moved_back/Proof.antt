@@ -13,23 +13,23 @@ use Rattle.lookup_moves.proofs.moves.moved_back.Reads as reads
 use Rattle.lookup_moves.proofs.moves.moved_back.Lts as lts
 use Rattle.lookup_moves.proofs.moves.move_tape.Reads as move-tape-reads
 use Rattle.automata.specs.Layout.{labelSize}
-use Rattle.table.specs.Arcs.{firstLabel}
-use Rattle.table.proofs.arc.first_label.Reads as first-label-reads
+use Rattle.table.specs.Arcs.{labelsStart}
+use Rattle.table.proofs.arc.labels_start.Reads as labels-start-reads
 
 abbrev Inv-loop : tie.InvT-loop
 Inv-loop arcs at tapes text starts positions spans total₀ from₀ h₀ left₀ total from h left =
-    (h + left ≡ tapes) × (from ≡ firstLabel at + labelSize * h) × (total ≤ h * 2549158503125000)
-    × (movesFrom left h from total arcs text (spotWith starts positions spans 0 0) ≡ movesFrom tapes 0 (firstLabel at) 0 arcs text (spotWith starts positions spans 0 0))
+    (h + left ≡ tapes) × (from ≡ labelsStart at + labelSize * h) × (total ≤ h * 2549158503125000)
+    × (movesFrom left h from total arcs text (spotWith starts positions spans 0 0) ≡ movesFrom tapes 0 (labelsStart at) 0 arcs text (spotWith starts positions spans 0 0))
 
 abbrev μ-loop : tie.MeasureT-loop
 μ-loop arcs at tapes text starts positions spans total₀ from₀ h₀ left₀ total from h left = left
 
-first-label-requires : tie.Need-first-label-requires Inv-loop μ-loop
-first-label-requires c κs = omega (arith, c .before .before .before .before .before .pre .0 .lent)
+labels-start-requires : tie.Need-labels-start-requires Inv-loop μ-loop
+labels-start-requires c κs = omega (arith, c .before .before .before .before .before .pre .0 .lent)
 
 loop-holds : tie.Need-loop-holds Inv-loop μ-loop
 loop-holds c =
-    let f = c .first-label .ensures in
+    let f = c .labels-start .ensures in
     (search needs, omega (arith, f), omega arith, rw f refl)
 
 mul-move-tape : tie.Need-mul-move-tape Inv-loop μ-loop
@@ -119,7 +119,7 @@ moved-back-spec =
     (tie.spec
     Inv-loop
     μ-loop
-    first-label-requires
+    labels-start-requires
     loop-holds
     mul-move-tape
     shared-slice-read-move-tape

@@ -10,25 +10,25 @@ use Rattle.path_search.proofs.tight.shift_of.Tie as tie
 use Rattle.path_search.proofs.tight.shift_of.Reads as reads
 use Rattle.path_search.proofs.tight.shift_of.Lts as lts
 use Rattle.automata.specs.Layout.{arcSize, labelSize}
-use Rattle.table.specs.Arcs.{firstLabel}
-use Rattle.table.proofs.arc.first_label.Reads as first-label-reads
+use Rattle.table.specs.Arcs.{labelsStart}
+use Rattle.table.proofs.arc.labels_start.Reads as labels-start-reads
 
 abbrev Inv-loop : tie.InvT-loop
 Inv-loop counts arcs e behind shift₀ at₀ h₀ shift at h =
-    (h ≤ counts .tapes) × (at ≡ firstLabel (arcSize * e) + labelSize * h) × (shift ≤ h * 2549158503125000)
-    × (shift + shiftBy (counts .tapes - h) h at arcs behind ≡ shiftBy (counts .tapes) 0 (firstLabel (arcSize * e)) arcs behind)
+    (h ≤ counts .tapes) × (at ≡ labelsStart (arcSize * e) + labelSize * h) × (shift ≤ h * 2549158503125000)
+    × (shift + shiftBy (counts .tapes - h) h at arcs behind ≡ shiftBy (counts .tapes) 0 (labelsStart (arcSize * e)) arcs behind)
 
 abbrev μ-loop : tie.MeasureT-loop
 μ-loop counts arcs e behind shift₀ at₀ h₀ shift at h = counts .tapes - h
 
-mul-first-label : tie.Need-mul-first-label Inv-loop μ-loop
-mul-first-label c = search needs
+mul-labels-start : tie.Need-mul-labels-start Inv-loop μ-loop
+mul-labels-start c = search needs
 
-first-label-requires : tie.Need-first-label-requires Inv-loop μ-loop
-first-label-requires c κs = omega (arith, c .before .before .pre .0 .lent)
+labels-start-requires : tie.Need-labels-start-requires Inv-loop μ-loop
+labels-start-requires c κs = omega (arith, c .before .before .pre .0 .lent)
 
 loop-holds : tie.Need-loop-holds Inv-loop μ-loop
-loop-holds c = let f = c .first-label .ensures in (search needs, omega (arith, f), omega arith, rw f (shift-start _ _ _ _ _))
+loop-holds c = let f = c .labels-start .ensures in (search needs, omega (arith, f), omega arith, rw f (shift-start _ _ _ _ _))
 
 shared-slice-read-shift : tie.Need-shared-slice-read-shift Inv-loop μ-loop
 shared-slice-read-shift c = search needs
@@ -96,8 +96,8 @@ shift-of-spec =
     (tie.spec
     Inv-loop
     μ-loop
-    mul-first-label
-    first-label-requires
+    mul-labels-start
+    labels-start-requires
     loop-holds
     shared-slice-read-shift
     cast-shift

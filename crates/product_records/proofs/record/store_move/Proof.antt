@@ -6,7 +6,7 @@ use Rattle.product_records.proofs.record.store_move.Tie as tie
 use Rattle.product_records.proofs.record.store_move.Reads as reads
 use Rattle.product_records.proofs.record.store_move.Lts as lts
 use Rattle.product_records.proofs.record.store_front.Reads as store-front-reads
-use Rattle.table.proofs.arc.first_label.Reads as first-label-reads
+use Rattle.table.proofs.arc.labels_start.Reads as labels-start-reads
 use Rattle.product_records.proofs.record.store_labels.Reads as store-labels-reads
 use Rattle.product_records.proofs.sum.move_weight.Reads as move-weight-reads
 
@@ -16,8 +16,8 @@ move-weight-requires c κs = search needs
 store-front-requires : tie.Need-store-front-requires
 store-front-requires c κs = search needs
 
-first-label-requires : tie.Need-first-label-requires
-first-label-requires c κs = search needs
+labels-start-requires : tie.Need-labels-start-requires
+labels-start-requires c κs = search needs
 
 store-labels-requires : tie.Need-store-labels-requires
 store-labels-requires c κs = search needs
@@ -28,7 +28,7 @@ same-length c = search needs
 returns : tie.Need-returns
 returns c =
     let s = c .before .before .before .before .before .before .before .before .before .before .before .before .before .before .before .before in
-    let f = c .before .before .before .first-label .ensures in
+    let f = c .before .before .before .labels-start .ensures in
     let l = c .before .before .store-labels .ensures in
     move-stored _ _ _ _ _ _ _ _ _ _ _ _ _ (s .pre .2) (c .before .before .before .before .before .before .before .before .before .move-weight .ensures) (c .before .before .before .before .before .before .before .store-front .ensures) (rw (← f) (l .0)) (l .1)
 
@@ -38,7 +38,7 @@ store-move-spec =
     (tie.spec
     move-weight-requires
     store-front-requires
-    first-label-requires
+    labels-start-requires
     store-labels-requires
     same-length
     returns)

@@ -11,14 +11,14 @@ use Rattle.product_records.proofs.record.store_side.Tie as tie
 use Rattle.product_records.proofs.record.store_side.Reads as reads
 use Rattle.product_records.proofs.record.store_side.Lts as lts
 use Rattle.product_records.proofs.record.copy_label.Reads as copy-label-reads
-use Rattle.table.proofs.arc.first_label.Reads as first-label-reads
+use Rattle.table.proofs.arc.labels_start.Reads as labels-start-reads
 use Rattle.automata.specs.Layout.{arcSize, labelSize}
-use Rattle.table.specs.Arcs.{firstLabel}
+use Rattle.table.specs.Arcs.{labelsStart}
 
 abbrev Inv-loop : tie.InvT-loop
 Inv-loop arcs arc tapes out₀ to from₀ at₀ left₀ out from at left =
     (from + labelSize * left ≤ length arcs) × (at + labelSize * left ≤ length out) × (length out ≡ length out₀)
-    × (splice at (part from (labelSize * left) arcs) out ≡ splice to (part (firstLabel (arcSize * arc)) (labelSize * tapes) arcs) out₀)
+    × (splice at (part from (labelSize * left) arcs) out ≡ splice to (part (labelsStart (arcSize * arc)) (labelSize * tapes) arcs) out₀)
 
 abbrev μ-loop : tie.MeasureT-loop
 μ-loop arcs arc tapes out₀ to from₀ at₀ left₀ out from at left = left
@@ -26,15 +26,15 @@ abbrev μ-loop : tie.MeasureT-loop
 returns : tie.Need-returns Inv-loop μ-loop
 returns c = side-ended _ _ _ _ _ (c .if1 .taken)
 
-mul-first-label : tie.Need-mul-first-label Inv-loop μ-loop
-mul-first-label c = search needs
+mul-labels-start : tie.Need-mul-labels-start Inv-loop μ-loop
+mul-labels-start c = search needs
 
-first-label-requires : tie.Need-first-label-requires Inv-loop μ-loop
-first-label-requires c κs = search needs
+labels-start-requires : tie.Need-labels-start-requires Inv-loop μ-loop
+labels-start-requires c κs = search needs
 
 loop-holds : tie.Need-loop-holds Inv-loop μ-loop
 loop-holds c =
-    let f = c .first-label .ensures in
+    let f = c .labels-start .ensures in
     let h = c .before .before .before .before .pre .0 (c .before .if1 .left) in
     (omega (arith, f, h), search needs, refl, rw f refl)
 
@@ -72,8 +72,8 @@ store-side-spec =
     Inv-loop
     μ-loop
     returns
-    mul-first-label
-    first-label-requires
+    mul-labels-start
+    labels-start-requires
     loop-holds
     copy-label-requires
     add-from

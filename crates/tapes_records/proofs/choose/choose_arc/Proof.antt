@@ -6,14 +6,14 @@ use Rattle.tapes_records.proofs.choose.choose_arc.Tie as tie
 use Rattle.tapes_records.proofs.choose.choose_arc.Reads as reads
 use Rattle.tapes_records.proofs.choose.choose_arc.Lts as lts
 use Rattle.tapes_records.proofs.choose.labels_at.Reads as labels-at-reads
-use Rattle.table.proofs.arc.first_label.Reads as first-label-reads
+use Rattle.table.proofs.arc.labels_start.Reads as labels-start-reads
 use Rattle.table.proofs.bytes.copy_into.Reads as copy-into-reads
 
 labels-at-requires : tie.Need-labels-at-requires
 labels-at-requires c κs = search needs
 
-first-label-requires : tie.Need-first-label-requires
-first-label-requires c κs = search needs
+labels-start-requires : tie.Need-labels-start-requires
+labels-start-requires c κs = search needs
 
 slice-aggregate-copy-into : tie.Need-slice-aggregate-copy-into
 slice-aggregate-copy-into c = search needs
@@ -27,7 +27,7 @@ same-length c = search needs
 returns : tie.Need-returns
 returns c =
     let s = c .before .before .before .before .before .before .before .before .before .before in
-    let f = c .before .before .before .before .first-label .ensures in
+    let f = c .before .before .before .before .labels-start .ensures in
     arc-chosen _ _ _ _ (s .args .at) (s .pre .1) (chosen-few _ _ (s .pre .0 .few)) (c .before .before .before .before .before .before .labels-at .ensures) (rw (← f) (c .before .before .copy-into .ensures))
 
 pub choose-arc-spec : {M : Type 1} → statement M
@@ -35,7 +35,7 @@ choose-arc-spec =
     tie.close
     (tie.spec
     labels-at-requires
-    first-label-requires
+    labels-start-requires
     slice-aggregate-copy-into
     copy-into-requires
     same-length

@@ -7,10 +7,10 @@ use Rattle.tapes_records.proofs.choose.labels_at.Tie as tie
 use Rattle.tapes_records.proofs.choose.labels_at.Reads as reads
 use Rattle.tapes_records.proofs.choose.labels_at.Lts as lts
 use Rattle.tapes_records.proofs.choose.copy_labels.Reads as copy-labels-reads
-use Rattle.table.proofs.arc.first_label.Reads as first-label-reads
+use Rattle.table.proofs.arc.labels_start.Reads as labels-start-reads
 
-first-label-requires : tie.Need-first-label-requires
-first-label-requires c κs = search needs
+labels-start-requires : tie.Need-labels-start-requires
+labels-start-requires c κs = search needs
 
 add-copy-labels : tie.Need-add-copy-labels
 add-copy-labels c = search needs
@@ -33,13 +33,13 @@ copy-labels-requires c κs = search needs
 returns : tie.Need-returns
 returns c =
     let s = c .before .before .before .before .before .before .before in
-    labels-found _ (now (s .args .arcs)) _ _ _ (c .before .before .before .before .first-label .ensures) (c .before .copy-labels .ensures)
+    labels-found _ (now (s .args .arcs)) _ _ _ (c .before .before .before .before .labels-start .ensures) (c .before .copy-labels .ensures)
 
 pub labels-at-spec : {M : Type 1} → statement M
 labels-at-spec =
     tie.close
     (tie.spec
-    first-label-requires
+    labels-start-requires
     add-copy-labels
     sub-copy-labels
     part-copy-labels-start

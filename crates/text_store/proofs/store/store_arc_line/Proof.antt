@@ -6,15 +6,15 @@ use Rattle.text_store.proofs.store.store_arc_line.Tie as tie
 use Rattle.text_store.proofs.store.store_arc_line.Reads as reads
 use Rattle.text_store.proofs.store.store_arc_line.Lts as lts
 use Rattle.text_store.proofs.store.store_labels.Reads as store-labels-reads
-use Rattle.table.proofs.arc.first_label.Reads as first-label-reads
+use Rattle.table.proofs.arc.labels_start.Reads as labels-start-reads
 use Rattle.text_store.proofs.store.store_no_labels.Reads as store-no-labels-reads
 use Rattle.text_store.proofs.store.store_numbers.Reads as store-numbers-reads
 
 store-numbers-requires : tie.Need-store-numbers-requires
 store-numbers-requires c κs = search needs
 
-first-label-requires : tie.Need-first-label-requires
-first-label-requires c κs = search needs
+labels-start-requires : tie.Need-labels-start-requires
+labels-start-requires c κs = search needs
 
 store-no-labels-requires : tie.Need-store-no-labels-requires
 store-no-labels-requires c κs = search needs
@@ -37,7 +37,7 @@ same-length c = search needs
 returns : tie.Need-returns
 returns c =
     let s = c .before .before .before .before .before .before .before .before .before .before .before .before .before .before .before .before in
-    let f = c .before .before .before .before .before .before .before .before .before .first-label .ensures in
+    let f = c .before .before .before .before .before .before .before .before .before .labels-start .ensures in
     arc-stored (s .args .tapes) _ (s .pre .0) (s .args .at) _ _ _ _ _ f (s .pre .1 .0) (s .pre .1 .1) (c .before .before .before .before .before .before .before .before .before .before .before .before .store-numbers .ensures) (c .before .before .before .before .before .before .before .store-no-labels .ensures) (c .before .before .store-labels .ensures)
 
 pub store-arc-line-spec : {M : Type 1} → statement M
@@ -45,7 +45,7 @@ store-arc-line-spec =
     tie.close
     (tie.spec
     store-numbers-requires
-    first-label-requires
+    labels-start-requires
     store-no-labels-requires
     sub-store-labels
     part-store-labels-start
