@@ -42,7 +42,8 @@ pub const OUTPUT_LENT: usize = HEADER_WIDTH
 
 // The text of a table in the space that the program lends, or the line of its refusal.
 pub fn print_table(counts: Counts, states: &[u8], arcs: &[u8], output: &mut [u8]) -> usize
-    requires { ⌜ ((length (now states) ≤ statesLent) × (length (now arcs) ≤ arcsLent)) × (outputLent ≤ length (now output)) ⌝ }
+    requires { ⌜ ((length (now states) ≤ statesLent) × (length (now arcs) ≤ arcsLent))
+        × (outputLent ≤ length (now output)) ⌝ }
     ensures { λ n. ⌜ Wrote (writeOutput (decodeTable (lent counts (now (states .entry)) (now (arcs .entry)))))
         (now (output .entry)) (now (output .exit)) n ⌝ }
 {

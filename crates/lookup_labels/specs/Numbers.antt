@@ -1,7 +1,7 @@
 -- Numbers for the labels of arcs.
 use mathlib.Core.Path.{_≡_}
 use mathlib.Core.List.{List}
-use Prim.Native.Nat.{ℕ, _+_, _*_, _<_, min}
+use Prim.Native.Nat.{ℕ, _*_, _<_, min}
 use lib.ListN.{length, getD, set}
 use Rattle.table.specs.Region.{part}
 use Rattle.table.specs.Arcs.{labelsStart}
