@@ -4,7 +4,7 @@
 usage: python3 tools/respell.py [--edits]     at the top of the repository; once
        --edits: also in must-fail/*.edit and tests/edits/*/*.edit, whose lines must fit the text of the crates
 
-A name in camel case that begins with a small letter gets underscores. In a name with a dash, the dash stays where both sides
+A name in camel case that begins with a small letter gets underscores, a variable too. In a name with a dash, the dash stays where both sides
 are names of definitions, and is an underscore elsewhere, since a plain word is added so. Types, modules, operators, the names
 of functions of src/ and the names that Rattle makes of them stay. A name that a file has from a library stays in that file.
 A field gets underscores alone. Where a lemma would get the name of a definition, or of another lemma, it gets _lem behind it;
@@ -19,8 +19,9 @@ import sys
 # fields that would fall together with a definition that stands beside them, each with the name that it gets instead
 OTHER = {"state-cap": "state_cap_is", "arc-cap": "arc_cap_is", "limits-fit": "within_limits"}
 
+MIXED = re.compile(r"(?<![\w])[a-z][a-z0-9_]*(?:[A-Z][a-z0-9_]+)+(?!\w)")
 WORD = r"[^\s(){}\[\].;,@\"«»λ]+"
-DECLARED = re.compile(r"^(?:  )?(?:(?:abbrev|unfoldable|opaque) )*(?:pub )?(?:(?:abbrev|unfoldable) )*([^\s(){}\[\].;,@\"«»]+)(?: \{[^{}\n]*\})* :(?= |$)", re.M)
+DECLARED = re.compile(r"^ *(?:(?:abbrev|unfoldable|opaque) )*(?:pub )?(?:(?:abbrev|unfoldable) )*([^\s(){}\[\].;,@\"«»]+)(?: \{[^{}\n]*\})* :(?= |$)", re.M)
 RECORD = re.compile(r"^( *)(?:pub )?record .*\n(?:(?:\1  .*)?\n)*", re.M)
 FIELD = re.compile(r"^ +pub ([^\s(){}\[\].;,@\"«»]+) :(?= |$)", re.M)
 TYPE = re.compile(r"^(?:pub )?(?:data|record) (\S+)", re.M)
@@ -43,7 +44,7 @@ def read(path):
 
 def in_function(path):
     """Whether the file belongs to the proof of one function: a Proof.antt, Answers.antt or Invariants.antt."""
-    return os.path.basename(path) in ("Proof.antt", "Answers.antt", "Invariants.antt")
+    return "/proofs/" in path and os.path.basename(path) in ("Proof.antt", "Answers.antt", "Invariants.antt")
 
 
 def camel(name):
@@ -147,6 +148,8 @@ def turned(path, text, table, fields, alone):
 
     def one(match):
         word = match[0]
+        if word not in table and word not in lent and MIXED.search(word) and not word.startswith("the_"):
+            return MIXED.sub(lambda m: snake(m[0]), word)
         if word not in table or word in lent:
             return word
         before, after = text[: match.start()], text[match.end() :]

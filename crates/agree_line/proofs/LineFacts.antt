@@ -19,7 +19,7 @@ use Rattle.automata.specs.Layout.{newline, entry_width, pairs_column, pair_width
 use Rattle.table.specs.declared.answer.Refusal.{Refusal}
 use Rattle.table.specs.declared.answer.Judged.{Judged}
 use Rattle.table.specs.declared.answer.Judged.TheVariants as judged
-use Rattle.table.specs.Answers.{refusalNumber, judgedAs}
+use Rattle.table.specs.Answers.{refusal_number, judged_as}
 use Rattle.table.proofs.AnswerFacts.{both_judged, forget-ok}
 use Rattle.table.proofs.SequenceFacts.{first_short, first_value}
 use Rattle.text_columns.specs.declared.decimal.Number.{Number}
@@ -39,14 +39,14 @@ module _ (x : List ℕ) where
 
   module _ (g : length x ≤ 65536) where
     -- an input too short for a first line
-    pub count-short : length x < shortest_line → refused 1 ≡ count_read x
+    pub count_short : length x < shortest_line → refused 1 ≡ count_read x
     unfolding count_read
-    count-short h = rw (le-leb (length x) 65536 g, lt-leb shortest_line (length x) h)
+    count_short h = rw (le-leb (length x) 65536 g, lt-leb shortest_line (length x) h)
 
     -- otherwise the first three columns
-    pub count-value : (r : Number) → shortest_line ≤ length x → number_as r ≡ read_decimal (take entry_width x) → number_as r ≡ count_read x
+    pub count_value : (r : Number) → shortest_line ≤ length x → number_as r ≡ read_decimal (take entry_width x) → number_as r ≡ count_read x
     unfolding count_read
-    count-value r h e = rw (le-leb (length x) 65536 g, le-leb shortest_line (length x) h) (e ∙ decimal_at entry_width (take entry_width x) (length-take-le entry_width x (omega arith)))
+    count_value r h e = rw (le-leb (length x) 65536 g, le-leb shortest_line (length x) h) (e ∙ decimal_at entry_width (take entry_width x) (length-take-le entry_width x (omega arith)))
 
   -- a number of pairs fits its columns, and then there are the bytes of the shortest line
   pub count_known : (n : ℕ) → count_read x ≡ ok n → (n < 1000) × (shortest_line ≤ length x)
@@ -65,16 +65,16 @@ pub line_is : (n : ℕ) (x : List ℕ) → length x ≡ 1 + n * pair_width
 unfolding line_read pairs_read
 line_is n x l = rw (line_end_is (n * pair_width) x (omega arith))
 
-module _ (n : ℕ) (x : List ℕ) (l : length x ≡ 1 + n * pair_width) (jp je j : Judged) (pp : judgedAs jp ≡ forget (pairs_read n (take (n * pair_width - 0) x)))
-    (pe : judgedAs je ≡ require (eqb (get_or x (n * pair_width) 0) newline) form) (q : judgedAs j ≡ forget (beside (judgedAs jp) (judgedAs je))) where
+module _ (n : ℕ) (x : List ℕ) (l : length x ≡ 1 + n * pair_width) (jp je j : Judged) (pp : judged_as jp ≡ forget (pairs_read n (take (n * pair_width - 0) x)))
+    (pe : judged_as je ≡ require (eqb (get_or x (n * pair_width) 0) newline) form) (q : judged_as j ≡ forget (beside (judged_as jp) (judged_as je))) where
   -- the parts judged side by side are the line judged
-  pub line_judged : judgedAs j ≡ forget (line_read n x)
+  pub line_judged : judged_as j ≡ forget (line_read n x)
   line_judged =
       let B = pairs_read n (take (n * pair_width) x) in
       let E = require (eqb (get_or x (n * pair_width) 0) newline) form in
       let w : n * pair_width - 0 ≡ n * pair_width = omega arith in
-      let b : judgedAs jp ≡ forget B = pp ∙ ap (λ (k : ℕ). forget (pairs_read n (take k x))) w in
-      both_judged (judgedAs jp) (judgedAs je) (judgedAs j) B E b (pe ∙ sym (forget_unit E)) q
+      let b : judged_as jp ≡ forget B = pp ∙ ap (λ (k : ℕ). forget (pairs_read n (take k x))) w in
+      both_judged (judged_as jp) (judged_as je) (judged_as j) B E b (pe ∙ sym (forget_unit E)) q
       ∙ sym (ap forget (line_is n x l) ∙ forget_map (beside B E) (λ p. p.0))
 
 -- ---- the rest of a line of n pairs
@@ -109,28 +109,28 @@ module _ (n : ℕ) (x : List ℕ) (h : shortest_line ≤ length x) where
         let b = behind in
         ap (λ (m : ℕ). forget ((pair_line n).read (take m (drop pairs_column x)))) (sym w) ∙ first_value (pair_line n) (drop pairs_column x) (omega arith)
 
-    module _ (j : Judged) (q : judgedAs j ≡ forget (line_read n (take (shortest_line + n * pair_width - pairs_column) (drop pairs_column x)))) where
-      judged-first : judgedAs j ≡ forget (read_first (pair_line n) (drop pairs_column x))
-      judged-first =
+    module _ (j : Judged) (q : judged_as j ≡ forget (line_read n (take (shortest_line + n * pair_width - pairs_column) (drop pairs_column x)))) where
+      judged_first : judged_as j ≡ forget (read_first (pair_line n) (drop pairs_column x))
+      judged_first =
           let w : shortest_line + n * pair_width - pairs_column ≡ 1 + n * pair_width = omega arith in
           q ∙ ap (λ (m : ℕ). forget (line_read n (take m (drop pairs_column x)))) w ∙ line_first
 
       -- a line that is refused
-      pub rest-refused : (r : Refusal) → j ≡ judged.Refused r → refused (refusalNumber r) ≡ rest_read n x
+      pub rest_refused : (r : Refusal) → j ≡ judged.Refused r → refused (refusal_number r) ≡ rest_read n x
       unfolding rest_read
-      rest-refused r f = refused_map (read_first (pair_line n) (drop pairs_column x)) (to_parts n) (refusalNumber r) (sym judged-first ∙ ap judgedAs f)
+      rest_refused r f = refused_map (read_first (pair_line n) (drop pairs_column x)) (to_parts n) (refusal_number r) (sym judged_first ∙ ap judged_as f)
 
       -- a line that is read
-      pub rest-fine : j ≡ judged.Fine → ok (n, shortest_line + n * pair_width) ≡ rest_read n x
+      pub rest_fine : j ≡ judged.Fine → ok (n, shortest_line + n * pair_width) ≡ rest_read n x
       unfolding rest_read
-      rest-fine f =
-          let g = forget-ok (read_first (pair_line n) (drop pairs_column x)) (sym judged-first ∙ ap judgedAs f) in
+      rest_fine f =
+          let g = forget-ok (read_first (pair_line n) (drop pairs_column x)) (sym judged_first ∙ ap judged_as f) in
           sym (ap (λ (i : Answer (List TapePair × List ℕ)). i >>= λ a. ok (to_parts n a)) g.1)
 
 -- ---- the first line
 module _ (x : List ℕ) (r : Number) (e : number_as r ≡ count_read x) where
   -- a number of pairs that is refused decides
-  pub parts_refused : (k : Refusal) → r ≡ Refused k → refused (refusalNumber k) ≡ parts_read x
+  pub parts_refused : (k : Refusal) → r ≡ Refused k → refused (refusal_number k) ≡ parts_read x
   unfolding parts_read
   parts_refused k f = rw (← e, f)
 

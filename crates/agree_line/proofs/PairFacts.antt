@@ -11,7 +11,7 @@ use Rattle.automata.specs.Decimal.{decimal}
 use Rattle.automata.specs.AgreeText.{pair_columns}
 use Rattle.automata.proofs.AnswerFacts.{bind_ok, beside-ok, forget_map}
 use Rattle.table.specs.declared.answer.Judged.{Judged}
-use Rattle.table.specs.Answers.{judgedAs}
+use Rattle.table.specs.Answers.{judged_as}
 use Rattle.table.specs.Region.{splice}
 use Rattle.table.proofs.AnswerFacts.{beside-next, beside_first, beside-last, both_judged}
 use Rattle.table.proofs.RegionFacts.{two_stores, splice_snoc}
@@ -61,16 +61,16 @@ pair_is x l =
 
 module _ (x : List ℕ) (l : length x ≡ pair_width) (F S L : Number) (jf js jl jb j : Judged)
     (pf : number_as F ≡ read_decimal (first_column x)) (ps : number_as S ≡ read_decimal (second_column_lem x)) (pl : number_as L ≡ read_decimal (limit_column_lem x))
-    (qf : judgedAs jf ≡ forget (number_as F)) (qs : judgedAs js ≡ forget (number_as S)) (ql : judgedAs jl ≡ forget (number_as L))
-    (qb : judgedAs jb ≡ forget (beside (judgedAs js) (judgedAs jl))) (qj : judgedAs j ≡ forget (beside (judgedAs jf) (judgedAs jb))) where
+    (qf : judged_as jf ≡ forget (number_as F)) (qs : judged_as js ≡ forget (number_as S)) (ql : judged_as jl ≡ forget (number_as L))
+    (qb : judged_as jb ≡ forget (beside (judged_as js) (judged_as jl))) (qj : judged_as j ≡ forget (beside (judged_as jf) (judged_as jb))) where
   -- three numbers judged side by side are the pair judged
-  pub pair_judged : judgedAs j ≡ forget (read_pair x)
+  pub pair_judged : judged_as j ≡ forget (read_pair x)
   pair_judged =
       let A = read_decimal (first_column x) in
       let B = read_decimal (second_column_lem x) in
       let C = read_decimal (limit_column_lem x) in
-      let b : judgedAs jb ≡ forget (beside B C) = both_judged (judgedAs js) (judgedAs jl) (judgedAs jb) B C (qs ∙ ap forget ps) (ql ∙ ap forget pl) qb in
-      both_judged (judgedAs jf) (judgedAs jb) (judgedAs j) A (beside B C) (qf ∙ ap forget pf) b qj
+      let b : judged_as jb ≡ forget (beside B C) = both_judged (judged_as js) (judged_as jl) (judged_as jb) B C (qs ∙ ap forget ps) (ql ∙ ap forget pl) qb in
+      both_judged (judged_as jf) (judged_as jb) (judged_as j) A (beside B C) (qf ∙ ap forget pf) b qj
       ∙ sym (ap forget (pair_is x l) ∙ forget_map (beside A (beside B C)) pair_of)
 
 -- ---- pairs, one after the other
@@ -80,20 +80,20 @@ pub pairs_start : (x : List ℕ) (n : ℕ) → forget (beside (ok (tt {0})) (pai
 pairs_start x n = beside_first (pairs_read n x)
 
 -- a turn of the loop over the pairs
-pub pairs_turn : (x : List ℕ) (at left : ℕ) (j k next : Judged) → 0 < left → judgedAs k ≡ forget (read_pair (take (at + pair_width - at) (drop at x)))
-    → judgedAs next ≡ forget (beside (judgedAs j) (judgedAs k))
-    → forget (beside (judgedAs next) (pairs_read (left - 1) (drop (at + pair_width) x))) ≡ forget (beside (judgedAs j) (pairs_read left (drop at x)))
+pub pairs_turn : (x : List ℕ) (at left : ℕ) (j k next : Judged) → 0 < left → judged_as k ≡ forget (read_pair (take (at + pair_width - at) (drop at x)))
+    → judged_as next ≡ forget (beside (judged_as j) (judged_as k))
+    → forget (beside (judged_as next) (pairs_read (left - 1) (drop (at + pair_width) x))) ≡ forget (beside (judged_as j) (pairs_read left (drop at x)))
 unfolding pairs_read read_pair
 pairs_turn x at zero j k next h e f = absurd (omega arith)
 pairs_turn x at (suc left) j k next h e f =
     let s : suc left - 1 ≡ left = omega arith in
     let n : at + pair_width - at ≡ pair_width = omega arith in
-    rw (s, f, e, n, ← drop-drop pair_width at x) (beside-next (judgedAs j) (read_pair (take pair_width (drop at x))) (pairs_read left (drop pair_width (drop at x))) (λ p. p.0 ∷ p.1))
+    rw (s, f, e, n, ← drop-drop pair_width at x) (beside-next (judged_as j) (read_pair (take pair_width (drop at x))) (pairs_read left (drop pair_width (drop at x))) (λ p. p.0 ∷ p.1))
 
 -- behind the last pair
-pub pairs_end : (x : List ℕ) (at left : ℕ) (j : Judged) → left ≡ 0 → judgedAs j ≡ forget (beside (judgedAs j) (pairs_read left (drop at x)))
+pub pairs_end : (x : List ℕ) (at left : ℕ) (j : Judged) → left ≡ 0 → judged_as j ≡ forget (beside (judged_as j) (pairs_read left (drop at x)))
 unfolding pairs_read
-pairs_end x at left j e = rw e (beside-last (judgedAs j) [])
+pairs_end x at left j e = rw e (beside-last (judged_as j) [])
 
 -- ---- what is kept of a pair
 

@@ -7,7 +7,7 @@ use Rattle.automata.specs.Sequence.{read_first}
 use Rattle.automata.specs.Decimal.{decimal}
 use Rattle.automata.specs.Layout.{entry_width, pairs_column, pair_width}
 use Rattle.automata.specs.AgreeText.{input_limit, shortest_line, pair_line}
-use Rattle.table.specs.Answers.{refusalNumber}
+use Rattle.table.specs.Answers.{refusal_number}
 use Rattle.agree_line.specs.declared.line.PairLine.{PairLine}
 use Rattle.agree_line.specs.declared.line.PairLine.TheVariants as line
 
@@ -33,4 +33,4 @@ parts_read x = count_read x >>= λ n. rest_read n x
 -- the parts told, or the refusal
 abbrev pub parts_as : PairLine → Answer (ℕ × ℕ)
 parts_as (line.Line p) = ok (p.count, p.next)
-parts_as (line.Refused k) = refused (refusalNumber k)
+parts_as (line.Refused k) = refused (refusal_number k)

@@ -3,7 +3,7 @@ ghost use Rattle.std.specs.Prelude.{◌≡◌, ◌+◌, ◌*◌, ◌≤◌, ◌<
 ghost use Rattle.automata.specs.AgreeText.{shortest_line};
 ghost use Rattle.automata.specs.Answer.{forget};
 ghost use Rattle.automata.specs.Layout.{pair_width};
-ghost use Rattle.table.specs.Answers.{judgedAs};
+ghost use Rattle.table.specs.Answers.{judged_as};
 ghost use Rattle.text_columns.specs.Columns.{number_as};
 ghost use Rattle.agree_line.specs.LineParts.{count_read, line_read, rest_read, parts_read, parts_as};
 
@@ -43,7 +43,7 @@ fn count_pairs(input: &[u8]) -> Number
 // The line behind the number of pairs: the pairs, the end of the line.
 fn judge_line(line: &[u8], count: usize) -> Judged
     requires { (count < 1000) × (length line.now ≡ 1 + count * pair_width) }
-    ensures { judgedAs result ≡ forget (line_read count line.now) }
+    ensures { judged_as result ≡ forget (line_read count line.now) }
 {
     let end = count * PAIR_WIDTH;
     let pairs = judge_pairs(&line[0..end], count);

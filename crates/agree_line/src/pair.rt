@@ -3,7 +3,7 @@ ghost use Rattle.std.specs.Prelude.{◌≡◌, ◌+◌, ◌*◌, ◌≤◌, leng
 ghost use Rattle.automata.specs.Answer.{forget};
 ghost use Rattle.automata.specs.Layout.{entry_width, pair_width};
 ghost use Rattle.table.specs.Region.{splice};
-ghost use Rattle.table.specs.Answers.{judgedAs};
+ghost use Rattle.table.specs.Answers.{judged_as};
 ghost use Rattle.text_store.specs.Recode.{recoded};
 ghost use Rattle.agree_line.specs.PairBytes.{saturated};
 ghost use Rattle.agree_line.specs.PairColumns.{byte_of_column, read_pair, pairs_read, bytes_of_columns};
@@ -16,7 +16,7 @@ use text_columns::decimal::{judge_number, number_of, read_decimal};
 // The columns of a pair hold three numbers.
 fn judge_pair(columns: &[u8]) -> Judged
     requires { length columns.now ≡ pair_width }
-    ensures { judgedAs result ≡ forget (read_pair columns.now) }
+    ensures { judged_as result ≡ forget (read_pair columns.now) }
 {
     let first = read_decimal(&columns[0..ENTRY_WIDTH]);
     let second = read_decimal(&columns[SECOND_COLUMN..LIMIT_COLUMN]);
@@ -28,7 +28,7 @@ fn judge_pair(columns: &[u8]) -> Judged
 // The columns of so many pairs.
 pub fn judge_pairs(columns: &[u8], count: usize) -> Judged
     requires { length columns.now ≡ count * pair_width }
-    ensures { judgedAs result ≡ forget (pairs_read count columns.now) }
+    ensures { judged_as result ≡ forget (pairs_read count columns.now) }
 {
     let mut judged = Judged::Fine;
     let mut left = count;

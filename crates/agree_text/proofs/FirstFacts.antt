@@ -16,7 +16,7 @@ use Rattle.automata.specs.AgreeText.{input_limit, shortest_line, pair_line, read
 use Rattle.automata.proofs.AnswerFacts.{bind_ok, beside-ok, bind-bind, refused≢ok}
 use Rattle.automata.proofs.SequenceFacts.{first-enough, first-ok}
 use Rattle.automata.specs.Layout.{entry_width, newline, pairs_column, pair_width}
-use Rattle.table.specs.Answers.{refusalNumber}
+use Rattle.table.specs.Answers.{refusal_number}
 use Rattle.table.specs.Region.{splice}
 use Rattle.table.specs.declared.answer.Refusal.{Refusal}
 use Rattle.table.proofs.RegionFacts.{length_splice, take_splice_end}
@@ -149,7 +149,7 @@ told x q e =
 -- a refusal is told as it is
 pub line_refused : (x bytes : List ℕ) (r : PairLine) (k : Refusal) → parts_as r ≡ parts_read x → r ≡ line.Refused k → FirstLine x bytes r
 line_refused x bytes r k e f = subst (FirstLine x bytes) (sym f) (record {
-  answer = sym (first-refused x (refusalNumber k) (sym e ∙ ap parts_as f));
+  answer = sym (first-refused x (refusal_number k) (sym e ∙ ap parts_as f));
   count_fits = omega arith;
   bytes_fit = omega arith;
   next_fits = omega arith;

@@ -32,7 +32,7 @@ use Rattle.table.specs.declared.answer.Refusal.{Refusal}
 use Rattle.table.specs.declared.answer.TableAnswer.{TableAnswer}
 use Rattle.table.specs.declared.answer.TableAnswer.TheVariants as table
 use Rattle.table.specs.declared.answer.Counts.{Counts}
-use Rattle.table.specs.Answers.{refusalNumber, tableAs, lent}
+use Rattle.table.specs.Answers.{refusal_number, table_as, lent}
 use Rattle.pairs.specs.PairBytes.{pairs_of}
 use Rattle.agree_line.specs.declared.line.LineParts.{LineParts}
 use Rattle.agree_line.specs.declared.line.PairLine.{PairLine}
@@ -65,16 +65,16 @@ module _ (m : Memory) (hs : length m.state_bytes ≤ states_lent) (ps : List Tap
   unfolding kept_of
   kept_is = kept_held (decode_table m) refl
 
-  module _ (r : TableAnswer) (states arcs w : List ℕ) (q : built_of (tableAs r) states arcs w ≡ intersect_outcome m ps s work) where
+  module _ (r : TableAnswer) (states arcs w : List ℕ) (q : built_of (table_as r) states arcs w ≡ intersect_outcome m ps s work) where
     -- a refusal is what is kept
-    pub kept-refused : (k : Refusal) → r ≡ table.Refused k → refused (refusalNumber k) ≡ kept_of m ps
+    pub kept_refused : (k : Refusal) → r ≡ table.Refused k → refused (refusal_number k) ≡ kept_of m ps
     unfolding held given
-    kept-refused k f = ap (λ (z : TableAnswer). held (made_of (tableAs z) states arcs)) (sym f) ∙ ap (λ (o : Built). held o.made) q ∙ kept_is
+    kept_refused k f = ap (λ (z : TableAnswer). held (made_of (table_as z) states arcs)) (sym f) ∙ ap (λ (o : Built). held o.made) q ∙ kept_is
 
     -- the table in the slices is what is kept
     pub kept_table : (c : Counts) → r ≡ table.Table c → decode_table (lent c states arcs) ≡ kept_of m ps
     unfolding held given
-    kept_table c f = ap (λ (z : TableAnswer). held (made_of (tableAs z) states arcs)) (sym f) ∙ ap (λ (o : Built). held o.made) q ∙ kept_is
+    kept_table c f = ap (λ (z : TableAnswer). held (made_of (table_as z) states arcs)) (sym f) ∙ ap (λ (o : Built). held o.made) q ∙ kept_is
 
 -- ---- reading
 
@@ -84,18 +84,18 @@ module _ (text : List ℕ) (s : Slices) (room-is : space_of s ≡ room) where
   read_held = held_answer (read_table (space_of s).states (space_of s).arcs text) s (λ A e. (Results.read (space_of s) text A e).well_formed)
       ∙ ap (λ z. read_table z.states z.arcs text) room-is
 
-  module _ (r : TableAnswer) (states arcs : List ℕ) (q : made_of (tableAs r) states arcs ≡ read_outcome text s) (ps : List TapePair) where
+  module _ (r : TableAnswer) (states arcs : List ℕ) (q : made_of (table_as r) states arcs ≡ read_outcome text s) (ps : List TapePair) where
     -- a text that is refused
-    pub text-refused : (k : Refusal) → r ≡ table.Refused k → refused (refusalNumber k) ≡ kept_text text ps
+    pub text-refused : (k : Refusal) → r ≡ table.Refused k → refused (refusal_number k) ≡ kept_text text ps
     unfolding held given kept_text
     text-refused k f = ap (λ (a : Answer (Automaton ℕ)). a >>= λ A. intersect_call true room ps A)
-        (ap (λ (z : TableAnswer). held (made_of (tableAs z) states arcs)) (sym f) ∙ ap held q ∙ read_held)
+        (ap (λ (z : TableAnswer). held (made_of (table_as z) states arcs)) (sym f) ∙ ap held q ∙ read_held)
 
     -- what is kept of the table in the slices is what is kept of the text
     pub text-table : (c : Counts) → r ≡ table.Table c → kept_of (lent c states arcs) ps ≡ kept_text text ps
     unfolding held given kept_text kept_of
     text-table c f = ap (λ (a : Answer (Automaton ℕ)). a >>= λ A. intersect_call true room ps A)
-        (ap (λ (z : TableAnswer). held (made_of (tableAs z) states arcs)) (sym f) ∙ ap held q ∙ read_held)
+        (ap (λ (z : TableAnswer). held (made_of (table_as z) states arcs)) (sym f) ∙ ap held q ∙ read_held)
 
 -- ---- the whole program
 
@@ -128,14 +128,14 @@ kept_cut text ps = go (read_table state_space arc_space text) refl
 
 module _ (x bytes : List ℕ) (r : PairLine) (t : FirstLine x bytes r) where
   -- a first line that is refused decides
-  pub agree-refused : (k : Refusal) → r ≡ line.Refused k → write_output (refused (refusalNumber k)) ≡ agree x
+  pub agree-refused : (k : Refusal) → r ≡ line.Refused k → write_output (refused (refusal_number k)) ≡ agree x
   unfolding line_bytes
   agree-refused k f = sym (agree_is x ∙ ap write_output (go (read_pairs x) (ap (line_as x bytes) (sym f) ∙ t.answer)))
     where
-      go : (a : Answer (List TapePair × List ℕ)) → refused (refusalNumber k) ≡ (a >>= λ p. ok (to_bytes p))
-          → (a >>= λ p. kept_text p.1 p.0) ≡ refused (refusalNumber k)
+      go : (a : Answer (List TapePair × List ℕ)) → refused (refusal_number k) ≡ (a >>= λ p. ok (to_bytes p))
+          → (a >>= λ p. kept_text p.1 p.0) ≡ refused (refusal_number k)
       go (ok p) e = absurd (refused≢ok e)
-      go (refused n) e = let i : n ≡ refusalNumber k = cc in ap refused i
+      go (refused n) e = let i : n ≡ refusal_number k = cc in ap refused i
 
   -- behind a first line that is told, what is kept of the rest decides
   pub agree-line : (p : LineParts) → r ≡ line.Line p → write_output (kept_text (take (length x - p.next) (drop p.next x)) (pairs_of (take (3 * p.count) bytes))) ≡ agree x

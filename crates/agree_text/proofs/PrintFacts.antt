@@ -16,17 +16,17 @@ use Rattle.automata.specs.AgreeText.{arc_space, state_space, write_output}
 use Rattle.automata.specs.Calls.Outcome.{Written, overwrite, print}
 use Rattle.automata.specs.Calls.Work.{enough}
 use Rattle.automata.specs.Calls.Write.{write_outcome}
-use Rattle.automata.proofs.AnswerFacts.{refused≢ok, judge_goes_on}
+use Rattle.automata.proofs.AnswerFacts.{refused≢ok, judge-goes_on}
 use Rattle.automata.proofs.MemoryFacts.{decode_only}
 use Rattle.automata.proofs.SoundFacts.{sound, sound_states_lent, sound_arcs_lent}
 use Rattle.automata.proofs.TextFacts.{length_write_table}
 use Rattle.automata.proofs.CallSteps.{write_table-refused, write_judged}
 use Rattle.automata.specs.Layout.{arc_width, header_width, label_width, state_width}
 use Rattle.table.specs.declared.answer.Refusal.{Refusal}
-use Rattle.table.specs.Answers.{refusalNumber}
+use Rattle.table.specs.Answers.{refusal_number}
 use Rattle.text.specs.declared.WriteAnswer.{WriteAnswer}
 use Rattle.text.specs.declared.WriteAnswer.TheVariants as written
-use Rattle.text.specs.Answers.{writtenAs, written_of}
+use Rattle.text.specs.Answers.{written_as, written_of}
 use Rattle.agree_text.specs.Kept.{arcs_lent, output_lent, states_lent}
 use Rattle.agree_text.specs.Wrote.{Wrote}
 
@@ -56,29 +56,29 @@ module _ (m : Memory) (hs : length m.state_bytes ≤ states_lent) (ha : length m
   -- what `write` answers, by what the memory holds
   printed : (a : Answer (Automaton ℕ)) → decode_table m ≡ a → write_outcome m out ≡ print (text_of a) out
   printed (ok A) e = write_judged m A e out ∙ ap (λ (r : Answer (List ℕ)). print r out)
-      (judge_goes_on (enough (length (write_table A)) out) Refusal.space (ok (write_table A)) (le-leb (length (write_table A)) (length out) (text_fits A e)))
+      (judge-goes_on (enough (length (write_table A)) out) Refusal.space (ok (write_table A)) (le-leb (length (write_table A)) (length out) (text_fits A e)))
   printed (refused n) e = write_table-refused m n e out
 
-  module _ (r : WriteAnswer) (after : List ℕ) (q : written_of (writtenAs r) after ≡ write_outcome m out) where
+  module _ (r : WriteAnswer) (after : List ℕ) (q : written_of (written_as r) after ≡ write_outcome m out) where
     -- a number of bytes: the text of the table
-    pub print-done : (n : ℕ) → r ≡ written.Bytes n → Wrote (write_output (decode_table m)) out after n
+    pub print_done : (n : ℕ) → r ≡ written.Bytes n → Wrote (write_output (decode_table m)) out after n
     unfolding write_output print
-    print-done n f = go (decode_table m) (ap (λ (z : WriteAnswer). written_of (writtenAs z) after) (sym f) ∙ q ∙ printed (decode_table m) refl)
+    print_done n f = go (decode_table m) (ap (λ (z : WriteAnswer). written_of (written_as z) after) (sym f) ∙ q ∙ printed (decode_table m) refl)
       where
         go : (a : Answer (Automaton ℕ)) → written_of (ok n) after ≡ print (text_of a) out → Wrote (write_output a) out after n
         go (ok A) e = (ap (λ (w : Written). w.output) e, let k : ok n ≡ ok (length (write_table A)) = ap (λ (w : Written). w.answer) e in cc)
         go (refused k) e = absurd (refused≢ok (sym (ap (λ (w : Written). w.answer) e)))
 
     -- a refusal: the output is as it was, and the line of the refusal is written over it
-    pub print-refused : (k : Refusal) → r ≡ written.Refused k → (last : List ℕ) (n : ℕ) → Wrote (write_output (refused (refusalNumber k))) after last n
+    pub print-refused : (k : Refusal) → r ≡ written.Refused k → (last : List ℕ) (n : ℕ) → Wrote (write_output (refused (refusal_number k))) after last n
         → Wrote (write_output (decode_table m)) out last n
     unfolding print
-    print-refused k f last n w = go (decode_table m) (ap (λ (z : WriteAnswer). written_of (writtenAs z) after) (sym f) ∙ q ∙ printed (decode_table m) refl)
+    print-refused k f last n w = go (decode_table m) (ap (λ (z : WriteAnswer). written_of (written_as z) after) (sym f) ∙ q ∙ printed (decode_table m) refl)
       where
-        go : (a : Answer (Automaton ℕ)) → written_of (refused (refusalNumber k)) after ≡ print (text_of a) out → Wrote (write_output a) out last n
+        go : (a : Answer (Automaton ℕ)) → written_of (refused (refusal_number k)) after ≡ print (text_of a) out → Wrote (write_output a) out last n
         go (ok A) e = absurd (refused≢ok (ap (λ (w : Written). w.answer) e))
         go (refused j) e =
             let i : after ≡ out = ap (λ (w : Written). w.output) e in
-            let c : ◌≡◌ {A = Answer ℕ} (refused (refusalNumber k)) (refused j) = ap (λ (w : Written). w.answer) e in
-            let d : refusalNumber k ≡ j = cc in
+            let c : ◌≡◌ {A = Answer ℕ} (refused (refusal_number k)) (refused j) = ap (λ (w : Written). w.answer) e in
+            let d : refusal_number k ≡ j = cc in
             (w.0 ∙ ap₂ (λ (u : ℕ) (v : List ℕ). overwrite (write_output (refused u)) v) d i, w.1 ∙ ap (λ (u : ℕ). length (write_output (refused u))) d)

@@ -2,7 +2,7 @@
 use Rattle.std.specs.Prelude.{◌≡◌, List, ℕ, ◌*◌, ◌≤◌, length, take, drop}
 use Rattle.automata.specs.Answer.{◌>>=◌, Answer, ok, refused}
 use Rattle.automata.specs.AgreeText.{read_pairs}
-use Rattle.table.specs.Answers.{refusalNumber}
+use Rattle.table.specs.Answers.{refusal_number}
 use Rattle.agree_line.specs.declared.line.PairLine.{PairLine}
 use Rattle.agree_line.specs.declared.line.PairLine.TheVariants as line
 use Rattle.agree_line.specs.PairBytes.{pair_bytes}
@@ -10,7 +10,7 @@ use Rattle.agree_line.specs.PairBytes.{pair_bytes}
 -- the bytes of the pairs and the rest of the input, as they are told, or the refusal
 abbrev pub line_as : List ℕ → List ℕ → PairLine → Answer (List ℕ × List ℕ)
 line_as input bytes (line.Line p) = ok (take (3 * p.count) bytes, drop p.next input)
-line_as input bytes (line.Refused k) = refused (refusalNumber k)
+line_as input bytes (line.Refused k) = refused (refusal_number k)
 
 -- the same, of the pairs that are read
 unfoldable pub line_bytes : List ℕ → Answer (List ℕ × List ℕ)

@@ -5,7 +5,7 @@ ghost use Rattle.std.specs.Prelude.{◌≤◌, length};
 ghost use Rattle.automata.specs.Answer.{refused};
 ghost use Rattle.automata.specs.AgreeText.{write_output};
 ghost use Rattle.automata.specs.Agree.{agree};
-ghost use Rattle.table.specs.Answers.{refusalNumber};
+ghost use Rattle.table.specs.Answers.{refusal_number};
 ghost use Rattle.agree_text.specs.FirstLine.{FirstLine};
 ghost use Rattle.agree_text.specs.Wrote.{Wrote};
 
@@ -37,7 +37,7 @@ pub fn read_pair_line(input: &[u8], pairs: &mut [u8; PAIRS_LENT]) -> PairLine
 // The line of a refusal, over the front of the output.
 pub fn write_refusal(output: &mut [u8], r: Refusal) -> usize
     requires { 12 ≤ length output.old }
-    ensures { Wrote (write_output (refused (refusalNumber r))) output.old output.new result }
+    ensures { Wrote (write_output (refused (refusal_number r))) output.old output.new result }
 {
     let word = [114u8, 101, 102, 117, 115, 101, 100];
     copy_into(output, 0, &word);

@@ -19,12 +19,12 @@ use Rattle.automata.specs.Rounds.{iterate}
 use Rattle.automata.specs.InPlace.{round_in_place}
 use Rattle.automata.specs.Automaton.{Automaton, Arc, size, label_on, graph, Final, Formed, length_on, Closes}
 use Rattle.automata.specs.Closing.{origin, endless, missing, start_delays, through, relax, diverge, least_delays}
-use Rattle.automata.proofs.Finite.{pigeonhole, Marking, marks-stable}
+use Rattle.automata.proofs.Finite.{pigeonhole, Marking, marks_stable}
 use Rattle.automata.proofs.Walks.{vertex_at_lt, Cycle, cycle_at, walk_append}
 use Rattle.automata.proofs.AutomatonFacts.{length_on_nil, length_on_cons, length_on_append}
 use Rattle.automata.proofs.RelaxedDelays.{Through, through-cases, from-missing, from-endless, from_finite, start_attained, length_on-le, delay_after, relaxed_below, Endless, negative_cycle, endless_before}
 use Rattle.automata.proofs.ClosingDelays.{LeastDelay, least_delays_least, relaxed-range, diverged-range, length_diverged}
-use Rattle.automata.proofs.InPlaceFacts.{length_in_place, length_rounds_in_place, in-place-keeps, rounds-keep, in-place-brings, in-place-below}
+use Rattle.automata.proofs.InPlaceFacts.{length_in_place, length_rounds_in_place, in_place_keeps, rounds_keep, in_place_brings, in_place_below}
 
 -- ---- through an arc
 
@@ -166,8 +166,8 @@ module _ {W : Type 0} (A : Automaton W) (ok : Formed A) (i j : ℕ) where
   held_fits q v (inr (inr (m, l, e))) = omega arith
 
   module _ (e : ℕ) (a : Arc W) (at : get_elem? A.arcs e ≡ some a) where
-    source-lt : a.source < size A
-    source-lt = (ok.within e a at).0
+    source_lt : a.source < size A
+    source_lt = (ok.within e a at).0
 
     -- a delay through an arc that is below those of all short runs is that of a long one
     arc-endless : (v y : ℕ) → Through i j a v y → Held a.target v → y < missing → y < short a.source → (Endless A ok i j) a.source
@@ -178,13 +178,13 @@ module _ {W : Type 0} (A : Automaton W) (ok : Formed A) (i j : ℕ) where
     arc-endless v y (from_finite m₁ m₂ t) (inl h) l less = absurd (m₁ h)
     arc-endless v y (from_finite m₁ m₂ t) (inr (inl h)) l less = absurd (m₂ h.0)
     arc-endless v y (from_finite m₁ m₂ t) (inr (inr (h, b, (es, (p, (r, w), f), eq)))) l less =
-        below_endless a.source (a ∷ es) source-lt (p, (e ∷ r, step at refl w), f) (omega (arith, eq, t, less, length_on_cons i a es, length_on_cons j a es))
+        below_endless a.source (a ∷ es) source_lt (p, (e ∷ r, step at refl w), f) (omega (arith, eq, t, less, length_on_cons i a es, length_on_cons j a es))
 
     pub arc-held : (v y : ℕ) → Through i j a v y → Held a.target v → y < missing → Held a.source y
     arc-held v y t h l = go (ℕ_discrete y endless) t h
       where
         go : Dec (y ≡ endless) → Through i j a v y → Held a.target v → Held a.source y
-        go (yes z) t h = inr (inl (z, arc-endless v y t h l (omega (arith, short_positive a.source source-lt))))
+        go (yes z) t h = inr (inl (z, arc-endless v y t h l (omega (arith, short_positive a.source source_lt))))
         go (no z) (from-missing m t) h = inl t
         go (no z) (from-endless m t) h = absurd (z t)
         go (no z) (from_finite m₁ m₂ t) (inl h) = absurd (m₁ h)
@@ -227,26 +227,26 @@ module _ {W : Type 0} (A : Automaton W) (ok : Formed A) (i j : ℕ) where
       (less : (q : ℕ) → q < size A → get_or ys q missing ≤ get_or (start_delays A) q missing) where
     -- ---- relaxation in place
 
-    abbrev pub relaxedInPlace : ℕ → List ℕ
-    relaxedInPlace k = iterate k (round_in_place (graph A) missing (relax i j)) ys
+    abbrev pub relaxed_in_place : ℕ → List ℕ
+    relaxed_in_place k = iterate k (round_in_place (graph A) missing (relax i j)) ys
 
-    relaxed-held : (k q : ℕ) → q < size A → Held q (get_or (relaxedInPlace k) q missing)
-    relaxed-held k = rounds-keep (graph A) missing (relax i j) (size A) Held k ys all held
+    relaxed-held : (k q : ℕ) → q < size A → Held q (get_or (relaxed_in_place k) q missing)
+    relaxed-held k = rounds_keep (graph A) missing (relax i j) (size A) Held k ys all held
         (λ e a at ys h. relax-held e a at (get_or ys a.source missing) (get_or ys a.target missing) (through i j a (get_or ys a.target missing))
         (through-cases i j a (get_or ys a.target missing)) (h a.source (ok.within e a at).0) (h a.target (ok.within e a at).1))
 
-    relaxed-short : (q : ℕ) → q < size A → get_or (relaxedInPlace (size A)) q missing ≤ short q
+    relaxed-short : (q : ℕ) → q < size A → get_or (relaxed_in_place (size A)) q missing ≤ short q
     unfolding delay_after
-    relaxed-short q lt = (in-place-below (graph A) missing (relax i j) (size A) ok.within Below (via i j) (relax_falls i j) (relax_brings i j) (relax_meets i j)
+    relaxed-short q lt = (in_place_below (graph A) missing (relax i j) (size A) ok.within Below (via i j) (relax_falls i j) (relax_brings i j) (relax_meets i j)
         (size A) ys (start_delays A) all length_start (λ q lt. (less q lt, held_fits q (get_or (start_delays A) q missing) (start-held q))) q lt).0
 
     -- ---- divergence in place
 
-    abbrev pub divergedInPlace : ℕ → List ℕ
-    divergedInPlace k = iterate k (round_in_place (graph A) missing (diverge i j)) (relaxedInPlace (size A))
+    abbrev pub diverged_in_place : ℕ → List ℕ
+    diverged_in_place k = iterate k (round_in_place (graph A) missing (diverge i j)) (relaxed_in_place (size A))
 
-    length-relaxed-in-place : length (relaxedInPlace (size A)) ≡ size A
-    length-relaxed-in-place = length_rounds_in_place (graph A) missing (relax i j) (size A) ys ∙ all
+    length_relaxed_in_place : length (relaxed_in_place (size A)) ≡ size A
+    length_relaxed_in_place = length_rounds_in_place (graph A) missing (relax i j) (size A) ys ∙ all
 
     -- a delay stands for what it did, and is at most that of all short runs
     abbrev HeldShort : ℕ → ℕ → Type 0
@@ -259,17 +259,17 @@ module _ {W : Type 0} (A : Automaton W) (ok : Formed A) (i j : ℕ) where
         (inr (inl (refl, arc-endless e a at v y t g (omega (arith, held_fits a.source x h.0)) (omega (arith, h.1)))), omega arith)
     diverge-held e a at x v y t h g false l = h
 
-    diverged-held : (k q : ℕ) → q < size A → HeldShort q (get_or (divergedInPlace k) q missing)
-    diverged-held k = rounds-keep (graph A) missing (diverge i j) (size A) HeldShort k (relaxedInPlace (size A)) length-relaxed-in-place
+    diverged-held : (k q : ℕ) → q < size A → HeldShort q (get_or (diverged_in_place k) q missing)
+    diverged-held k = rounds_keep (graph A) missing (diverge i j) (size A) HeldShort k (relaxed_in_place (size A)) length_relaxed_in_place
         (λ q lt. (relaxed-held (size A) q lt, relaxed-short q lt))
         (λ e a at ys h. diverge-held e a at (get_or ys a.source missing) (get_or ys a.target missing) (through i j a (get_or ys a.target missing))
         (through-cases i j a (get_or ys a.target missing)) (h a.source (ok.within e a at).0) (h a.target (ok.within e a at).1).0
         (ltb (through i j a (get_or ys a.target missing)) (get_or ys a.source missing)) refl)
 
-    diverge-marking : (xs : List ℕ) → length xs ≡ size A → (q : ℕ) → q < size A
+    diverge_marking : (xs : List ℕ) → length xs ≡ size A → (q : ℕ) → q < size A
         → Marking (λ x. eqb x endless) (get_or xs q missing) (get_or (round_in_place (graph A) missing (diverge i j) xs) q missing)
-    diverge-marking xs len =
-        in-place-keeps (graph A) missing (diverge i j) (size A) (λ q y. Marking (λ x. eqb x endless) (get_or xs q missing) y) xs A.arcs len (λ q lt. inl refl)
+    diverge_marking xs len =
+        in_place_keeps (graph A) missing (diverge i j) (size A) (λ q y. Marking (λ x. eqb x endless) (get_or xs q missing) y) xs A.arcs len (λ q lt. inl refl)
         (λ e a at ys h. go (get_or xs a.source missing) (get_or ys a.source missing) (h a.source (ok.within e a at).0)
         (ltb (through i j a (get_or ys a.target missing)) (get_or ys a.source missing)) (eqb (get_or xs a.source missing) endless) refl)
       where
@@ -279,81 +279,81 @@ module _ {W : Type 0} (A : Automaton W) (ok : Formed A) (i j : ℕ) where
         go z x before true false m = inr (m, refl)
 
     -- the last round changes nothing
-    diverged-stable : round_in_place (graph A) missing (diverge i j) (divergedInPlace (size A)) ≡ divergedInPlace (size A)
-    diverged-stable = marks-stable (λ x. eqb x endless) missing (size A) (round_in_place (graph A) missing (diverge i j))
-        (λ xs len. length_in_place (graph A) missing (diverge i j) xs A.arcs ∙ len) diverge-marking (relaxedInPlace (size A)) length-relaxed-in-place
+    diverged_stable : round_in_place (graph A) missing (diverge i j) (diverged_in_place (size A)) ≡ diverged_in_place (size A)
+    diverged_stable = marks_stable (λ x. eqb x endless) missing (size A) (round_in_place (graph A) missing (diverge i j))
+        (λ xs len. length_in_place (graph A) missing (diverge i j) xs A.arcs ∙ len) diverge_marking (relaxed_in_place (size A)) length_relaxed_in_place
 
-    length-diverged-in-place : length (divergedInPlace (size A)) ≡ size A
-    length-diverged-in-place = length_rounds_in_place (graph A) missing (diverge i j) (size A) (relaxedInPlace (size A)) ∙ length-relaxed-in-place
+    length_diverged_in_place : length (diverged_in_place (size A)) ≡ size A
+    length_diverged_in_place = length_rounds_in_place (graph A) missing (diverge i j) (size A) (relaxed_in_place (size A)) ∙ length_relaxed_in_place
 
     -- ---- the delays found
 
-    foundInPlace : ℕ → ℕ
-    foundInPlace q = get_or (divergedInPlace (size A)) q missing
+    found_in_place : ℕ → ℕ
+    found_in_place q = get_or (diverged_in_place (size A)) q missing
 
-    found-held : (q : ℕ) → q < size A → HeldShort q (foundInPlace q)
-    unfolding foundInPlace
-    found-held = diverged-held (size A)
+    found_held : (q : ℕ) → q < size A → HeldShort q (found_in_place q)
+    unfolding found_in_place
+    found_held = diverged-held (size A)
 
     -- no arc makes a delay less
-    found-through : (e : ℕ) (a : Arc W) → get_elem? A.arcs e ≡ some a → foundInPlace a.source ≤ through i j a (foundInPlace a.target)
-    unfolding foundInPlace
-    found-through e a at =
-        let b = in-place-brings (graph A) missing (diverge i j) (size A) ok.within Below (via i j) (diverge_falls i j) (diverge_brings i j)
-        (λ q. get_or (divergedInPlace (size A)) q missing) (divergedInPlace (size A)) length-diverged-in-place
-        (λ q lt. (omega arith, held_fits q (get_or (divergedInPlace (size A)) q missing) (found-held q lt).0)) e a at in
-        omega (arith, rw diverged-stable at b.0)
+    found_through : (e : ℕ) (a : Arc W) → get_elem? A.arcs e ≡ some a → found_in_place a.source ≤ through i j a (found_in_place a.target)
+    unfolding found_in_place
+    found_through e a at =
+        let b = in_place_brings (graph A) missing (diverge i j) (size A) ok.within Below (via i j) (diverge_falls i j) (diverge_brings i j)
+        (λ q. get_or (diverged_in_place (size A)) q missing) (diverged_in_place (size A)) length_diverged_in_place
+        (λ q lt. (omega arith, held_fits q (get_or (diverged_in_place (size A)) q missing) (found_held q lt).0)) e a at in
+        omega (arith, rw diverged_stable at b.0)
 
     -- no run that closes has a delay below the one found
     found_below : {q : ℕ} {r : List ℕ} {es : List (Arc W)} {p : ℕ} → Walk (graph A) q r es p → Final A p → q < size A
-        → (foundInPlace q ≡ endless) ⊎ (foundInPlace q + length_on j es ≤ origin + length_on i es)
-    found_below {q} stop f lt = inr (omega (arith, (found-held q lt).1, (relaxed_below A ok i j) (size A) (omega arith) stop f lt (omega arith)))
+        → (found_in_place q ≡ endless) ⊎ (found_in_place q + length_on j es ≤ origin + length_on i es)
+    found_below {q} stop f lt = inr (omega (arith, (found_held q lt).1, (relaxed_below A ok i j) (size A) (omega arith) stop f lt (omega arith)))
     found_below (step {q} {e} {a} {r} {es} {p} at from w) f lt =
         let n : a.target < size A = (ok.within e a at).1 in
-        go (through i j a (foundInPlace a.target)) (rw from at (found-through e a at)) (through-cases i j a (foundInPlace a.target))
-        (omega (arith, (found-held a.target n).1, closes_short a.target es n (p, (r, w), f))) (found_below w f n)
+        go (through i j a (found_in_place a.target)) (rw from at (found_through e a at)) (through-cases i j a (found_in_place a.target))
+        (omega (arith, (found_held a.target n).1, closes_short a.target es n (p, (r, w), f))) (found_below w f n)
       where
-        go : (y : ℕ) → foundInPlace q ≤ y → Through i j a (foundInPlace a.target) y → foundInPlace a.target ≤ 24576
-            → (foundInPlace a.target ≡ endless) ⊎ (foundInPlace a.target + length_on j es ≤ origin + length_on i es)
-            → (foundInPlace q ≡ endless) ⊎ (foundInPlace q + length_on j (a ∷ es) ≤ origin + length_on i (a ∷ es))
+        go : (y : ℕ) → found_in_place q ≤ y → Through i j a (found_in_place a.target) y → found_in_place a.target ≤ 24576
+            → (found_in_place a.target ≡ endless) ⊎ (found_in_place a.target + length_on j es ≤ origin + length_on i es)
+            → (found_in_place q ≡ endless) ⊎ (found_in_place q + length_on j (a ∷ es) ≤ origin + length_on i (a ∷ es))
         go y le (from-missing m t) few ih = absurd (omega arith)
         go y le (from-endless m t) few ih = inl (omega arith)
         go y le (from_finite m₁ m₂ t) few (inl d) = absurd (m₂ d)
-        go y le (from_finite m₁ m₂ t) few (inr d) = near (dec_le (length (label_on j a)) (foundInPlace a.target + length (label_on i a)))
+        go y le (from_finite m₁ m₂ t) few (inr d) = near (dec_le (length (label_on j a)) (found_in_place a.target + length (label_on i a)))
           where
-            near : Dec (length (label_on j a) ≤ foundInPlace a.target + length (label_on i a))
-                → (foundInPlace q ≡ endless) ⊎ (foundInPlace q + length_on j (a ∷ es) ≤ origin + length_on i (a ∷ es))
+            near : Dec (length (label_on j a) ≤ found_in_place a.target + length (label_on i a))
+                → (found_in_place q ≡ endless) ⊎ (found_in_place q + length_on j (a ∷ es) ≤ origin + length_on i (a ∷ es))
             near (yes h) = inr (omega (arith, length_on_cons i a es, length_on_cons j a es))
             near (no h) = inl (omega arith)
 
     -- one delay, by what the definition says of it
-    found-is : (q v : ℕ) → q < size A → LeastDelay A i j q v → (v ≡ short q) ⊎ (v ≡ endless) → foundInPlace q ≡ v
-    found-is q v lt d (inl e) = go (found-held q lt).0 (ℕ_discrete v endless) (short-range q lt)
+    found_is : (q v : ℕ) → q < size A → LeastDelay A i j q v → (v ≡ short q) ⊎ (v ≡ endless) → found_in_place q ≡ v
+    found_is q v lt d (inl e) = go (found_held q lt).0 (ℕ_discrete v endless) (short-range q lt)
       where
-        low : v ≡ endless → foundInPlace q ≡ v
+        low : v ≡ endless → found_in_place q ≡ v
         low z = absurd (omega (arith, z, e, short_positive q lt))
 
-        go : Held q (foundInPlace q) → Dec (v ≡ endless) → (short q ≡ missing) ⊎ ((8192 ≤ short q) × (short q ≤ 24576)) → foundInPlace q ≡ v
+        go : Held q (found_in_place q) → Dec (v ≡ endless) → (short q ≡ missing) ⊎ ((8192 ≤ short q) × (short q ≤ 24576)) → found_in_place q ≡ v
         go h (yes z) s = low z
         go (inl m) (no z) (inl s) = m ∙ sym (e ∙ s)
-        go (inl m) (no z) (inr s) = absurd (omega (arith, m, s, (found-held q lt).1))
+        go (inl m) (no z) (inr s) = absurd (omega (arith, m, s, (found_held q lt).1))
         go (inr (inl (m, b))) (no z) s = absurd (z (d.endless_iff.1 b))
         go (inr (inr (m, l, (es, c, eq)))) (no z) s =
             let k : v + length_on j es ≤ origin + length_on i es = d.least (λ g. d.missing_iff.0 g es c) z es c in
-            omega (arith, k, eq, e, (found-held q lt).1)
-    found-is q v lt d (inr e) =
+            omega (arith, k, eq, e, (found_held q lt).1)
+    found_is q v lt d (inr e) =
         let (es, (p, (r, w), f), h) = d.endless_iff.0 e (suc origin) in go es h (found_below w f lt) ∙ sym e
       where
-        go : (es : List (Arc W)) → length_on i es + suc origin ≤ length_on j es → (foundInPlace q ≡ endless) ⊎ (foundInPlace q + length_on j es ≤ origin + length_on i es)
-            → foundInPlace q ≡ endless
+        go : (es : List (Arc W)) → length_on i es + suc origin ≤ length_on j es → (found_in_place q ≡ endless) ⊎ (found_in_place q + length_on j es ≤ origin + length_on i es)
+            → found_in_place q ≡ endless
         go es h (inl z) = z
         go es h (inr z) = absurd (omega arith)
 
     -- Relaxation and divergence in place find the least closing delays.
-    pub in-place-least : divergedInPlace (size A) ≡ least_delays A i j
-    unfolding foundInPlace delay_after
-    in-place-least =
-        let l = length-diverged-in-place in
-        ext_get_or missing (divergedInPlace (size A)) (least_delays A i j) (l ∙ sym ((length_diverged A ok i j) (size A)))
+    pub in_place_least : diverged_in_place (size A) ≡ least_delays A i j
+    unfolding found_in_place delay_after
+    in_place_least =
+        let l = length_diverged_in_place in
+        ext_get_or missing (diverged_in_place (size A)) (least_delays A i j) (l ∙ sym ((length_diverged A ok i j) (size A)))
         (λ q k. let lt : q < size A = omega (arith, l, k) in
-        found-is q (get_or (least_delays A i j) q missing) lt ((least_delays_least A ok i j) q lt) ((diverged-range A ok i j) (size A) q lt))
+        found_is q (get_or (least_delays A i j) q missing) lt ((least_delays_least A ok i j) q lt) ((diverged-range A ok i j) (size A) q lt))

@@ -14,7 +14,7 @@ use Rattle.automata.specs.InPlace.{round_in_place}
 use Rattle.automata.specs.Marks.{mark, coaccessible, Reaches}
 use Rattle.automata.proofs.TestFacts.{or_true, or_left, or_right}
 use Rattle.automata.proofs.MarkFacts.{length_coaccessible, coaccessible_iff}
-use Rattle.automata.proofs.InPlaceFacts.{length_rounds_in_place, rounds-keep, in-place-below}
+use Rattle.automata.proofs.InPlaceFacts.{length_rounds_in_place, rounds_keep, in_place_below}
 
 module _ {E : Type 0} (G : Graph E) where
   -- the marks after k rounds in place
@@ -27,8 +27,8 @@ module _ {E : Type 0} (G : Graph E) where
     SetIf x z = z ≡ true → x ≡ true
 
     -- what is marked reaches a final vertex
-    in-place-reaches : (k q : ℕ) → q < length finals → get_or (marked_in_place finals k) q false ≡ true → Reaches G finals q
-    in-place-reaches k = rounds-keep G false (mark G) (length finals) (λ q x. x ≡ true → Reaches G finals q) k finals refl
+    in_place_reaches : (k q : ℕ) → q < length finals → get_or (marked_in_place finals k) q false ≡ true → Reaches G finals q
+    in_place_reaches k = rounds_keep G false (mark G) (length finals) (λ q x. x ≡ true → Reaches G finals q) k finals refl
         (λ q lt m. ([], q, ([], stop), m))
         (λ e a at ys h t. go e a at (h (G.source a) (within e a at).0) (h (G.target a) (within e a at).1)
         (or_true (get_or ys (G.source a) false) (get_or ys (G.target a) false) t))
@@ -39,14 +39,14 @@ module _ {E : Type 0} (G : Graph E) where
         go e a at before ih (inr t) = let (es, p, (r, w), f) = ih t in (a ∷ es, p, (e ∷ r, step at refl w), f)
 
     -- what is coaccessible is marked
-    in-place-marked : (q : ℕ) → q < length finals → get_or (coaccessible G finals) q false ≡ true → get_or (marked_in_place finals (length finals)) q false ≡ true
-    in-place-marked = in-place-below G false (mark G) (length finals) within SetIf (λ a v. v)
+    in_place-marked : (q : ℕ) → q < length finals → get_or (coaccessible G finals) q false ≡ true → get_or (marked_in_place finals (length finals)) q false ≡ true
+    in_place-marked = in_place_below G false (mark G) (length finals) within SetIf (λ a v. v)
         (λ a old x z h t. or_left x (get_or old (G.target a) false) (h t)) (λ a old x z v h g t. or_right x (get_or old (G.target a) false) (g t))
-        (λ a old x z h g t. ⊎-pick h g (or_true x (get_or old (G.target a) false) t)) (length finals) finals finals refl refl (λ q lt t. t)
+        (λ a old x z h g t. ⊎_pick h g (or_true x (get_or old (G.target a) false) t)) (length finals) finals finals refl refl (λ q lt t. t)
       where
-        ⊎-pick : {x y z : Bool} → (x ≡ true → z ≡ true) → (y ≡ true → z ≡ true) → (x ≡ true) ⊎ (y ≡ true) → z ≡ true
-        ⊎-pick h g (inl t) = h t
-        ⊎-pick h g (inr t) = g t
+        ⊎_pick : {x y z : Bool} → (x ≡ true → z ≡ true) → (y ≡ true → z ≡ true) → (x ≡ true) ⊎ (y ≡ true) → z ≡ true
+        ⊎_pick h g (inl t) = h t
+        ⊎_pick h g (inr t) = g t
 
     both_ways : (x y : Bool) → (x ≡ true → y ≡ true) → (y ≡ true → x ≡ true) → x ≡ y
     both_ways true y f g = sym (f refl)
@@ -54,9 +54,9 @@ module _ {E : Type 0} (G : Graph E) where
     both_ways false false f g = refl
 
     -- Marks in place, as many rounds as there are vertices, are the coaccessible vertices.
-    pub in-place-coaccessible : marked_in_place finals (length finals) ≡ coaccessible G finals
-    in-place-coaccessible =
+    pub in_place-coaccessible : marked_in_place finals (length finals) ≡ coaccessible G finals
+    in_place-coaccessible =
         let l = length_rounds_in_place G false (mark G) (length finals) finals in
         ext_get_or false (marked_in_place finals (length finals)) (coaccessible G finals) (l ∙ sym (length_coaccessible G finals))
         (λ q k. let lt : q < length finals = omega (arith, l, k) in both_ways (get_or (marked_in_place finals (length finals)) q false) (get_or (coaccessible G finals) q false)
-        (λ t. (coaccessible_iff G finals within q lt).1 (in-place-reaches (length finals) q lt t)) (in-place-marked q lt))
+        (λ t. (coaccessible_iff G finals within q lt).1 (in_place_reaches (length finals) q lt t)) (in_place-marked q lt))

@@ -84,7 +84,7 @@ module _ (S : OrderedSum) (A : Automaton S.W) where
       after : Bool → Option Tuple → Option W
       after b o = elim b [ false ↦ none | true ↦ elim o [ none ↦ none | some rest ↦ plus S a.weight (f a.target rest) ] ]
 
-  -- `leastOnward` is the least weight to the end, over runs of any number of arcs
+  -- `least_onward` is the least weight to the end, over runs of any number of arcs
   pub cell_least : Within (graph A) (size A) → (q : ℕ) (rests : Tuple) → q < size A
       → Least S (λ w. (k : ℕ) × Onward S A k q rests w) (least_onward S A q rests)
   cell_least within q rests lt = record {
@@ -217,12 +217,12 @@ module _ (S : OrderedSum) (A : Automaton S.W) (within : Within (graph A) (size A
           t : First a.target b.rest b.onwards n (follow L C n a.target b.rest)
           t = ih b.rest b.onwards b.holds
 
-          rest-is : rest_after L C (counted_arc a) rests ≡ b.rest
-          rest-is = rw (rest_after, b.left) refl
+          rest_is : rest_after L C (counted_arc a) rests ≡ b.rest
+          rest_is = rw (rest_after, b.left) refl
 
           shape : follow L C (suc n) q rests ≡ f.place ∷ follow L C n a.target b.rest
           shape = ap onwards (f.found ∙ ap₂ {C = Option (ℕ × Arc (W × ℕ))} (λ (k : ℕ) (z : Arc (W × ℕ)). some (k, z)) (zero-add f.place) (sym same))
-              ∙ ap (λ z. f.place ∷ follow L C n a.target z) rest-is
+              ∙ ap (λ z. f.place ∷ follow L C n a.target z) rest_is
 
           compare : (s : List ℕ) → Run S A q rests s w → (d : ℕ) × (s' : List ℕ) × (s ≡ d ∷ s') × (length s' ≡ n)
               → (f.place ∷ follow L C n a.target b.rest ≡ s) ⊎ RunBefore (f.place ∷ follow L C n a.target b.rest) s

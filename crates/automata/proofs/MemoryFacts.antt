@@ -22,11 +22,11 @@ use Rattle.automata.specs.Memory.{flag, flagged, weight_record, is_zero, zeros, 
 use Rattle.automata.specs.Layout.{state_size, arc_size, label_size, labels_place}
 use Rattle.automata.proofs.TestFacts.{T_true, and_T, T_and}
 use Rattle.automata.proofs.AnswerFacts.{refused≢ok, check-ok, check_pass, bind_ok, require-ok}
-use Rattle.automata.proofs.RecordFacts.{All_at, Sized, record-at, field_at}
+use Rattle.automata.proofs.RecordFacts.{All_at, Sized, record_at_lem, field_at}
 use Rattle.automata.proofs.FormatFacts.{Lawful, pair_lawful, convert_lawful, place_lawful, followed_lawful, all_sized, length_many, copies_lawful}
 use Rattle.automata.proofs.SequenceFacts.{read_all_take, read_all_reads, read_all_only}
 use Rattle.automata.proofs.NumberFacts.{little_lawful}
-use Rattle.automata.proofs.TableFacts.{countsFit→Counts, Counts→countsFit, state_format_lawful, state_number_lawful, weight_number_lawful, arc_format_lawful}
+use Rattle.automata.proofs.TableFacts.{counts_fit→Counts, Counts→counts_fit, state_format_lawful, state_number_lawful, weight_number_lawful, arc_format_lawful}
 
 -- ---- a weight that may be absent: a flag, 0 or 1, and a number of 4 bytes, which is 0 where the weight is absent
 
@@ -122,7 +122,7 @@ decode_reads m t w h =
     (rw (h.tapes, h.states) w.arcs) (sym h.arcs)
     (ap (λ (k : ℕ). take (m.arcs * k) m.arc_bytes) e ∙ h.arc_bytes ∙ (rw (h.tapes, h.states))) in
     rw (
-      T_true (counts_fit m.tapes m.states m.arcs) (Counts→countsFit m.tapes m.states m.arcs c),
+      T_true (counts_fit m.tapes m.states m.arcs) (Counts→counts_fit m.tapes m.states m.arcs c),
       s.1,
       a.1,
       h.tapes,
@@ -154,7 +154,7 @@ decode_only m t r =
     let c = require-ok (counts_fit m.tapes m.states m.arcs) size _ t r in
     let p = bind_ok (read_all state_record m.states m.state_bytes) _ t c.1 in
     let q = bind_ok (read_all (arc_record m.tapes m.states) m.arcs m.arc_bytes) _ t p.2 in
-    records-only m p.0 q.0 (countsFit→Counts m.tapes m.states m.arcs c.0) p.1 q.1 t (cc q.2)
+    records-only m p.0 q.0 (counts_fit→Counts m.tapes m.states m.arcs c.0) p.1 q.1 t (cc q.2)
 
 -- the bytes of a table
 pub length_encode_states : (t : Automaton ℕ) → WellFormed t → length (encode_states t) ≡ length t.states * state_size
@@ -184,7 +184,7 @@ decode_trim m = go (counts_fit m.tapes m.states m.arcs) refl
     go : (b : Bool) → counts_fit m.tapes m.states m.arcs ≡ b → decode_table (trim m) ≡ decode_table m
     go false e = rw e
     go true e =
-        let c = countsFit→Counts m.tapes m.states m.arcs (rw e tt) in
+        let c = counts_fit→Counts m.tapes m.states m.arcs (rw e tt) in
         let f = arc_record m.tapes m.states in
         let w : f.width ≡ arc_size = arc_record-width m.tapes m.states c.tapes_fit in
         let a : read_all f m.arcs (take (m.arcs * arc_size) m.arc_bytes) ≡ read_all f m.arcs m.arc_bytes =
@@ -223,4 +223,4 @@ module _ (m : Memory) (t : Automaton ℕ) (w : WellFormed t) (h : Holds m t) (k 
       let v = All_at (WellFormedArc t.tapes (length t.states)) t.arcs d k w.arcs (rw h.arcs at l) in
       arc_field d l (labels_place + i * label_size) label_size (omega (arith, w.counts.tapes_fit))
       ∙ ap (take label_size) (sym (drop-drop (i * label_size) labels_place ((arc_record t.tapes (length t.states)).write a)))
-      ∙ record-at label_record.write label_size [] i a.labels (zeros ((max_tapes - t.tapes) * label_size)) (all_sized label_record_lawful a.labels v.labels) (omega (arith, v.width))
+      ∙ record_at_lem label_record.write label_size [] i a.labels (zeros ((max_tapes - t.tapes) * label_size)) (all_sized label_record_lawful a.labels v.labels) (omega (arith, v.width))

@@ -12,13 +12,13 @@ use lib.ListN.{length, length-map, length-append, take, get_elem?}
 use lib.Seq.{take_all}
 use Rattle.automata.specs.Lists.{if, or, any, Decides}
 use Rattle.automata.specs.Explore.{Edge, member, insert, insert_all, index_of, successors, explore, reached}
-use Rattle.automata.specs.Search.{Search, note, note_all, search_from, takeUp, searched}
+use Rattle.automata.specs.Search.{Search, note, note_all, search_from, take_up, searched}
 use Rattle.automata.proofs.ListFacts
 use Rattle.automata.proofs.TestFacts
 use Rattle.automata.proofs.PairwiseFacts
 use Rattle.automata.proofs.AppendFacts
 use Rattle.automata.proofs.AppendFacts.{Begins}
-use Rattle.automata.proofs.Explored.{explore_done, explore-cases, Progress, begin, take_up, reached_explored}
+use Rattle.automata.proofs.Explored.{explore_done, explore-cases, Progress, begin, take_up_lem, reached_explored}
 
 -- ---- insertion and indexes
 
@@ -108,14 +108,14 @@ module _ {C L : Type 0} (same : C → C → Bool) (decided : Decides same) where
       more : List C
       more = insert same s.vertices x.1
 
-      there-now : (v : Bool) → member same x.1 s.vertices ≡ v → member same x.1 (if v s.vertices (s.vertices ++ (x.1 ∷ []))) ≡ true
-      there-now true e = e
-      there-now false e =
+      there_now : (v : Bool) → member same x.1 s.vertices ≡ v → member same x.1 (if v s.vertices (s.vertices ++ (x.1 ∷ []))) ≡ true
+      there_now true e = e
+      there_now false e =
           AppendFacts.any_snoc (same x.1) s.vertices x.1 ∙ TestFacts.or_right (member same x.1 s.vertices) (same x.1 x.1) (decided.complete x.1)
 
       kept : index_of same x.1 ds ≡ index_of same x.1 more
       kept = index_of_begins same x.1 more ds (AppendFacts.begins_on (note_all-begins k (note same k s x) xs) b)
-          (there-now (member same x.1 s.vertices) refl)
+          (there_now (member same x.1 s.vertices) refl)
 
   -- the edges before, then one for each step, to the places in the vertices after
   pub note_all-edges : (k : ℕ) (s : Search C L) (xs : List (L × C))
@@ -140,45 +140,45 @@ module _ {C L : Type 0} (same : C → C → Bool) (decided : Decides same) (out 
 
   -- one vertex more is taken up
   pub searched_some : (k : ℕ) (c : C) → get_elem? (found k) k ≡ some c → at (suc k) ≡ note_all same k (at k) (out c)
-  unfolding searched takeUp
-  searched_some k c e = rw (e, takeUp)
+  unfolding searched take_up
+  searched_some k c e = rw (e, take_up)
 
   -- there is none more to take up
-  pub searched_none : (k : ℕ) → get_elem? (found k) k ≡ none → at (suc k) ≡ at k
-  unfolding searched takeUp
-  searched_none k e = rw (e, takeUp)
+  pub searched-none : (k : ℕ) → get_elem? (found k) k ≡ none → at (suc k) ≡ at k
+  unfolding searched take_up
+  searched-none k e = rw (e, take_up)
 
   -- a property of the search after one more vertex
-  pub searched_cases : (k : ℕ) (P : Search C L → Type 0) → (get_elem? (found k) k ≡ none → P (at k))
+  pub searched-cases : (k : ℕ) (P : Search C L → Type 0) → (get_elem? (found k) k ≡ none → P (at k))
       → ((c : C) → get_elem? (found k) k ≡ some c → P (note_all same k (at k) (out c))) → P (at (suc k))
-  searched_cases k P f g = go (get_elem? (found k) k) refl
+  searched-cases k P f g = go (get_elem? (found k) k) refl
     where
       go : (o : Option C) → get_elem? (found k) k ≡ o → P (at (suc k))
-      go none e = subst P (sym (searched_none k e)) (f e)
+      go none e = subst P (sym (searched-none k e)) (f e)
       go (some c) e = subst P (sym (searched_some k c e)) (g c e)
 
   -- the vertices found stay in front
-  pub searched_begins : (m j k : ℕ) → j + m ≡ k → Begins (found j) (found k)
-  searched_begins zero j k e = let z : j ≡ k = omega arith in rw z (AppendFacts.begins_self (found k))
-  searched_begins (suc m) j k e = AppendFacts.begins_on
-      (searched_cases j (λ s. Begins (found j) s.vertices) (λ n. AppendFacts.begins_self (found j)) (λ c h. note_all-begins same decided j (at j) (out c)))
-      (searched_begins m (suc j) k (omega arith))
+  pub searched-begins : (m j k : ℕ) → j + m ≡ k → Begins (found j) (found k)
+  searched-begins zero j k e = let z : j ≡ k = omega arith in rw z (AppendFacts.begins_self (found k))
+  searched-begins (suc m) j k e = AppendFacts.begins_on
+      (searched-cases j (λ s. Begins (found j) s.vertices) (λ n. AppendFacts.begins_self (found j)) (λ c h. note_all-begins same decided j (at j) (out c)))
+      (searched-begins m (suc j) k (omega arith))
 
   -- once every vertex has been taken up nothing changes
   pub searched_stable : (m j k : ℕ) → j + m ≡ k → length (found j) ≤ j → at k ≡ at j
   searched_stable zero j k e h = let z : k ≡ j = omega arith in ap at z
   searched_stable (suc m) j k e h =
-      let s : at (suc j) ≡ at j = searched_none j (ListFacts.place_beyond (found j) j h) in
+      let s : at (suc j) ≡ at j = searched-none j (ListFacts.place_beyond (found j) j h) in
       let l : length (found (suc j)) ≡ length (found j) = ap (λ (x : Search C L). length x.vertices) s in
       searched_stable m (suc j) k (omega arith) (omega arith) ∙ s
 
   -- taking up one more keeps what holds of the vertices found
   progress-next : (k : ℕ) → Progress out starts k (found k) → Progress out starts (suc k) (found (suc k))
-  progress-next k p = searched_cases k (λ s. Progress out starts (suc k) s.vertices) all-taken
-      (λ c e. rw (note_all_vertices same decided k (at k) (out c)) (take_up same decided out starts k (found k) c e p))
+  progress-next k p = searched-cases k (λ s. Progress out starts (suc k) s.vertices) all_taken
+      (λ c e. rw (note_all_vertices same decided k (at k) (out c)) (take_up_lem same decided out starts k (found k) c e p))
     where
-      all-taken : get_elem? (found k) k ≡ none → Progress out starts (suc k) (found k)
-      all-taken e = record {
+      all_taken : get_elem? (found k) k ≡ none → Progress out starts (suc k) (found k)
+      all_taken e = record {
         distinct = p.distinct;
         accessible = p.accessible;
         begun = p.begun;
@@ -189,10 +189,10 @@ module _ {C L : Type 0} (same : C → C → Bool) (decided : Decides same) (out 
       }
 
   -- what holds when k vertices have been taken up
-  pub searched_progress : (k : ℕ) → Progress out starts k (found k)
+  pub searched-progress : (k : ℕ) → Progress out starts k (found k)
   unfolding searched search_from
-  searched_progress zero = begin same decided out starts
-  searched_progress (suc k) = progress-next k (searched_progress k)
+  searched-progress zero = begin same decided out starts
+  searched-progress (suc k) = progress-next k (searched-progress k)
 
   -- the vertices after one more vertex
   pub found_next : (k : ℕ) (c : C) → get_elem? (found k) k ≡ some c → found (suc k) ≡ insert_all same (found k) (successors out c)
@@ -202,7 +202,7 @@ module _ {C L : Type 0} (same : C → C → Bool) (decided : Decides same) (out 
   explore_found : (fuel cap m j k : ℕ) → j + m ≡ k → cap < fuel + j → length (found k) ≤ cap → length (found k) ≤ k
       → explore same out fuel cap j (found j) ≡ found k
   explore_found zero cap m j k e f small all =
-      let grown : length (found j) ≤ length (found k) = AppendFacts.begins_length (searched_begins m j k e) in
+      let grown : length (found j) ≤ length (found k) = AppendFacts.begins_length (searched-begins m j k e) in
       ap (λ (s : Search C L). s.vertices) (sym (searched_stable m j k e (omega arith)))
   explore_found (suc fuel) cap zero j k e f small all =
       let z : j ≡ k = omega arith in
@@ -211,15 +211,15 @@ module _ {C L : Type 0} (same : C → C → Bool) (decided : Decides same) (out 
       (λ n. ap (λ (s : Search C L). s.vertices) (sym (searched_stable (suc m) j k e (ListFacts.place_none (found j) j n))))
       (λ c h over.
       let same_length : length (found (suc j)) ≡ length (insert_all same (found j) (successors out c)) = ap length (found_next j c h) in
-      let grown : length (found (suc j)) ≤ length (found k) = AppendFacts.begins_length (searched_begins m (suc j) k (omega arith)) in
+      let grown : length (found (suc j)) ≤ length (found k) = AppendFacts.begins_length (searched-begins m (suc j) k (omega arith)) in
       absurd (omega arith))
       (λ c h within. ap (explore same out fuel cap (suc j)) (sym (found_next j c h)) ∙ explore_found fuel cap m (suc j) k (omega arith) (omega arith) small all)
 
   -- Once every vertex has been taken up, and they are at most cap, exploration finds the same.
-  pub searched_reached : (cap k : ℕ) → length (searched same out starts k).vertices ≤ cap → length (searched same out starts k).vertices ≤ k
+  pub searched-reached : (cap k : ℕ) → length (searched same out starts k).vertices ≤ cap → length (searched same out starts k).vertices ≤ k
       → reached same out cap starts ≡ (searched same out starts k).vertices
   unfolding reached searched search_from
-  searched_reached cap k small all = explore_found (suc cap) cap k zero k (omega arith) (omega arith) small all
+  searched-reached cap k small all = explore_found (suc cap) cap k zero k (omega arith) (omega arith) small all
 
   -- Where more than cap vertices are found at any stage, exploration finds more than cap.
   pub found_over : (cap k : ℕ) → cap < length (found k) → cap < length (reached same out cap starts)
@@ -227,7 +227,7 @@ module _ {C L : Type 0} (same : C → C → Bool) (decided : Decides same) (out 
     | inl t ↦ TestFacts.ltb_true t
     | inr t ↦
         (let few : length (reached same out cap starts) ≤ cap = TestFacts.ltb_false t in
-        let p = searched_progress k in
+        let p = searched-progress k in
         let within : length (found k) ≤ length (reached same out cap starts) = PairwiseFacts.distinct_bound (found k) (reached same out cap starts) p.distinct
         (λ c m. (reached_explored same decided out starts cap).complete few c (p.accessible c m)) in
         absurd (omega arith))
@@ -238,7 +238,7 @@ module _ {C L : Type 0} (same : C → C → Bool) (decided : Decides same) (out 
       → any p (take (suc k) (searched same out starts (suc k)).vertices) ≡ or (any p (take k (searched same out starts k).vertices)) (p c)
   taken_any p k c e =
       let l : k < length (found k) = ListFacts.place_bound (found k) k e in
-      ap (any p) (AppendFacts.begins_take (searched_begins 1 k (suc k) (omega arith)) (suc k) (omega arith) ∙ AppendFacts.take_place (found k) k e)
+      ap (any p) (AppendFacts.begins_take (searched-begins 1 k (suc k) (omega arith)) (suc k) (omega arith) ∙ AppendFacts.take_place (found k) k e)
       ∙ AppendFacts.any_snoc p (take k (found k)) c
 
   -- and of all of them

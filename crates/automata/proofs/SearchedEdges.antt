@@ -14,7 +14,7 @@ use Rattle.automata.proofs.ListFacts
 use Rattle.automata.proofs.AppendFacts
 use Rattle.automata.proofs.AppendFacts.{Begins}
 use Rattle.automata.proofs.Explored.{member_complete, insert_all_new}
-use Rattle.automata.proofs.SearchFacts.{edge_in, note_all_vertices, note_all-edges_in, searched_some, searched_none, searched_begins, searched_stable}
+use Rattle.automata.proofs.SearchFacts.{edge_in, note_all_vertices, note_all-edges_in, searched_some, searched-none, searched-begins, searched_stable}
 
 -- steps whose ends are all in ds give an edge each
 all_inside : {C L : Type 0} (same : C → C → Bool) (decided : Decides same) (ds : List C) (k : ℕ) (xs : List (L × C))
@@ -71,11 +71,11 @@ module _ {C L : Type 0} (same : C → C → Bool) (decided : Decides same) (out 
           let short : length (found j) ≤ j = ListFacts.place_none (found j) j h in
           let stable : at k ≡ at j = searched_stable same decided out starts (suc m) j k (omega arith) short in
           let l : length f ≡ length (found j) = ap (λ (s : Search C L). length s.vertices) stable in
-          ap (λ (s : Search C L). s.edges) (searched_none same decided out starts j h) ∙ before
+          ap (λ (s : Search C L). s.edges) (searched-none same decided out starts j h) ∙ before
           ∙ ap (λ (r : List C). concat (map (edges_from f) (numbered zero r))) (take_all j f (omega arith) ∙ sym (take_all (suc j) f (omega arith)))
       go (some c) h before =
-          let b : Begins (found (suc j)) f = searched_begins same decided out starts m (suc j) k e in
-          let there-still : get_elem? f j ≡ some c = AppendFacts.begins-place (searched_begins same decided out starts (suc m) j k (omega arith)) j h in
+          let b : Begins (found (suc j)) f = searched-begins same decided out starts m (suc j) k e in
+          let there-still : get_elem? f j ≡ some c = AppendFacts.begins-place (searched-begins same decided out starts (suc m) j k (omega arith)) j h in
           one_more j c f h b ∙ ap (λ (r : List (Edge L)). r ++ edges_from f (j, c)) before
           ∙ sym (ap (λ (r : List (ℕ × C)). concat (map (edges_from f) r)) (AppendFacts.numbered-place f j there-still)
           ∙ ap concat (ListFacts.map_append (edges_from f) (numbered zero (take j f)) ((j, c) ∷ []))
@@ -83,9 +83,9 @@ module _ {C L : Type 0} (same : C → C → Bool) (decided : Decides same) (out 
           ∙ ap {B = List (Edge L)} (λ r. concat (map (edges_from f) (numbered zero (take j f))) ++ r) (append-nil (edges_from f (j, c))))
 
   -- Once every vertex has been taken up, the edges noted are the edges between the vertices.
-  pub searched_edges : (k : ℕ) → length (searched same out starts k).vertices ≤ k
+  pub searched-edges : (k : ℕ) → length (searched same out starts k).vertices ≤ k
       → edges same out (searched same out starts k).vertices ≡ (searched same out starts k).edges
   unfolding edges
-  searched_edges k all =
+  searched-edges k all =
       ap (λ (r : List C). concat (map (edges_from (found k)) (numbered zero r))) (sym (take_all k (found k) all))
       ∙ sym (edges_taken k k zero (omega arith) all)

@@ -17,15 +17,15 @@ use Rattle.automata.proofs.TestFacts.{and_T, T_and}
 use Rattle.automata.proofs.FormatFacts.{Lawful, pair_lawful, convert_lawful, restrict_lawful}
 
 -- the test passes just where they are
-pub countsFit→Counts : (tapes states arcs : ℕ) → T (counts_fit tapes states arcs) → Counts tapes states arcs
-countsFit→Counts tapes states arcs t =
+pub counts_fit→Counts : (tapes states arcs : ℕ) → T (counts_fit tapes states arcs) → Counts tapes states arcs
+counts_fit→Counts tapes states arcs t =
     let s = and_T (and (leb 1 tapes) (leb tapes max_tapes)) (and (leb states max_states) (leb arcs max_arcs)) t in
     let a = and_T (leb 1 tapes) (leb tapes max_tapes) s.0 in
     let b = and_T (leb states max_states) (leb arcs max_arcs) s.1 in
     record { some_tape = leb→le 1 tapes a.0; tapes_fit = leb→le tapes max_tapes a.1; states_fit = leb→le states max_states b.0; arcs_fit = leb→le arcs max_arcs b.1 }
 
-pub Counts→countsFit : (tapes states arcs : ℕ) → Counts tapes states arcs → T (counts_fit tapes states arcs)
-Counts→countsFit tapes states arcs c =
+pub Counts→counts_fit : (tapes states arcs : ℕ) → Counts tapes states arcs → T (counts_fit tapes states arcs)
+Counts→counts_fit tapes states arcs c =
     T_and (and (leb 1 tapes) (leb tapes max_tapes)) (and (leb states max_states) (leb arcs max_arcs))
     (T_and (leb 1 tapes) (leb tapes max_tapes) (le→leb 1 tapes c.some_tape) (le→leb tapes max_tapes c.tapes_fit))
     (T_and (leb states max_states) (leb arcs max_arcs) (le→leb states max_states c.states_fit) (le→leb arcs max_arcs c.arcs_fit))

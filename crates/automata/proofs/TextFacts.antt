@@ -23,7 +23,7 @@ use Rattle.automata.proofs.AnswerFacts.{check-ok, check_pass, bind_ok, require-o
 use Rattle.automata.proofs.FormatFacts.{Lawful, pair_lawful, restrict_lawful, preceded_lawful, followed_lawful, length_many, copies_lawful, optional_lawful}
 use Rattle.automata.proofs.SequenceFacts.{first_reads, first-only, many_reads, many_reads_end, many_only}
 use Rattle.automata.proofs.NumberFacts.{decimal_lawful}
-use Rattle.automata.proofs.TableFacts.{countsFit→Counts, Counts→countsFit, state_format_lawful, state_number_lawful, weight_number_lawful, arc_format_lawful}
+use Rattle.automata.proofs.TableFacts.{counts_fit→Counts, Counts→counts_fit, state_format_lawful, state_number_lawful, weight_number_lawful, arc_format_lawful}
 use Rattle.automata.specs.Layout.{amount_width, arc_width, header_width, label_width, newline, number_width, state_width, tapes_width}
 
 -- ---- a label: blanks, then its symbols
@@ -79,8 +79,8 @@ weight_columns_lawful = optional_lawful weight_lawful absent refl form refl
 pub header_line_lawful : Lawful header_line (λ h. Counts h.0 h.1.0 h.1.1)
 header_line_lawful = followed_lawful (newline ∷ []) (restrict_lawful (λ h. counts_fit h.0 h.1.0 h.1.1) size
     (pair_lawful (decimal_lawful tapes_width) (pair_lawful (decimal_lawful number_width) (decimal_lawful number_width)))
-    (λ h c. ((omega arith, (omega arith, omega arith)), Counts→countsFit h.0 h.1.0 h.1.1 c))
-    (λ h v t. countsFit→Counts h.0 h.1.0 h.1.1 t))
+    (λ h c. ((omega arith, (omega arith, omega arith)), Counts→counts_fit h.0 h.1.0 h.1.1 c))
+    (λ h v t. counts_fit→Counts h.0 h.1.0 h.1.1 t))
 
 pub state_line_lawful : Lawful state_line WellFormedState
 state_line_lawful = followed_lawful (newline ∷ []) (state_format_lawful weight_columns_lawful)
@@ -98,13 +98,13 @@ unfolding read_table write_table
 read_write state_space arc_space t w hs ha =
     let n = length t.states in
     let k = length t.arcs in
-    let arcText = write_all (arc_line t.tapes n).write t.arcs in
-    let rest = write_all state_line.write t.states ++ arcText in
+    let arc_text = write_all (arc_line t.tapes n).write t.arcs in
+    let rest = write_all state_line.write t.states ++ arc_text in
     rw (
       first_reads header_line_lawful (t.tapes, (n, k)) rest w.counts,
       T_true (leb n state_space) (le→leb n state_space hs),
       T_true (leb k arc_space) (le→leb k arc_space ha),
-      many_reads state_line_lawful t.states arcText w.states,
+      many_reads state_line_lawful t.states arc_text w.states,
       many_reads_end (arc_line_lawful t.tapes n w.counts.states_fit) t.arcs w.arcs,
     )
 

@@ -71,8 +71,8 @@ module _ (S : OrderedSum) (A : Automaton S.W) (within : Within (graph A) (size A
 
   module _ (t : Tuple) where
     -- the weight of a path that spells t is attained
-    starts-attains : {q : ℕ} {r : List ℕ} {w : W} → Starts S A within t q r w → Attains S A t w
-    starts-attains {q} {r} s = record {
+    starts_attains : {q : ℕ} {r : List ℕ} {w : W} → Starts S A within t q r w → Attains S A t w
+    starts_attains {q} {r} s = record {
       start = q;
       arcs = s.run.arcs;
       end = s.run.end;
@@ -86,8 +86,8 @@ module _ (S : OrderedSum) (A : Automaton S.W) (within : Within (graph A) (size A
     }
 
     -- and what is attained is the weight of a path
-    attains-starts : {w : W} → Attains S A t w → (q : ℕ) × (r : List ℕ) × Starts S A within t q r w
-    attains-starts p = (
+    attains_starts : {w : W} → Attains S A t w → (q : ℕ) × (r : List ℕ) × Starts S A within t q r w
+    attains_starts p = (
       p.start,
       p.leads.0,
       record {
@@ -105,17 +105,17 @@ module _ (S : OrderedSum) (A : Automaton S.W) (within : Within (graph A) (size A
       where
         go : ((x : Account W) × (least_path S A t ≡ some x) × Behind S A within t x.weight x.path)
             ⊎ ((least_path S A t ≡ none) × ((q : ℕ) (r : List ℕ) (v : W) → Starts S A within t q r v → ⊥)) → least_path S A t ≡ none
-        go (inl (x, e, b)) = let (u, f, l) = (lookup_attains S A within t).bound x.weight (starts-attains b.path) in none_not_some weightless f
+        go (inl (x, e, b)) = let (u, f, l) = (lookup_attains S A within t).bound x.weight (starts_attains b.path) in none_not_some weightless f
         go (inr (e, never)) = e
 
     module _ (w : W) (weighs : lookup S A t ≡ some w) where
       -- some path has the weight of the tuple
-      pub some-start : (q : ℕ) × (r : List ℕ) × Starts S A within t q r w
-      some-start = attains-starts ((lookup_attains S A within t).holds w weighs)
+      pub some_start : (q : ℕ) × (r : List ℕ) × Starts S A within t q r w
+      some_start = attains_starts ((lookup_attains S A within t).holds w weighs)
 
       -- and none has less
       starts-above : {q : ℕ} {r : List ℕ} {v : W} → Starts S A within t q r v → T (leq w v)
-      starts-above {v} s = held_below S (lookup S A t) (lookup_attains S A within t) w v weighs (starts-attains s)
+      starts-above {v} s = held_below S (lookup S A t) (lookup_attains S A within t) w v weighs (starts_attains s)
 
       -- what follows its initial weight is the least from there
       pub least_start : {q : ℕ} {r : List ℕ} (s : Starts S A within t q r w) → least_onward S A q t ≡ some s.onwards
@@ -130,17 +130,17 @@ module _ (S : OrderedSum) (A : Automaton S.W) (within : Within (graph A) (size A
       first_is π s first = go (least_path-cases S A within t)
         where
           -- of two paths, each of which comes first
-          same-path : (ρ : Trace) → (π ≡ ρ) ⊎ Before π ρ → (ρ ≡ π) ⊎ Before ρ π → ρ ≡ π
-          same-path ρ (inl e) y = sym e
-          same-path ρ (inr h) (inl e) = e
-          same-path ρ (inr h) (inr k) = absurd (before_asym π ρ h k)
+          same_path : (ρ : Trace) → (π ≡ ρ) ⊎ Before π ρ → (ρ ≡ π) ⊎ Before ρ π → ρ ≡ π
+          same_path ρ (inl e) y = sym e
+          same_path ρ (inr h) (inl e) = e
+          same_path ρ (inr h) (inr k) = absurd (before_asym π ρ h k)
 
           go : ((x : Account W) × (least_path S A t ≡ some x) × Behind S A within t x.weight x.path)
               ⊎ ((least_path S A t ≡ none) × ((q : ℕ) (r : List ℕ) (v : W) → Starts S A within t q r v → ⊥))
               → least_path S A t ≡ some (record { weight = w; path = π })
           go (inl (x, e, b)) =
               let weight : x.weight ≡ w = leq_antisym x.weight w (b.least π.start π.run w s) (starts-above b.path) in
-              let path : x.path ≡ π = same-path x.path
+              let path : x.path ≡ π = same_path x.path
               (first x.path (subst (Starts S A within t x.path.start x.path.run) weight b.path))
               (b.first π.start π.run (subst (Starts S A within t π.start π.run) (sym weight) s)) in
               e ∙ ap {B = Option (Account W)} some (λ i. record { weight = weight i; path = path i })

@@ -28,10 +28,10 @@ module _ {C L : Type 0} (same : C → C → Bool) where
 
   module _ (out : C → List (L × C)) where
     -- the vertex at place k is taken up: the steps out of it are noted
-    unfoldable pub takeUp : ℕ → Search C L → Search C L
-    takeUp k s = elim (get_elem? s.vertices k) [ none ↦ s | some c ↦ note_all k s (out c) ]
+    unfoldable pub take_up : ℕ → Search C L → Search C L
+    take_up k s = elim (get_elem? s.vertices k) [ none ↦ s | some c ↦ note_all k s (out c) ]
 
     -- the first k vertices are taken up in turn
     unfoldable pub searched : List C → ℕ → Search C L
     searched starts zero = search_from starts
-    searched starts (suc k) = takeUp k (searched starts k)
+    searched starts (suc k) = take_up k (searched starts k)

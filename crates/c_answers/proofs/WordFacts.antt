@@ -166,15 +166,15 @@ module _ {A : Type 0} (value : ℕ → List ℕ → A) (size : ℕ) (shift : (at
   -- each so written that it can be read again
   module _ (write : A → List ℕ) (Good : A → Type 0) (behind : (x : A) (r : List ℕ) → drop size (write x ++ r) ≡ r)
       (back : (x : A) (r : List ℕ) → Good x → value 0 (write x ++ r) ≡ x) where
-    values-back : (xs : List A) (rest : List ℕ) → All Good xs → values_in value size 0 (length xs) (write_all write xs ++ rest) ≡ xs
+    values_back : (xs : List A) (rest : List ℕ) → All Good xs → values_in value size 0 (length xs) (write_all write xs ++ rest) ≡ xs
     unfolding values_in
-    values-back [] rest h = refl
-    values-back (x ∷ xs) rest h =
+    values_back [] rest h = refl
+    values_back (x ∷ xs) rest h =
         let r = write_all write xs ++ rest in
         ap (values_in value size 0 (suc (length xs))) (append_assoc (write x) (write_all write xs) rest)
         ∙ ap₂ (λ (y : A) (ys : List A). y ∷ ys) (back x r h.0)
         (ap (λ (k : ℕ). values_in value size k (length xs) (write x ++ r)) (zero-add size) ∙ values_shift (length xs) size (write x ++ r)
-        ∙ ap (values_in value size 0 (length xs)) (behind x r) ∙ values-back xs rest h.1)
+        ∙ ap (values_in value size 0 (length xs)) (behind x r) ∙ values_back xs rest h.1)
 
 -- ---- the records of forecasts
 
@@ -199,7 +199,7 @@ record_back mixed rest s = refl
 -- the forecasts of several
 records_back : (fs : List Forecast) (rest : List ℕ) → All Small fs
     → values_in forecast_in forecast_size 0 (length fs) (forecast_records fs ++ rest) ≡ fs
-records_back = values-back forecast_in forecast_size record_shift forecast_record Small record_behind record_back
+records_back = values_back forecast_in forecast_size record_shift forecast_record Small record_behind record_back
 
 -- forecasts that were told are small
 told_small : (m : Memory) (ps : List Pair) (room : Bool) (fs : List Forecast) → ToldOf m ps room fs → All Small fs
@@ -239,7 +239,7 @@ forecasts_back m ps result work = go (forecast_answer m ps room work) refl
 
 -- the arc numbers of a list
 arcs_back : (run rest : List ℕ) → All (λ e. e < 65536) run → values_in two_bytes entry_size 0 (length run) (entries run ++ rest) ≡ run
-arcs_back = values-back two_bytes entry_size two-behind (little entry_size).write (λ e. e < 65536) (λ e r. refl) (λ e r h. two_back e h)
+arcs_back = values_back two_bytes entry_size two-behind (little entry_size).write (λ e. e < 65536) (λ e r. refl) (λ e r h. two_back e h)
 
 -- the numbers of a result
 module _ (x : Told) (rest : List ℕ) where
@@ -278,8 +278,8 @@ path_back m text result list work = go (path_answer m text room list work) refl
     left : Account ℕ → Account ℕ
     left x = account_in (outcome (ok (some x))).result (outcome (ok (some x))).found.list
 
-    account-back : (x : Account ℕ) → path_answer m text room list work ≡ ok (some x) → left x ≡ x
-    account-back x e =
+    account_back : (x : Account ℕ) → path_answer m text room list work ≡ ok (some x) → left x ≡ x
+    account_back x e =
         let t = told_of x in
         let told = (path_calls_lem.recorded m text result list work (some t) (ap told_answer e)).0.told t refl in
         let run = x.path.run in
@@ -299,7 +299,7 @@ path_back m text result list work = go (path_answer m text room list work) refl
     listed n (inr e) = (omega arith, omega arith)
 
     go : (a : Answer (Option (Account ℕ))) → path_answer m text room list work ≡ a → path_told (told_path (outcome a)) ≡ a
-    go (ok (some x)) e = some_back 0 (left x) refl ∙ ap {B = Answer (Option (Account ℕ))} (λ (y : Account ℕ). ok (some y)) (account-back x e)
+    go (ok (some x)) e = some_back 0 (left x) refl ∙ ap {B = Answer (Option (Account ℕ))} (λ (y : Account ℕ). ok (some y)) (account_back x e)
     go (ok none) e = none_back (account_in result list)
     go (refused n) e = let (a, b) = listed n (listed_refusals.path_recorded m text result list work n (ap told_answer e)) in refused_back n (account_in result list) a b
 

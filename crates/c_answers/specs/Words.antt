@@ -97,8 +97,8 @@ pub record ToldJoined : Type 0 where
 
 -- the same by its parts
 abbrev pub tells_joined : ℕ → List ℕ → List ℕ → List ℕ → List ℕ → List ℕ → ToldJoined
-tells_joined word states arcs product_states productArcs work =
-    record { made = tells_made word states arcs; product = slices_of product_states productArcs; work = work }
+tells_joined word states arcs product_states product_arcs work =
+    record { made = tells_made word states arcs; product = slices_of product_states product_arcs; work = work }
 
 -- of an outcome
 abbrev pub told_joined : Joined → ToldJoined

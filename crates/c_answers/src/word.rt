@@ -1,9 +1,9 @@
 // An answer as one number, for callers in C: in the low byte 0 or the number of the refusal, above it what is told.
 ghost use Rattle.std.specs.Prelude.{◌≡◌, ◌+◌, ◌*◌, ◌≤◌, ◌<◌};
-ghost use Rattle.table.specs.Answers.{tableAs};
-ghost use Rattle.text.specs.Answers.{writtenAs};
-ghost use Rattle.lookup.specs.Answers.{weightAs};
-ghost use Rattle.path_search.specs.Answers.{pathAs};
+ghost use Rattle.table.specs.Answers.{table_as};
+ghost use Rattle.text.specs.Answers.{written_as};
+ghost use Rattle.lookup.specs.Answers.{weight_as};
+ghost use Rattle.path_search.specs.Answers.{path_as};
 ghost use Rattle.automata.specs.Calls.Forecast.{record_bytes};
 ghost use Rattle.forecast_records.specs.Values.{answer_as};
 ghost use Rattle.c_answers.specs.Words.{table_word, bytes_word, weight_word, path_word, CountsFit, BytesFit, WeightFits};
@@ -24,8 +24,8 @@ fn counts_word(c: Counts) -> u64
 
 // The counts of a table that was made, or the refusal's number.
 pub fn table_word(answer: TableAnswer) -> u64
-    requires { CountsFit (tableAs answer) }
-    ensures { result ≡ table_word (tableAs answer) }
+    requires { CountsFit (table_as answer) }
+    ensures { result ≡ table_word (table_as answer) }
 {
     match answer {
         TableAnswer::Table(c) => counts_word(c),
@@ -43,8 +43,8 @@ fn shifted(n: u64) -> u64
 
 // The number of bytes written, from bit 8 on, or the refusal's number.
 pub fn bytes_word(answer: WriteAnswer) -> u64
-    requires { BytesFit (writtenAs answer) }
-    ensures { result ≡ bytes_word (writtenAs answer) }
+    requires { BytesFit (written_as answer) }
+    ensures { result ≡ bytes_word (written_as answer) }
 {
     match answer {
         WriteAnswer::Bytes(n) => shifted(n as u64),
@@ -54,8 +54,8 @@ pub fn bytes_word(answer: WriteAnswer) -> u64
 
 // The weight of a tuple, from bit 8 on, 255 for none, or the refusal's number.
 pub fn weight_word(answer: WeightAnswer) -> u64
-    requires { WeightFits (weightAs answer) }
-    ensures { result ≡ weight_word (weightAs answer) }
+    requires { WeightFits (weight_as answer) }
+    ensures { result ≡ weight_word (weight_as answer) }
 {
     match answer {
         WeightAnswer::Weight(w) => shifted(w),
@@ -66,7 +66,7 @@ pub fn weight_word(answer: WeightAnswer) -> u64
 
 // 0 for a path, which stands in lent bytes, 255 for none, or the refusal's number.
 pub fn path_word(answer: PathAnswer) -> u64
-    ensures { result ≡ path_word (pathAs answer) }
+    ensures { result ≡ path_word (path_as answer) }
 {
     match answer {
         PathAnswer::Path(_) => 0,

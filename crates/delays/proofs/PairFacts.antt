@@ -11,7 +11,7 @@ use lib.ListN.{length, get_or}
 use Rattle.table.specs.Region.{part}
 use Rattle.table.specs.Endian.{le}
 use Rattle.automata.specs.Lists.{or}
-use Rattle.automata.specs.Closing.{withDelay≤}
+use Rattle.automata.specs.Closing.{with_delay≤}
 use Rattle.automata.proofs.TestFacts.{eqb_false}
 use Rattle.automata.specs.Layout.{pair_delays, opposite_place, reaching_place}
 use Rattle.table.specs.declared.pair.Pair.{Pair}
@@ -85,17 +85,17 @@ not_false : (b : Bool) → not b ≡ false → b ≡ true
 not_false true e = refl
 not_false false e = sym e
 
-pub within-endless : (x v y : ℕ) → v ≡ 0 → true ≡ withDelay≤ x v y
+pub within-endless : (x v y : ℕ) → v ≡ 0 → true ≡ with_delay≤ x v y
 within-endless x v y e = rw e
 
-pub within-sum : (x v y : ℕ) → v ≢ 0 → leb (x + v) (y + 16384) ≡ withDelay≤ x v y
+pub within-sum : (x v y : ℕ) → v ≢ 0 → leb (x + v) (y + 16384) ≡ with_delay≤ x v y
 within-sum x v y h = rw (eqb_false v 0 h)
 
-module _ (at x y : ℕ) (w : List ℕ) (v : ℕ) (b : Bool) (e : v ≡ le (part at 2 w)) (f : b ≡ withDelay≤ x v y) where
+module _ (at x y : ℕ) (w : List ℕ) (v : ℕ) (b : Bool) (e : v ≡ le (part at 2 w)) (f : b ≡ with_delay≤ x v y) where
   pub closable_not : not b ≡ true → false ≡ closable_at at x y w
   closable_not g = rw (← e, ← f, not_true b g)
 
-  pub closable_then : not b ≡ false → (u : ℕ) (r : Bool) → u ≡ le (part (at + opposite_place) 2 w) → r ≡ withDelay≤ y u x → r ≡ closable_at at x y w
+  pub closable_then : not b ≡ false → (u : ℕ) (r : Bool) → u ≡ le (part (at + opposite_place) 2 w) → r ≡ with_delay≤ y u x → r ≡ closable_at at x y w
   closable_then g u r p q = rw (← e, ← f, not_false b g, ← p) q
 
 module _ (at h : ℕ) (firsts seconds w : List ℕ) (b : Bool) (e : b ≡ closable_at at (get_or firsts h 0) (get_or seconds h 0) w) where

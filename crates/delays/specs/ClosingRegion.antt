@@ -7,7 +7,7 @@ use Rattle.std.proofs.Math.ListN.{get_elem?}
 use Rattle.table.specs.Region.{part}
 use Rattle.table.specs.Endian.{le}
 use Rattle.automata.specs.Lists.{if, and}
-use Rattle.automata.specs.Closing.{origin, missing, Closing, ClosingTables, closing_tables, withDelay≤, viable}
+use Rattle.automata.specs.Closing.{origin, missing, Closing, ClosingTables, closing_tables, with_delay≤, viable}
 use Rattle.automata.specs.Leftover.{Leftover}
 use Rattle.automata.specs.Config.{Config}
 use Rattle.automata.specs.Memory.{Memory, table_of}
@@ -52,7 +52,7 @@ pub record HoldsClosing (T : ClosingTables) (base n : ℕ) (w : List ℕ) : Type
 
 -- the test of one pair, by the delays at place at and the lengths of the leftovers
 abbrev pub closable_at : ℕ → ℕ → ℕ → List ℕ → Bool
-closable_at at x y w = and (withDelay≤ x (le (part at 2 w)) y) (withDelay≤ y (le (part (at + opposite_place) 2 w)) x)
+closable_at at x y w = and (with_delay≤ x (le (part at 2 w)) y) (with_delay≤ y (le (part (at + opposite_place) 2 w)) x)
 
 -- the test of the pairs from the h-th on
 unfoldable pub closable_from : ℕ → ℕ → ℕ → List ℕ → List ℕ → List ℕ → Bool

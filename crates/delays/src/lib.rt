@@ -2,7 +2,7 @@
 // them.
 
 ghost use Rattle.std.specs.Prelude.{◌≡◌, ◌+◌, ◌*◌, ◌≤◌, ◌<◌, length, get_or};
-ghost use Rattle.automata.specs.Closing.{withDelay≤};
+ghost use Rattle.automata.specs.Closing.{with_delay≤};
 ghost use Rattle.automata.specs.Memory.{Sound};
 ghost use Rattle.automata.specs.Layout.{delays_size, pair_delays, reaching_place};
 ghost use Rattle.automata.specs.Limits.{max_tapes};
@@ -114,7 +114,7 @@ pub fn mark_reaching(
 
 // Whether `x` with the delay held as `v` is at most `y`.
 fn within_delay(x: u8, v: u16, y: u8) -> bool
-    ensures { result ≡ withDelay≤ x v y }
+    ensures { result ≡ with_delay≤ x v y }
 {
     if v == 0 {
         return true;

@@ -28,7 +28,7 @@ use Rattle.automata.proofs.Membership.{place_map⁻¹}
 use Rattle.automata.proofs.Walks.{walk_append}
 use Rattle.automata.proofs.AutomatonFacts.{length_on_nil, length_on_cons, length_on_append}
 use Rattle.automata.proofs.RelaxedDelays.{through-cases}
-use Rattle.automata.proofs.InPlaceDelays.{Held, start-held, arc-held, cycle_held, in-place-least}
+use Rattle.automata.proofs.InPlaceDelays.{Held, start-held, arc-held, cycle_held, in_place_least}
 use Rattle.automata.proofs.ReversalFacts.{size-directed, directed_formed}
 use Rattle.automata.proofs.MemoryFacts.{arc_field, label_field, state_field}
 use Rattle.automata.specs.Layout.{arc_size, target_place, state_size, final_place, label_size, labels_place}
@@ -84,22 +84,22 @@ module _ (m : Memory) (t : Automaton ℕ) (w : WellFormed t) (h : Holds m t) whe
 
   -- the fields of the k-th arc
   module _ (k : ℕ) (l : k < m.arcs) where
-    arc-is : WellFormedArc t.tapes (length t.states) (get_or t.arcs k no_arc)
-    arc-is = All_at (WellFormedArc t.tapes (length t.states)) t.arcs no_arc k w.arcs (rw h.arcs at l)
+    arc_is : WellFormedArc t.tapes (length t.states) (get_or t.arcs k no_arc)
+    arc_is = All_at (WellFormedArc t.tapes (length t.states)) t.arcs no_arc k w.arcs (rw h.arcs at l)
 
     pub source_is : source_at (0 + arc_size * k) m.arc_bytes ≡ (get_or t.arcs k no_arc).source
     unfolding part
     source_is =
         let e : 0 + arc_size * k ≡ k * arc_size + 0 = omega arith in
         ap (λ (p : ℕ). le (take 2 (drop p m.arc_bytes))) e ∙ ap le (arc_field m t w h k no_arc l 0 2 (omega arith))
-        ∙ two_bytes_lem (get_or t.arcs k no_arc).source (omega (arith, arc-is.source, w.counts.states_fit))
+        ∙ two_bytes_lem (get_or t.arcs k no_arc).source (omega (arith, arc_is.source, w.counts.states_fit))
 
     pub target_is : target_at (0 + arc_size * k) m.arc_bytes ≡ (get_or t.arcs k no_arc).target
     unfolding part
     target_is =
         let e : 0 + arc_size * k + target_place ≡ k * arc_size + target_place = omega arith in
         ap (λ (p : ℕ). le (take 2 (drop p m.arc_bytes))) e ∙ ap le (arc_field m t w h k no_arc l target_place 2 (omega arith))
-        ∙ two_bytes_lem (get_or t.arcs k no_arc).target (omega (arith, arc-is.target, w.counts.states_fit))
+        ∙ two_bytes_lem (get_or t.arcs k no_arc).target (omega (arith, arc_is.target, w.counts.states_fit))
 
     pub label_is : (i : ℕ) → i < t.tapes → get_or m.arc_bytes (label_place (0 + arc_size * k) i) 0 ≡ length (label_on i (get_or t.arcs k no_arc))
     label_is i b =
@@ -109,9 +109,9 @@ module _ (m : Memory) (t : Automaton ℕ) (w : WellFormed t) (h : Holds m t) whe
         ∙ ap (λ (x : List ℕ). get_or x 0 0) (label_field m t w h k no_arc l i b)
 
     -- the edge read of it is the arc of the table, or of its reversal
-    edge-is : (r : Bool) (i j : ℕ) → i < t.tapes → j < t.tapes → edge_at r i j (0 + arc_size * k) m.arc_bytes ≡ edge_of i j (get_or (directed r t).arcs k no_arc)
-    edge-is false i j a b = λ z. record { source = source_is z; target = target_is z; up = label_is i a z; down = label_is j b z }
-    edge-is true i j a b =
+    edge_is : (r : Bool) (i j : ℕ) → i < t.tapes → j < t.tapes → edge_at r i j (0 + arc_size * k) m.arc_bytes ≡ edge_of i j (get_or (directed r t).arcs k no_arc)
+    edge_is false i j a b = λ z. record { source = source_is z; target = target_is z; up = label_is i a z; down = label_is j b z }
+    edge_is true i j a b =
         (λ z. record { source = target_is z; target = source_is z; up = label_is i a z; down = label_is j b z })
         ∙ ap (edge_of i j) (sym (map_at turned t.arcs k no_arc no_arc (omega (arith, h.arcs))))
 
@@ -133,7 +133,7 @@ module _ (m : Memory) (t : Automaton ℕ) (w : WellFormed t) (h : Holds m t) whe
       ext_get_or d (edges r i j 0 m.arcs m.arc_bytes) (map (edge_of i j) rs) (n ∙ arcs_count r ∙ sym (length-map rs (edge_of i j)))
       (λ k l.
       let c : k < m.arcs = omega (arith, n) in
-      edges_at r i j 0 m.arcs m.arc_bytes k d c ∙ edge-is k c r i j a b ∙ sym (map_at (edge_of i j) rs k no_arc d (omega (arith, arcs_count r))))
+      edges_at r i j 0 m.arcs m.arc_bytes k d c ∙ edge_is k c r i j a b ∙ sym (map_at (edge_of i j) rs k no_arc d (omega (arith, arcs_count r))))
 
   -- a flag of the k-th state, by its place in the record
   module _ (k : ℕ) (l : k < m.states) where
@@ -221,7 +221,7 @@ module _ (t : Automaton ℕ) (ok : Formed t) (i j : ℕ) where
       ap (rounds_of true es (size t)) (iterate_same (round_of false es) (round_in_place (graph t) missing (relax i j)) (λ x. relax-sweep t es i j x t.arcs) (size t) ys)
       ∙ iterate_same (round_of true es) (round_in_place (graph t) missing (diverge i j)) (λ x. diverge-sweep t es i j x t.arcs) (size t)
       (iterate (size t) (round_in_place (graph t) missing (relax i j)) ys)
-      ∙ (in-place-least t ok i j) ys all (λ q lt. stands_held (l.stands q lt)) l.less
+      ∙ (in_place_least t ok i j) ys all (λ q lt. stands_held (l.stands q lt)) l.less
 
 -- the least delays that the code finds are those of the definition, for the table and for its reversal
 pub least_are : (m : Memory) (t : Automaton ℕ) → WellFormed t → Holds m t → (r : Bool) (i j : ℕ) → i < t.tapes → j < t.tapes

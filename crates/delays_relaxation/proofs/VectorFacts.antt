@@ -88,18 +88,18 @@ vector_store at n q x w h l f =
         rw (e, get_or-set_same (vector at n w) q) (le-splice 2 x (at + delays_size * q) w f (omega arith))
     go p b (no ne) =
         let d : get_or (set (vector at n w) q x) p 0 ≡ get_or (vector at n w) p 0 = rw get_or-set_other in
-        frame-away p b (lt-or p q ne) ∙ sym (vector_at at n w p 0 b) ∙ sym d
+        frame_away p b (lt_or p q ne) ∙ sym (vector_at at n w p 0 b) ∙ sym d
       where
-        lt-or : (a c : ℕ) → (a ≡ c → ⊥) → (a < c) ⊎ (c < a)
-        lt-or zero zero k = absurd (k refl)
-        lt-or zero (suc c) k = inl (omega arith)
-        lt-or (suc a) zero k = inr (omega arith)
-        lt-or (suc a) (suc c) k = lt-suc (lt-or a c (λ e. k (ap suc e)))
+        lt_or : (a c : ℕ) → (a ≡ c → ⊥) → (a < c) ⊎ (c < a)
+        lt_or zero zero k = absurd (k refl)
+        lt_or zero (suc c) k = inl (omega arith)
+        lt_or (suc a) zero k = inr (omega arith)
+        lt_or (suc a) (suc c) k = lt_suc (lt_or a c (λ e. k (ap suc e)))
           where
-            lt-suc : (a < c) ⊎ (c < a) → (suc a < suc c) ⊎ (suc c < suc a)
-            lt-suc (inl r) = inl (omega arith)
-            lt-suc (inr r) = inr (omega arith)
+            lt_suc : (a < c) ⊎ (c < a) → (suc a < suc c) ⊎ (suc c < suc a)
+            lt_suc (inl r) = inl (omega arith)
+            lt_suc (inr r) = inr (omega arith)
 
-        frame-away : (p : ℕ) → p < n → (p < q) ⊎ (q < p) → le (part (at + delays_size * p) 2 (splice (at + delays_size * q) (to_le 2 x) w)) ≡ le (part (at + delays_size * p) 2 w)
-        frame-away p b (inl r) = ap le (part-splice_before (at + delays_size * p) 2 (at + delays_size * q) (to_le 2 x) w (omega arith) (omega arith))
-        frame-away p b (inr r) = ap le (part-splice_after (at + delays_size * p) 2 (at + delays_size * q) (to_le 2 x) w (omega (arith, length_to_le 2 x)) (omega (arith, length_to_le 2 x)))
+        frame_away : (p : ℕ) → p < n → (p < q) ⊎ (q < p) → le (part (at + delays_size * p) 2 (splice (at + delays_size * q) (to_le 2 x) w)) ≡ le (part (at + delays_size * p) 2 w)
+        frame_away p b (inl r) = ap le (part-splice_before (at + delays_size * p) 2 (at + delays_size * q) (to_le 2 x) w (omega arith) (omega arith))
+        frame_away p b (inr r) = ap le (part-splice_after (at + delays_size * p) 2 (at + delays_size * q) (to_le 2 x) w (omega (arith, length_to_le 2 x)) (omega (arith, length_to_le 2 x)))

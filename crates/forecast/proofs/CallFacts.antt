@@ -27,7 +27,7 @@ use Rattle.automata.specs.Layout.{delays_size}
 use Rattle.table.specs.declared.answer.Refusal.{Refusal}
 use Rattle.table.specs.declared.answer.Judged.{Judged}
 use Rattle.table.specs.declared.answer.Judged.TheVariants.{Fine, Refused}
-use Rattle.table.specs.Answers.{judgedAs}
+use Rattle.table.specs.Answers.{judged_as}
 use Rattle.table.specs.Pairs.{pairs_as, Named}
 use Rattle.table.proofs.TableFacts.{judged_sound}
 use Rattle.pairs.specs.declared.PairsJudged.{PairsJudged}
@@ -59,8 +59,8 @@ space_fits room states work e = rw e (go (leb states (work / delays_size)) refl)
     go false q = sym (lt-leb (delays_size * states) work (omega (arith, leb-false states (work / delays_size) q)))
 
 -- the first refusal by the judgements themselves
-pub first_judged : (j t p : Judged) (t' : Answer (Unit {0})) (b b' : Bool) → judgedAs j ≡ in_turn (judgedAs t) (judgedAs p) b → judgedAs t ≡ t' → b ≡ b'
-    → judgedAs j ≡ in_turn t' (judgedAs p) b'
+pub first_judged : (j t p : Judged) (t' : Answer (Unit {0})) (b b' : Bool) → judged_as j ≡ in_turn (judged_as t) (judged_as p) b → judged_as t ≡ t' → b ≡ b'
+    → judged_as j ≡ in_turn t' (judged_as p) b'
 first_judged j t p t' b b' e f g = rw (← f, ← g) e
 
 -- ---- the answer
@@ -70,15 +70,15 @@ pub used_none : (l : ForecastList) → l ≡ no_forecasts → l.used ≤ 4
 used_none l e = rw e (omega arith)
 
 module _ (m : Memory) (ps : List Pair) (room : Bool) (w : List ℕ) (listed : PairsJudged) (k : TapesJudged ps m.tapes listed) (j : Judged)
-    (e : judgedAs j ≡ in_turn (forget (decode_table m)) (judgedAs listed.judged) (and room (leb (forecast_work m.states) (length w)))) where
+    (e : judged_as j ≡ in_turn (forget (decode_table m)) (judged_as listed.judged) (and room (leb (forecast_work m.states) (length w)))) where
   -- what is asked of the space
   abbrev space : Bool
   space = and room (leb (forecast_work m.states) (length w))
 
   -- the call by the judgements
-  answer_in_turn : forecast_answer m ps room w ≡ (judgedAs j >>= λ (u : Unit {0}). ok (map (forecast_of (table_of m)) ps))
+  answer_in_turn : forecast_answer m ps room w ≡ (judged_as j >>= λ (u : Unit {0}). ok (map (forecast_of (table_of m)) ps))
   unfolding forecast_answer
-  answer_in_turn = by_turns m (judgedAs listed.judged) (judgedAs j) space next rest e (λ A d.
+  answer_in_turn = by_turns m (judged_as listed.judged) (judged_as j) space next rest e (λ A d.
       let s : Sound m = sound m A d in
       let y : and room (enough (forecast_work (size (table_of m))) w) ≡ space
       = ap (λ (n : ℕ). and room (leb (forecast_work n) (length w))) (sym (sound_holds m s).states) in
@@ -96,29 +96,29 @@ module _ (m : Memory) (ps : List Pair) (room : Bool) (w : List ℕ) (listed : Pa
   -- a refusal, with whatever forecasts
   pub answer_refused : (l : ForecastList) (why : Refusal) → j ≡ Refused why → answer_as (record { judged = j; told = l }) ≡ forecast_answer m ps room w
   answer_refused l why q =
-      ap (λ (i : Judged). judgedAs i >>= λ (u : Unit {0}). ok (forecasts_as l)) q
-      ∙ sym (answer_in_turn ∙ ap (λ (i : Judged). judgedAs i >>= λ (u : Unit {0}). ok (map (forecast_of (table_of m)) ps)) q)
+      ap (λ (i : Judged). judged_as i >>= λ (u : Unit {0}). ok (forecasts_as l)) q
+      ∙ sym (answer_in_turn ∙ ap (λ (i : Judged). judged_as i >>= λ (u : Unit {0}). ok (map (forecast_of (table_of m)) ps)) q)
 
   module _ (fine : j ≡ Fine) where
-    first : (u : Unit {0}) × (forget (decode_table m) ≡ ok u) × ((judgedAs listed.judged >>= λ (v : Unit {0}). require space refusal.space) ≡ ok tt)
-    first = bind_ok (forget (decode_table m)) (λ (u : Unit {0}). judgedAs listed.judged >>= λ (v : Unit {0}). require space refusal.space) tt (sym e ∙ ap judgedAs fine)
+    first : (u : Unit {0}) × (forget (decode_table m) ≡ ok u) × ((judged_as listed.judged >>= λ (v : Unit {0}). require space refusal.space) ≡ ok tt)
+    first = bind_ok (forget (decode_table m)) (λ (u : Unit {0}). judged_as listed.judged >>= λ (v : Unit {0}). require space refusal.space) tt (sym e ∙ ap judged_as fine)
 
-    next : (u : Unit {0}) × (judgedAs listed.judged ≡ ok u) × (require space refusal.space ≡ ok tt)
-    next = bind_ok (judgedAs listed.judged) (λ (v : Unit {0}). require space refusal.space) tt first.2
+    next : (u : Unit {0}) × (judged_as listed.judged ≡ ok u) × (require space refusal.space ≡ ok tt)
+    next = bind_ok (judged_as listed.judged) (λ (v : Unit {0}). require space refusal.space) tt first.2
 
     listed_fine : listed.judged ≡ Fine
     listed_fine = judged_fine listed.judged next.0 next.1
 
     -- the table is one, the pairs name its tapes, and the work space is enough
-    pub may-tell : Sound m × Named m.tapes listed.pairs × (forecast_work m.states ≤ length w)
-    may-tell = (judged_sound m first.1, k.tapes_named listed_fine, leb-true (forecast_work m.states) (length w) (and_true room _ (require_true space refusal.space tt next.2)).1)
+    pub may_tell : Sound m × Named m.tapes listed.pairs × (forecast_work m.states ≤ length w)
+    may_tell = (judged_sound m first.1, k.tapes_named listed_fine, leb-true (forecast_work m.states) (length w) (and_true room _ (require_true space refusal.space tt next.2)).1)
 
     -- the forecasts of the pairs
-    pub answer-told : (l : ForecastList) → forecasts_as l ≡ map (forecast_of (table_of m)) (tapes_of (pairs_as listed.pairs)) → answer_as (record { judged = j; told = l }) ≡ forecast_answer m ps room w
-    answer-told l q =
-        ap (λ (i : Judged). judgedAs i >>= λ (u : Unit {0}). ok (forecasts_as l)) fine
+    pub answer_told : (l : ForecastList) → forecasts_as l ≡ map (forecast_of (table_of m)) (tapes_of (pairs_as listed.pairs)) → answer_as (record { judged = j; told = l }) ≡ forecast_answer m ps room w
+    answer_told l q =
+        ap (λ (i : Judged). judged_as i >>= λ (u : Unit {0}). ok (forecasts_as l)) fine
         ∙ ap ok (q ∙ ap (map (forecast_of (table_of m))) (k.pairs listed_fine))
-        ∙ sym (answer_in_turn ∙ ap (λ (i : Judged). judgedAs i >>= λ (u : Unit {0}). ok (map (forecast_of (table_of m)) ps)) fine)
+        ∙ sym (answer_in_turn ∙ ap (λ (i : Judged). judged_as i >>= λ (u : Unit {0}). ok (map (forecast_of (table_of m)) ps)) fine)
 
 -- ---- the outcome
 

@@ -105,15 +105,15 @@ module _ (m : Memory) (s : Sound m) where
   -- the states marked are those on successful paths
   on_paths_lem : (w : List ℕ) → Marked m w → marks_from 0 n w ≡ on_paths A
   unfolding on_paths
-  on_paths_lem w k = marks_are 0 n w (on_paths A) (length_on_paths A (well_formed A (sound_well_formed m s)) ∙ sym (sound_holds m s).states) (λ q h. both-marked (reaching (reversal A)) (reaching A) q ∙ sym (at-state q h))
+  on_paths_lem w k = marks_are 0 n w (on_paths A) (length_on_paths A (well_formed A (sound_well_formed m s)) ∙ sym (sound_holds m s).states) (λ q h. both-marked (reaching (reversal A)) (reaching A) q ∙ sym (at_state q h))
     where
-      mark-in : (c : ℕ) (xs : List Bool) → vector c n w ≡ map held xs → (q : ℕ) → q < n → not (eqb (le (part (0 + delays_size * q + c) 2 w)) missing) ≡ get_or xs q false
-      mark-in c xs e q h =
+      mark_in : (c : ℕ) (xs : List Bool) → vector c n w ≡ map held xs → (q : ℕ) → q < n → not (eqb (le (part (0 + delays_size * q + c) 2 w)) missing) ≡ get_or xs q false
+      mark_in c xs e q h =
           let i : 0 + delays_size * q + c ≡ c + delays_size * q = omega arith in
           ap (λ (j : ℕ). not (eqb (le (part j 2 w)) missing)) i ∙ ap (λ (x : ℕ). not (eqb x missing)) (held_in c w xs e q h) ∙ mark-held (get_or xs q false)
 
-      at-state : (q : ℕ) → q < n → on_path_at (0 + delays_size * q) w ≡ and (get_or (reaching (reversal A)) q false) (get_or (reaching A) q false)
-      at-state q h = ap₂ and (mark-in from_initial (reaching (reversal A)) k.from_initial q h) (mark-in to_final (reaching A) k.to_final q h)
+      at_state : (q : ℕ) → q < n → on_path_at (0 + delays_size * q) w ≡ and (get_or (reaching (reversal A)) q false) (get_or (reaching A) q false)
+      at_state q h = ap₂ and (mark_in from_initial (reaching (reversal A)) k.from_initial q h) (mark_in to_final (reaching A) k.to_final q h)
 
   -- how many they are
   pub found_are : (found : ℕ) (w : List ℕ) → Marked m w → found ≡ rank (marks_from 0 n w) n → found ≡ path_states A
@@ -156,55 +156,55 @@ module _ (m : Memory) (s : Sound m) where
         rw (z, e₀, e₁, e₂, e₃)
 
     -- the test of the definition
-    pub both-are : both_from 0 n w ≡ mixed_on A (on_tapes p)
+    pub both_are : both_from 0 n w ≡ mixed_on A (on_tapes p)
     unfolding mixed_on
-    both-are =
+    both_are =
         ap (λ (k : ℕ). both_from 0 k w) (sound_holds m s).states
         ∙ both-any (λ q. meets_both before after q) 0 0 A.states w (λ q h. both_is q (omega (arith, (sound_holds m s).states)))
 
   -- ---- the arc records
 
   module _ (p : Pair) (i : Within m.tapes p) where
-    first-in : p.first - 1 < m.tapes
-    first-in = omega (arith, i.first_from, i.first_to)
+    first_in_lem : p.first - 1 < m.tapes
+    first_in_lem = omega (arith, i.first_from, i.first_to)
 
-    second-in : p.second - 1 < m.tapes
-    second-in = omega (arith, i.second_from, i.second_to)
+    second_in_lem : p.second - 1 < m.tapes
+    second_in_lem = omega (arith, i.second_from, i.second_to)
 
     in_table : {t : ℕ} → t < m.tapes → t < A.tapes
     in_table l = omega (arith, (sound_holds m s).tapes)
 
-    few-tapes : m.tapes ≤ 8
+    few_tapes : m.tapes ≤ 8
     few_tapes = omega (arith, (sound_holds m s).tapes, (sound_well_formed m s).counts.tapes_fit)
 
     -- the pair names tapes of eight
-    pub within-eight : Within 8 p
-    within-eight = record {
+    pub within_eight : Within 8 p
+    within_eight = record {
       first_from = i.first_from;
-      first_to = omega (arith, i.first_to, few-tapes);
+      first_to = omega (arith, i.first_to, few_tapes);
       second_from = i.second_from;
-      second_to = omega (arith, i.second_to, few-tapes);
+      second_to = omega (arith, i.second_to, few_tapes);
     }
 
     -- they can be read on the pair's tapes
-    pub arcs-readable : ReadableArcs n m.arc_bytes m.arcs false (p.first - 1) (p.second - 1)
-    arcs-readable = readable_arcs m.state_bytes n m.arc_bytes m.arcs false (p.first - 1) (p.second - 1) (sound_readable m s) (omega (arith, first-in, few-tapes)) (omega (arith, second-in, few-tapes))
+    pub arcs_readable : ReadableArcs n m.arc_bytes m.arcs false (p.first - 1) (p.second - 1)
+    arcs_readable = readable_arcs m.state_bytes n m.arc_bytes m.arcs false (p.first - 1) (p.second - 1) (sound_readable m s) (omega (arith, first_in_lem, few_tapes)) (omega (arith, second_in_lem, few_tapes))
 
     -- and their labels are short
-    pub labels-short : ShortLabels m.arc_bytes m.arcs (p.first - 1) (p.second - 1)
-    labels-short = record {
+    pub labels_short : ShortLabels m.arc_bytes m.arcs (p.first - 1) (p.second - 1)
+    labels_short = record {
       lent = (sound_listable m s).2;
-      first_tape = omega (arith, first-in, few-tapes);
-      second_tape = omega (arith, second-in, few-tapes);
-      first_short = λ k h. (reads_arc m s k h no_arc).label_fits (p.first - 1) first-in;
-      second_short = λ k h. (reads_arc m s k h no_arc).label_fits (p.second - 1) second-in;
+      first_tape = omega (arith, first_in_lem, few_tapes);
+      second_tape = omega (arith, second_in_lem, few_tapes);
+      first_short = λ k h. (reads_arc m s k h no_arc).label_fits (p.first - 1) first_in_lem;
+      second_short = λ k h. (reads_arc m s k h no_arc).label_fits (p.second - 1) second_in_lem;
     }
 
     -- the greatest delay
-    greatest-is : (w : List ℕ) → Marked m w
+    greatest_is : (w : List ℕ) → Marked m w
         → greatest_of (marks_from 0 n w) (edges false (p.first - 1) (p.second - 1) 0 m.arcs m.arc_bytes) ≡ greatest_delay (on_paths A) (p.first - 1) (p.second - 1) A.arcs
-    greatest-is w k =
-        ap₂ greatest_of (on_paths_lem w k) (edges_are m A (sound_well_formed m s) (sound_holds m s) false (p.first - 1) (p.second - 1) (in_table first-in) (in_table second-in))
+    greatest_is w k =
+        ap₂ greatest_of (on_paths_lem w k) (edges_are m A (sound_well_formed m s) (sound_holds m s) false (p.first - 1) (p.second - 1) (in_table first_in_lem) (in_table second_in_lem))
         ∙ greatest_arcs (on_paths A) (p.first - 1) (p.second - 1) A.arcs
 
     -- a label, as it is compared
@@ -218,34 +218,34 @@ module _ (m : Memory) (s : Sound m) where
         ∙ ap (map reading) (sym (take-take (get_or m.arc_bytes (label_place (arc_size * k) t) 0) 8 _ (r.label_fits t l)) ∙ sym (r.label t l) ∙ ap (label_on t) (place_default A.arcs k a e))
 
     -- the symbols
-    symbols-is : insert_all eqb [] (symbols_from (p.first - 1) (p.second - 1) 0 m.arcs m.arc_bytes) ≡ symbols_on A (on_tapes p)
+    symbols_is : insert_all eqb [] (symbols_from (p.first - 1) (p.second - 1) 0 m.arcs m.arc_bytes) ≡ symbols_on A (on_tapes p)
     unfolding symbols_on
-    symbols-is =
+    symbols_is =
         ap (insert_all eqb [])
         (ap (λ (k : ℕ). symbols_from (p.first - 1) (p.second - 1) 0 k m.arc_bytes) (sound_holds m s).arcs
         ∙ symbols_are (p.first - 1) (p.second - 1) 0 m.arc_bytes (λ a. first_label (on_tapes p) a ++ second_label (on_tapes p) a) A.arcs (λ k a e.
         ap₂ (λ (x y : List ℕ). x ++ y)
-        (label_is (p.first - 1) first-in k a e)
-        (label_is (p.second - 1) second-in k a e)))
+        (label_is (p.first - 1) first_in_lem k a e)
+        (label_is (p.second - 1) second_in_lem k a e)))
 
     -- ---- the forecast
 
     module _ (found : ℕ) (f : found ≡ path_states A) (w : List ℕ) (k : Marked m w) where
       -- the delay
-      delay-is : delay_by (p.first - 1) (p.second - 1) m.arcs m.arc_bytes n w found ≡ needed_delay A (on_tapes p)
+      delay_is : delay_by (p.first - 1) (p.second - 1) m.arcs m.arc_bytes n w found ≡ needed_delay A (on_tapes p)
       unfolding needed_delay
-      delay-is = ap₂ (λ (x y : ℕ). (x - 1) * y) f (greatest-is w k)
+      delay_is = ap₂ (λ (x y : ℕ). (x - 1) * y) f (greatest_is w k)
 
       -- it has two bytes
-      pub delay-fits : delay_by (p.first - 1) (p.second - 1) m.arcs m.arc_bytes n w found < 65536
-      delay-fits = omega (arith, delay-is, needed_small A (well_formed A (sound_well_formed m s)) (on_tapes p))
+      pub delay_fits : delay_by (p.first - 1) (p.second - 1) m.arcs m.arc_bytes n w found < 65536
+      delay_fits = omega (arith, delay_is, needed_small A (well_formed A (sound_well_formed m s)) (on_tapes p))
 
       -- what is told of a pair that is not mixed
-      needed-is : needed_by (p.first - 1) (p.second - 1) m.arcs m.arc_bytes n w found ≡ needs (needed_delay A (on_tapes p)) (told (size A * leftovers_of A (on_tapes p)))
+      needed_is : needed_by (p.first - 1) (p.second - 1) m.arcs m.arc_bytes n w found ≡ needs (needed_delay A (on_tapes p)) (told (size A * leftovers_of A (on_tapes p)))
       unfolding leftovers_of
-      needed-is =
-          ap₂ needs delay-is
-          (ap (λ (x : ℕ). told_capped x symbols delay) (sound_holds m s).states ∙ ap₂ (told_capped (size A)) (ap length symbols-is) delay-is
+      needed_is =
+          ap₂ needs delay_is
+          (ap (λ (x : ℕ). told_capped x symbols delay) (sound_holds m s).states ∙ ap₂ (told_capped (size A)) (ap length symbols_is) delay_is
           ∙ told_capped_lem (size A) (length (symbols_on A (on_tapes p))) (needed_delay A (on_tapes p)))
         where
           delay : ℕ
@@ -257,7 +257,7 @@ module _ (m : Memory) (s : Sound m) where
       -- and that is its forecast
       pub pair-needs : (b : Bool) → b ≡ mixed_on A (on_tapes p) → b ≡ false → needed_by (p.first - 1) (p.second - 1) m.arcs m.arc_bytes n w found ≡ forecast_of A (tapes_as p)
       unfolding forecast_of forecast
-      pair-needs b e q = needed-is ∙ rw (sym e ∙ q)
+      pair-needs b e q = needed_is ∙ rw (sym e ∙ q)
 
     -- a pair that is mixed
     pub pair-mixed : (b : Bool) → b ≡ mixed_on A (on_tapes p) → b ≡ true → mixed ≡ forecast_of A (tapes_as p)

@@ -7,7 +7,7 @@ ghost use Rattle.automata.specs.TapePair.{Pair, tapes_of};
 ghost use Rattle.automata.specs.Calls.Outcome.{cleared};
 ghost use Rattle.automata.specs.Calls.Work.{forecast_work};
 ghost use Rattle.automata.specs.Calls.Forecast.{forecast_answer, forecast_recorded, foretold_of, record_bytes, recorded_of};
-ghost use Rattle.table.specs.Answers.{judgedAs, lent};
+ghost use Rattle.table.specs.Answers.{judged_as, lent};
 ghost use Rattle.pairs.specs.PairBytes.{pairs_of};
 ghost use Rattle.pairs.specs.PairTests.{in_turn};
 ghost use Rattle.pairs.specs.Judgement.{TapesJudged, TapesListed};
@@ -45,8 +45,8 @@ fn first_refusal(
     room: bool,
     work: usize,
 ) -> Judged
-    ensures { judgedAs result ≡ in_turn (forget (decode_table (lent counts states.now arcs.now)))
-        (judgedAs pairs) (and room (leb (forecast_work counts.states) work)) }
+    ensures { judged_as result ≡ in_turn (forget (decode_table (lent counts states.now arcs.now)))
+        (judged_as pairs) (and room (leb (forecast_work counts.states) work)) }
 {
     let table = judge(counts, states, arcs);
     in_turn(table, pairs, has_space(room, counts.states, work))

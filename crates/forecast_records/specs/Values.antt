@@ -4,7 +4,7 @@ use Rattle.automata.specs.Lists.{if}
 use Rattle.automata.specs.Answer.{◌>>=◌, Answer, ok}
 use Rattle.automata.specs.Forecast as automata
 use Rattle.automata.specs.Forecast.{number, over, mixed, needs}
-use Rattle.table.specs.Answers.{judgedAs}
+use Rattle.table.specs.Answers.{judged_as}
 use Rattle.forecast_records.specs.declared.Forecast.{Forecast}
 use Rattle.forecast_records.specs.declared.ForecastList.{ForecastList}
 use Rattle.forecast_records.specs.declared.ForecastAnswer.{ForecastAnswer}
@@ -26,4 +26,4 @@ forecasts_as l = map forecast_as (take l.used l.forecasts)
 
 -- the answer of a call
 abbrev pub answer_as : ForecastAnswer → Answer (List automata.Forecast)
-answer_as a = judgedAs a.judged >>= λ u. ok (forecasts_as a.told)
+answer_as a = judged_as a.judged >>= λ u. ok (forecasts_as a.told)

@@ -17,27 +17,27 @@ use Rattle.automata.specs.Layout.{arc_size, state_size}
 use Rattle.table.specs.declared.answer.Refusal.{Refusal}
 use Rattle.table.specs.declared.answer.Judged.{Judged}
 use Rattle.table.specs.declared.answer.Judged.TheVariants.{Fine, Refused}
-use Rattle.table.specs.Answers.{judgedAs, refusalNumber}
+use Rattle.table.specs.Answers.{judged_as, refusal_number}
 use Rattle.table.specs.Pairs.{pairs_as}
 use Rattle.intersect.specs.declared.prepare.Prepared.{Prepared}
 use Rattle.intersect.specs.Prepared.{Prepares}
 use Rattle.intersect_result.specs.Searched.{table_by}
 
-module _ (m : Memory) (listed : List TapePair) (oldStates oldArcs work : List ℕ) (r : Prepared)
-    (p : Prepares m listed (length oldStates / state_size) (length oldArcs / arc_size) (length work) r) where
+module _ (m : Memory) (listed : List TapePair) (old_states old_arcs work : List ℕ) (r : Prepared)
+    (p : Prepares m listed (length old_states / state_size) (length old_arcs / arc_size) (length work) r) where
   -- the slices, and what the call answers
   abbrev slices : Slices
-  slices = slices_of oldStates oldArcs
+  slices = slices_of old_states old_arcs
 
   abbrev answer : Answer (Automaton ℕ)
   answer = intersect_answer m listed (space_of slices) work
 
   -- a refusal before any configuration is reached
-  pub call_refused : (why : Refusal) → r.judged ≡ Refused why → made_of (refused (refusalNumber why)) oldStates oldArcs ≡ put answer slices
+  pub call_refused : (why : Refusal) → r.judged ≡ Refused why → made_of (refused (refusal_number why)) old_states old_arcs ≡ put answer slices
   call_refused why e =
-      sym (put_refused slices (refusalNumber why))
+      sym (put_refused slices (refusal_number why))
       ∙ ap (λ (a : Answer (Automaton ℕ)). put a slices)
-      (sym (p.answer work refl ∙ ap (λ (j : Judged). judgedAs j >>= λ (u : Unit {0}). intersect_on (space_of slices) listed (table_of m)) e))
+      (sym (p.answer work refl ∙ ap (λ (j : Judged). judged_as j >>= λ (u : Unit {0}). intersect_on (space_of slices) listed (table_of m)) e))
 
   -- the answer of the search is the call's
   pub call_answered : r.judged ≡ Fine → (a : Answer TableCounts) (states arc_bytes : List ℕ)
@@ -47,7 +47,7 @@ module _ (m : Memory) (listed : List TapePair) (oldStates oldArcs work : List �
   call_answered e a states arc_bytes z =
       z ∙ ap (λ (ps : List TapePair). put (table_by m ps (viable (closing_tables (table_of m) ps)) (space_of slices)) slices) (p.pairs_are e)
       ∙ ap (λ (x : Answer (Automaton ℕ)). put x slices)
-      (sym (p.answer work refl ∙ ap (λ (j : Judged). judgedAs j >>= λ (u : Unit {0}). intersect_on (space_of slices) listed (table_of m)) e))
+      (sym (p.answer work refl ∙ ap (λ (j : Judged). judged_as j >>= λ (u : Unit {0}). intersect_on (space_of slices) listed (table_of m)) e))
 
 -- Work space is zero afterwards.
 pub call_cleared : (m : Memory) (ps : List TapePair) (s : Slices) (work zeroed : List ℕ) (n : ℕ) (a : Answer TableCounts) (states arcs : List ℕ)

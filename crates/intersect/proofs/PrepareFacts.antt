@@ -17,7 +17,7 @@ use Rattle.automata.proofs.AnswerFacts.{bind_ok}
 use Rattle.automata.proofs.SoundFacts.{sound, table_of_is, sound_holds}
 use Rattle.table.specs.declared.answer.Judged.{Judged}
 use Rattle.table.specs.declared.answer.Judged.TheVariants.{Fine}
-use Rattle.table.specs.Answers.{judgedAs}
+use Rattle.table.specs.Answers.{judged_as}
 use Rattle.table.proofs.TableFacts.{judged_sound}
 use Rattle.pairs.specs.declared.PairsJudged.{PairsJudged}
 use Rattle.pairs.specs.PairTests.{pairs_answer, in_turn}
@@ -53,10 +53,10 @@ module _ (m : Memory) (ps : List TapePair) (states arcs work : ℕ) (t p j : Ans
 
 -- The judgements are those of the call.
 pub prepared : (m : Memory) (ps : List TapePair) (states arcs work : ℕ) (t j : Judged) (l : PairsJudged) (r : RoomAnswer)
-    → judgedAs t ≡ forget (decode_table m) → KeepJudged ps m.tapes l → RoomFor states arcs m.states work r → judgedAs j ≡ in_turn (judgedAs t) (judgedAs l.judged) r.enough
+    → judged_as t ≡ forget (decode_table m) → KeepJudged ps m.tapes l → RoomFor states arcs m.states work r → judged_as j ≡ in_turn (judged_as t) (judged_as l.judged) r.enough
     → Prepares m ps states arcs work (record { judged = j; pairs = l.pairs; room = r.room })
 prepared m ps states arcs work t j l r e f g h = record {
-  answer = call_in_turn m ps states arcs work (judgedAs t) (judgedAs l.judged) (judgedAs j) r.enough e f.answer g.enough h;
+  answer = call_in_turn m ps states arcs work (judged_as t) (judged_as l.judged) (judged_as j) r.enough e f.answer g.enough h;
   sound = λ k. judged_sound m (sym e ∙ (first k).1);
   pairs_are = λ k. f.pairs (second k);
   four = λ k. f.four (second k);
@@ -65,11 +65,11 @@ prepared m ps states arcs work t j l r e f g h = record {
   divides = λ k. g.divides (third k);
 }
   where
-    first : j ≡ Fine → (u : Unit {0}) × (judgedAs t ≡ ok u) × ((judgedAs l.judged >>= λ (v : Unit {0}). require r.enough refusal.space) ≡ ok tt)
-    first k = bind_ok (judgedAs t) (λ (u : Unit {0}). judgedAs l.judged >>= λ (v : Unit {0}). require r.enough refusal.space) tt (sym h ∙ ap judgedAs k)
+    first : j ≡ Fine → (u : Unit {0}) × (judged_as t ≡ ok u) × ((judged_as l.judged >>= λ (v : Unit {0}). require r.enough refusal.space) ≡ ok tt)
+    first k = bind_ok (judged_as t) (λ (u : Unit {0}). judged_as l.judged >>= λ (v : Unit {0}). require r.enough refusal.space) tt (sym h ∙ ap judged_as k)
 
-    next : j ≡ Fine → (u : Unit {0}) × (judgedAs l.judged ≡ ok u) × (require r.enough refusal.space ≡ ok tt)
-    next k = bind_ok (judgedAs l.judged) (λ (v : Unit {0}). require r.enough refusal.space) tt (first k).2
+    next : j ≡ Fine → (u : Unit {0}) × (judged_as l.judged ≡ ok u) × (require r.enough refusal.space ≡ ok tt)
+    next k = bind_ok (judged_as l.judged) (λ (v : Unit {0}). require r.enough refusal.space) tt (first k).2
 
     second : j ≡ Fine → l.judged ≡ Fine
     second k = judged_fine l.judged (next k).0 (next k).1

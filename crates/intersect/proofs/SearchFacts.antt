@@ -68,21 +68,21 @@ module _ (p : Plan) (states arcs : List ℕ) (size : ℕ) (x : Explorable p stat
   }
 
   -- so that it can be answered
-  pub answerable : (forStates forArcs : ℕ) → Divides (forStates / state_size) (forArcs / arc_size) p.counts.states (length v) p.room
-      → Answerable p h states arcs w forStates forArcs
-  answerable forStates forArcs d = record {
+  pub answerable : (for_states for_arcs : ℕ) → Divides (for_states / state_size) (for_arcs / arc_size) p.counts.states (length v) p.room
+      → Answerable p h states arcs w for_states for_arcs
+  answerable for_states for_arcs d = record {
     sound = x.sound;
-    divides = subst (λ (k : ℕ). Divides (forStates / state_size) (forArcs / arc_size) p.counts.states k p.room) (sym e.same_length) d;
+    divides = subst (λ (k : ℕ). Divides (for_states / state_size) (for_arcs / arc_size) p.counts.states k p.room) (sym e.same_length) d;
     pairs = pairs_in p;
     test = viable_in p states arcs;
     searched = searched;
   }
 
 -- a table, pairs of its tapes with limits in range and the parts of the work space are what the search asks for
-pub searchable : (c : Counts) (states arcs : List ℕ) (pairs : PairList) (room : Room) (forStates forArcs work : ℕ)
-    → Sound (lent c states arcs) → Named c.tapes pairs → length pairs.pairs ≡ 4 → limits_fit (pairs_as pairs) ≡ true → Divides forStates forArcs c.states work room
+pub searchable : (c : Counts) (states arcs : List ℕ) (pairs : PairList) (room : Room) (for_states for_arcs work : ℕ)
+    → Sound (lent c states arcs) → Named c.tapes pairs → length pairs.pairs ≡ 4 → limits_fit (pairs_as pairs) ≡ true → Divides for_states for_arcs c.states work room
     → Explorable (record { counts = c; pairs = pairs; room = room }) states arcs work
-searchable c states arcs pairs room forStates forArcs work s n f l d = record {
+searchable c states arcs pairs room for_states for_arcs work s n f l d = record {
   sound = s;
   named = n;
   four_pairs = f;
@@ -95,8 +95,8 @@ searchable c states arcs pairs room forStates forArcs work s n f l d = record {
 }
 
 -- what was judged before the search
-pub explorable : (c : Counts) (states arcs : List ℕ) (ps : List TapePair) (forStates forArcs work : ℕ) (r : Prepared)
-    → Prepares (lent c states arcs) ps forStates forArcs work r → r.judged ≡ Fine
+pub explorable : (c : Counts) (states arcs : List ℕ) (ps : List TapePair) (for_states for_arcs work : ℕ) (r : Prepared)
+    → Prepares (lent c states arcs) ps for_states for_arcs work r → r.judged ≡ Fine
     → Explorable (record { counts = c; pairs = r.pairs; room = r.room }) states arcs work
-explorable c states arcs ps forStates forArcs work r p e =
-    searchable c states arcs r.pairs r.room forStates forArcs work (p.sound e) (p.named e) (p.four e) (ap limits_fit (p.pairs_are e) ∙ p.within_limits e) (p.divides e)
+explorable c states arcs ps for_states for_arcs work r p e =
+    searchable c states arcs r.pairs r.room for_states for_arcs work (p.sound e) (p.named e) (p.four e) (ap limits_fit (p.pairs_are e) ∙ p.within_limits e) (p.divides e)

@@ -23,10 +23,10 @@ use Rattle.intersect.specs.Step.{Intersectable}
 use Rattle.intersect.proofs.SearchFacts.{searchable}
 
 -- what the search asks for
-pub step_ready : (p : Plan) (states arcs : List ℕ) (forStates forArcs work : ℕ) → Intersectable (lent p.counts states arcs) p.pairs p.room forStates forArcs work
-    → Explorable p states arcs work × Divides (forStates / state_size) (forArcs / arc_size) p.counts.states work p.room
-step_ready p states arcs forStates forArcs work x = (
-  searchable p.counts states arcs p.pairs p.room (forStates / state_size) (forArcs / arc_size) work x.sound x.named x.four x.within_limits x.divides,
+pub step_ready : (p : Plan) (states arcs : List ℕ) (for_states for_arcs work : ℕ) → Intersectable (lent p.counts states arcs) p.pairs p.room for_states for_arcs work
+    → Explorable p states arcs work × Divides (for_states / state_size) (for_arcs / arc_size) p.counts.states work p.room
+step_ready p states arcs for_states for_arcs work x = (
+  searchable p.counts states arcs p.pairs p.room (for_states / state_size) (for_arcs / arc_size) work x.sound x.named x.four x.within_limits x.divides,
   x.divides,
 )
 

@@ -6,7 +6,7 @@ use Rattle.automata.specs.TapePair.{TapePair, limits_fit}
 use Rattle.automata.specs.IntersectCall.{intersect_on}
 use Rattle.automata.specs.Calls.Intersect.{intersect_answer}
 use Rattle.table.specs.declared.answer.Judged.TheVariants.{Fine}
-use Rattle.table.specs.Answers.{judgedAs}
+use Rattle.table.specs.Answers.{judged_as}
 use Rattle.table.specs.Pairs.{pairs_as, Named}
 use Rattle.pairs.specs.declared.PairsJudged.{PairsJudged}
 use Rattle.pairs.specs.Judgement.{KeepJudged}
@@ -17,7 +17,7 @@ use Rattle.intersect.specs.declared.prepare.Prepared.{Prepared}
 -- of its parts.
 pub record Prepares (m : Memory) (ps : List TapePair) (states arcs work : ℕ) (r : Prepared) : Type 0 where
   pub answer : (w : List ℕ) → length w ≡ work → intersect_answer m ps (lent_space states arcs) w
-      ≡ (judgedAs r.judged >>= λ (u : Unit {0}). intersect_on (lent_space states arcs) ps (table_of m))
+      ≡ (judged_as r.judged >>= λ (u : Unit {0}). intersect_on (lent_space states arcs) ps (table_of m))
   pub sound : r.judged ≡ Fine → Sound m
   pub pairs_are : r.judged ≡ Fine → pairs_as r.pairs ≡ ps
   pub four : r.judged ≡ Fine → length r.pairs.pairs ≡ 4

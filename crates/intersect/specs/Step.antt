@@ -10,9 +10,9 @@ use Rattle.intersect_room.specs.Room.{Divides}
 
 -- a table, at most four pairs of its tapes by value with limits in range, and work space divided for slices of so many
 -- bytes
-pub record Intersectable (m : Memory) (pairs : PairList) (room : Room) (forStates forArcs work : ℕ) : Type 0 where
+pub record Intersectable (m : Memory) (pairs : PairList) (room : Room) (for_states for_arcs work : ℕ) : Type 0 where
   pub sound : Sound m
   pub named : Named m.tapes pairs
   pub four : length pairs.pairs ≡ 4
   pub within_limits : limits_fit (pairs_as pairs) ≡ true
-  pub divides : Divides (forStates / state_size) (forArcs / arc_size) m.states work room
+  pub divides : Divides (for_states / state_size) (for_arcs / arc_size) m.states work room

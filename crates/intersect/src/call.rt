@@ -3,7 +3,7 @@ ghost use Rattle.std.specs.Prelude.{◌≡◌, List};
 ghost use Rattle.automata.specs.TapePair.{TapePair};
 ghost use Rattle.automata.specs.Calls.Outcome.{space_of, put, made_of, built_of, slices_of};
 ghost use Rattle.automata.specs.Calls.Intersect.{intersect_answer, intersect_outcome};
-ghost use Rattle.table.specs.Answers.{lent, tableAs};
+ghost use Rattle.table.specs.Answers.{lent, table_as};
 ghost use Rattle.pairs.specs.PairBytes.{pairs_of};
 ghost use Rattle.pairs.specs.Judgement.{KeepJudged, Listed};
 
@@ -27,7 +27,7 @@ fn build(
 ) -> TableAnswer
     requires { Listed counts.tapes listed }
     ensures { (ps : List TapePair) → KeepJudged ps counts.tapes listed
-        → made_of (tableAs result) out_states.new out_arcs.new
+        → made_of (table_as result) out_states.new out_arcs.new
         ≡ put (intersect_answer (lent counts states.now arcs.now) ps
         (space_of (slices_of out_states.old out_arcs.old)) work.old)
         (slices_of out_states.old out_arcs.old) }
@@ -69,7 +69,7 @@ pub fn intersect_judged(
 ) -> TableAnswer
     requires { Listed counts.tapes listed }
     ensures { (ps : List TapePair) → KeepJudged ps counts.tapes listed
-        → built_of (tableAs result) out_states.new out_arcs.new work.new
+        → built_of (table_as result) out_states.new out_arcs.new work.new
         ≡ intersect_outcome (lent counts states.now arcs.now) ps
         (slices_of out_states.old out_arcs.old) work.old }
 {
@@ -89,7 +89,7 @@ pub fn intersect(
     out_arcs: &mut [u8],
     work: &mut [u8],
 ) -> TableAnswer
-    ensures { built_of (tableAs result) out_states.new out_arcs.new work.new
+    ensures { built_of (table_as result) out_states.new out_arcs.new work.new
         ≡ intersect_outcome (lent counts states.now arcs.now) (pairs_of pairs.now)
         (slices_of out_states.old out_arcs.old) work.old }
 {

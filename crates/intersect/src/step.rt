@@ -3,7 +3,7 @@ ghost use Rattle.std.specs.Prelude.{◌≡◌, ◌/◌, length};
 ghost use Rattle.automata.specs.Calls.Outcome.{space_of, put, made_of, slices_of};
 ghost use Rattle.automata.specs.Calls.JoinSteps.{intersect_step};
 ghost use Rattle.automata.specs.Layout.{arc_size, state_size};
-ghost use Rattle.table.specs.Answers.{lent, tableAs};
+ghost use Rattle.table.specs.Answers.{lent, table_as};
 ghost use Rattle.table.specs.Pairs.{pairs_as};
 ghost use Rattle.intersect_room.specs.Room.{Divides};
 ghost use Rattle.intersect_offers.specs.Plans.{Explorable, pairs_in, viable_in};
@@ -27,7 +27,7 @@ pub fn reach(
     requires { Explorable plan states.now arcs.now (length work.old)
         × Divides (length out_states.old / state_size) (length out_arcs.old / arc_size) plan.counts.states
         (length work.old) plan.room }
-    ensures { made_of (tableAs result) out_states.new out_arcs.new
+    ensures { made_of (table_as result) out_states.new out_arcs.new
         ≡ put (table_by (lent plan.counts states.now arcs.now) (pairs_in plan)
         (viable_in plan states.now arcs.now)
         (space_of (slices_of out_states.old out_arcs.old)))
@@ -49,7 +49,7 @@ pub fn intersect_step(
 ) -> TableAnswer
     requires { Intersectable (lent plan.counts states.now arcs.now) plan.pairs plan.room
         (length out_states.old) (length out_arcs.old) (length work.old) }
-    ensures { made_of (tableAs result) out_states.new out_arcs.new
+    ensures { made_of (table_as result) out_states.new out_arcs.new
         ≡ intersect_step (lent plan.counts states.now arcs.now) (pairs_as plan.pairs)
         (slices_of out_states.old out_arcs.old) }
 {

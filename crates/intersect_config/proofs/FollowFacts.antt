@@ -16,7 +16,7 @@ use Rattle.intersect_config.specs.Leftovers.{blank, outside, leftover_at, Advanc
 use Rattle.intersect_config.specs.Configs.{Config, config_at, slot, Row, Starts, row_size}
 use Rattle.intersect_config.specs.Steps.{pair_after, Followable, Follows, FollowsIn, Advanceable, AdvancesAt}
 use Rattle.intersect_config.proofs.TestFacts.{starts-blank}
-use Rattle.intersect_config.proofs.StepFacts.{not_true, not_false, Progress, progress_start, progress-next, follows-none, follows_some}
+use Rattle.intersect_config.proofs.StepFacts.{not_true, not_false, Progress, progress_start, progress-next, follows_none, follows_some}
 use Rattle.intersect_config.proofs.RowFacts.{leftover_in_slot, four_in, length_row, state-written, slot-written, cut, cut-next, cut_end}
 
 -- the row holds what the first i pairs came to
@@ -41,8 +41,8 @@ module _ (own arcs : List ℕ) (at : ℕ) (ps : PairList) (f : Followable (confi
     few = omega (arith, h, f.named.used_fit)
 
     -- the next pair may be advanced
-    pub may-advance : Advanceable own arcs at (get_or ps.pairs i no_pair) i row
-    may-advance = record {
+    pub may_advance : Advanceable own arcs at (get_or ps.pairs i no_pair) i row
+    may_advance = record {
       within = few;
       whole = whole;
       row_whole = length_row ps.used row r.row_is;
@@ -62,18 +62,18 @@ module _ (own arcs : List ℕ) (at : ℕ) (ps : PairList) (f : Followable (confi
       advances = rw (leftover_in_slot i own few) t.advances
 
       -- a pair that is not compatible
-      pub follows-not : not b ≡ true → FollowsIn own arcs at ps false v
-      follows-not e =
+      pub follows_not : not b ≡ true → FollowsIn own arcs at ps false v
+      follows_not e =
           let z : v ≡ row = t.stays (not_true b e) in
           let w : Row ps.used v = subst (Row ps.used) (sym z) r.row_is in
           record {
-            step = follows-none arcs at (config_at 0 own) ps f (cut i (config_at 0 row)) i r.progress h answer advances e (config_at 0 v) w.good;
+            step = follows_none arcs at (config_at 0 own) ps f (cut i (config_at 0 row)) i r.progress h answer advances e (config_at 0 v) w.good;
             bytes = w.bytes;
           }
 
       -- a pair that is
-      pub filling-next : not b ≡ false → Filling own arcs at ps v (i + 1)
-      filling-next e =
+      pub filling_next : not b ≡ false → Filling own arcs at ps v (i + 1)
+      filling_next e =
           let w = slot-written ps.used i row v t.leftover h f.named.used_fit t.advances.good r.row_is (t.stored (not_false b e)) in
           record {
             row_is = w.0;

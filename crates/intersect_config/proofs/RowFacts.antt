@@ -127,8 +127,8 @@ module _ (used : ℕ) (c : Config) (g : GoodConfig used c) where
     slot-bytes (suc (suc (suc (suc i)))) h = absurd (omega arith)
 
     -- it is in its one form where the pair is one of those used
-    with-good : (i : ℕ) → i < used → used ≤ 4 → GoodConfig used (with i)
-    with-good i h b = record {
+    with_good : (i : ℕ) → i < used → used ≤ 4 → GoodConfig used (with i)
+    with_good i h b = record {
       state_fits = g.state_fits;
       four = length-set c.leftovers i l ∙ g.four;
       each = All_set Good c.leftovers i l g.each k;
@@ -153,7 +153,7 @@ state-written used row v q h r e =
 pub slot-written : (used i : ℕ) (row v : List ℕ) (l : Leftover) → i < used → used ≤ 4 → Good l → Row used row → v ≡ splice (slot i) (leftover_bytes l) row
     → Row used v × (config_at 0 v ≡ record { state = (config_at 0 row).state; leftovers = set (config_at 0 row).leftovers i l })
 slot-written used i row v l h b k r e =
-    row_of_lem used (with used (config_at 0 row) r.good l k i) v (with-good used (config_at 0 row) r.good l k i h b)
+    row_of_lem used (with used (config_at 0 row) r.good l k i) v (with_good used (config_at 0 row) r.good l k i h b)
     (e ∙ ap (splice (slot i) (leftover_bytes l)) (sym r.bytes) ∙ slot-bytes used (config_at 0 row) r.good l k i (omega arith))
 
 -- zeros are the record of the start in the first state

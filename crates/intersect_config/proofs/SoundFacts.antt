@@ -71,12 +71,12 @@ module _ (m : Memory) (s : Sound m) (k : ℕ) (h : k < m.arcs) (d : Arc ℕ) whe
       two_bytes_lem a.target n ∙ ap le (sym f) ∙ ap (λ (j : ℕ). le (take 2 (drop j m.arc_bytes))) (sym p)
 
   module _ (i : ℕ) (l : i < m.tapes) where
-    label-short : length (label_on i (get_or (table_of m).arcs k d)) ≤ 8
-    label-short = (All_at Label (get_or (table_of m).arcs k d).labels [] i arc_formed.labels (omega (arith, arc_formed.width, (sound_holds m s).tapes))).0
+    label_short : length (label_on i (get_or (table_of m).arcs k d)) ≤ 8
+    label_short = (All_at Label (get_or (table_of m).arcs k d).labels [] i arc_formed.labels (omega (arith, arc_formed.width, (sound_holds m s).tapes))).0
 
-    label-nine : part (label_place (arc_size * k) i) label_size m.arc_bytes ≡ label_record.write (label_on i (get_or (table_of m).arcs k d))
+    label_nine : part (label_place (arc_size * k) i) label_size m.arc_bytes ≡ label_record.write (label_on i (get_or (table_of m).arcs k d))
     unfolding part
-    label-nine =
+    label_nine =
         let p : label_place (arc_size * k) i ≡ k * arc_size + (labels_place + i * label_size) = omega arith in
         ap (λ (j : ℕ). take label_size (drop j m.arc_bytes)) p ∙ label_field m (table_of m) (sound_well_formed m s) (sound_holds m s) k d h i (omega (arith, (sound_holds m s).tapes))
 
@@ -86,8 +86,8 @@ module _ (m : Memory) (s : Sound m) (k : ℕ) (h : k < m.arcs) (d : Arc ℕ) whe
     whole = arc_whole;
     tapes_fit = omega (arith, (sound_holds m s).tapes, (sound_well_formed m s).counts.tapes_fit);
     target = arc_target;
-    label = λ i l. label_symbols (label_on i (get_or (table_of m).arcs k d)) (label_place (arc_size * k) i) m.arc_bytes (label-short i l) (label-nine i l);
-    label_fits = λ i l. omega (arith, label_len (label_on i (get_or (table_of m).arcs k d)) (label_place (arc_size * k) i) m.arc_bytes (label-short i l) (label-nine i l), label-short i l);
+    label = λ i l. label_symbols (label_on i (get_or (table_of m).arcs k d)) (label_place (arc_size * k) i) m.arc_bytes (label_short i l) (label_nine i l);
+    label_fits = λ i l. omega (arith, label_len (label_on i (get_or (table_of m).arcs k d)) (label_place (arc_size * k) i) m.arc_bytes (label_short i l) (label_nine i l), label_short i l);
   }
 
 -- what following an arc asks, from what its record reads as

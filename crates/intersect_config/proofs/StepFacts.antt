@@ -210,8 +210,8 @@ module _ (arcs : List ℕ) (at : ℕ) (c : Config) (ps : PairList) (f : Followab
           ∙ r.rest;
     })
 
-    pub follows-none : not b.compatible ≡ true → (d : Config) → GoodConfig ps.used d → Follows c arcs at ps (record { compatible = false; config = d })
-    follows-none e d s = record {
+    pub follows_none : not b.compatible ≡ true → (d : Config) → GoodConfig ps.used d → Follows c arcs at ps (record { compatible = false; config = d })
+    follows_none e d s = record {
       meaning = λ tapes a n w.
           sym (ap (Option.map (λ ls. record { state = a.target; leftovers = ls }))
           (all_after_lem at arcs tapes a w (take ps.used ps.pairs) (take ps.used c.leftovers) (named-all tapes ps n) ∙ stopped (not_true b.compatible e)));

@@ -81,7 +81,7 @@ module _ (ps : PairList) (c : Config) (g : GoodConfig ps.used c) (h : ps.used �
     abbrev l : Leftover
     l = get_or c.leftovers i outside
 
-    next-is : long_from i (take ps.used ps.pairs) (take ps.used c.leftovers)
+    next_is : long_from i (take ps.used ps.pairs) (take ps.used c.leftovers)
         ≡ or (ltb p.limit l.len) (long_from (i + 1) (take ps.used ps.pairs) (take ps.used c.leftovers))
     unfolding long_from
     next_is =
@@ -96,12 +96,12 @@ module _ (ps : PairList) (c : Config) (g : GoodConfig ps.used c) (h : ps.used �
         (longer_is p.limit l (All_at Good c.leftovers outside i g.each (omega (arith, g.four))))
 
     -- the next leftover is longer, or is not
-    pub long-found : p.limit < l.len → long_from i (take ps.used ps.pairs) (take ps.used c.leftovers) ≡ true
-    long-found m = next-is ∙ rw (lt-ltb p.limit l.len m)
+    pub long_found : p.limit < l.len → long_from i (take ps.used ps.pairs) (take ps.used c.leftovers) ≡ true
+    long_found m = next_is ∙ rw (lt-ltb p.limit l.len m)
 
-    pub long-next : l.len ≤ p.limit
+    pub long_next : l.len ≤ p.limit
         → long_from i (take ps.used ps.pairs) (take ps.used c.leftovers) ≡ long_from (i + 1) (take ps.used ps.pairs) (take ps.used c.leftovers)
-    long-next m = next-is ∙ rw (le-ltb p.limit l.len m)
+    long_next m = next_is ∙ rw (le-ltb p.limit l.len m)
 
 -- ---- the lengths of the leftovers
 

@@ -15,7 +15,7 @@ use Rattle.automata.specs.Marks.{mark, coaccessible}
 use Rattle.automata.proofs.RoundFacts.{iterate_inner, iterate-still}
 use Rattle.automata.proofs.TestFacts.{eqb_false}
 use Rattle.automata.proofs.WellFormedFacts.{all-place}
-use Rattle.automata.proofs.InPlaceMarks.{marked_in_place, in-place-coaccessible}
+use Rattle.automata.proofs.InPlaceMarks.{marked_in_place, in_place-coaccessible}
 use Rattle.automata.specs.Layout.{step_size}
 use Rattle.intersect_edges.specs.declared.edge.EdgeRecord.{EdgeRecord}
 use Rattle.intersect_edges.specs.Edges.{edge_at, edges_at, record_graph, Joins, Joined}
@@ -197,7 +197,7 @@ all_rounds es n v j l b =
     let m : length (bools (take n v)) ≡ n = length-map (take n v) is_mark ∙ length-take-le n v l in
     ap (rounds_bytes es n) (sym (bits-bools (take n v) b)) ∙ rounds_bits es n (bools (take n v))
     ∙ ap (λ (k : ℕ). bits (marked_in_place (record_graph es) (bools (take n v)) k)) (sym m)
-    ∙ ap bits (in-place-coaccessible (record_graph es) (bools (take n v)) (subst (Within (record_graph es)) (sym m) (joined-within n es j)))
+    ∙ ap bits (in_place-coaccessible (record_graph es) (bools (take n v)) (subst (Within (record_graph es)) (sym m) (joined-within n es j)))
 
 -- The marks when the last round is done, ...
 pub rounds_end : (es : List EdgeRecord) (n left : ℕ) (w v : List ℕ) → left ≡ 0 → Joined n es → n ≤ length v → Bits (take n v) → drop n w ≡ drop n v

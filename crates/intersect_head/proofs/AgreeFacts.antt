@@ -94,9 +94,9 @@ module _ (used : ℕ) (c d : Config) (few : used ≤ 4) (g : GoodConfig used c) 
     byte : (i : ℕ) → i < 2 + get_or ys (slot p + 1) 0 → get_or xs (slot p + i) 0 ≡ get_or ys (slot p + i) 0
     byte i b = f (suc p) (omega arith) (slot p + i) (omega arith) (omega (arith, b))
 
-    same-slot : l ≡ m
+    same_slot : l ≡ m
     unfolding leftover_at
-    same-slot =
+    same_slot =
         let z : slot p + 0 ≡ slot p = omega arith in
         let x : length xs ≡ row_size = length_config used c g in
         let y : length ys ≡ row_size = length_config used d k in
@@ -121,7 +121,7 @@ module _ (used : ℕ) (c d : Config) (few : used ≤ 4) (g : GoodConfig used c) 
     where
       go : (i : ℕ) → i < 4 → Dec (i < used) → get_or c.leftovers i outside ≡ get_or d.leftovers i outside
       go i b (yes h) =
-          ap (λ (z : Config). get_or z.leftovers i outside) (sym back) ∙ leftover_in_slot i xs b ∙ same-slot i h ∙ sym (leftover_in_slot i ys b)
+          ap (λ (z : Config). get_or z.leftovers i outside) (sym back) ∙ leftover_in_slot i xs b ∙ same_slot i h ∙ sym (leftover_in_slot i ys b)
           ∙ ap (λ (z : Config). get_or z.leftovers i outside) other
       go i b (no h) = past c g i (omega arith) b ∙ sym (past d k i (omega arith) b)
 

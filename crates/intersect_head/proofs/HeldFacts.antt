@@ -127,9 +127,9 @@ module _ (p : Plan) (h : Head) (d : Config) (v : List ℕ) (good : GoodConfig p.
     beyond a m l = i.0.kept a m (omega (arith, x.configs_fit, l))
 
     -- the search with the configuration is held
-    pub inserted-held : Holds p states arcs (record { taken = h.taken; reached = k; arcs = h.arcs; late = h.late; full = h.full })
+    pub inserted_held : Holds p states arcs (record { taken = h.taken; reached = k; arcs = h.arcs; late = h.late; full = h.full })
         (record { vertices = more; edges = s.edges }) late w
-    inserted-held = record {
+    inserted_held = record {
       configs = i.0.held;
       chained = i.0.chained;
       edges = holds_kept p.room.edges p.room.arcs s.edges v w beyond o.edges;

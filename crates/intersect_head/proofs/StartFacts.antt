@@ -146,33 +146,33 @@ module _ (p : Plan) (h : Head) (states : List ℕ) (q : ℕ) (v : List ℕ) (k :
       ap (λ (z : Bool). guard (and z (viable_in p states arcs c)) (some c)) i)
 
   module _ (one : get_or states (state_size * q) 0 ≡ 1) (d : Config) (st : Starts q d) where
-    count-pairs : length (pairs_as p.pairs) ≡ used
-    count-pairs = length-map (take used p.pairs.pairs) pair_as
+    count_pairs : length (pairs_as p.pairs) ≡ used
+    count_pairs = length-map (take used p.pairs.pairs) pair_as
         ∙ length-take-le used p.pairs.pairs (omega (arith, k.explorable.named.used_fit, k.explorable.four_pairs))
 
     start_is : config_as used d ≡ automata.start_at (pairs_in p) q
-    start_is = ap (λ (n : ℕ). config_as n d) (sym count-pairs) ∙ st.meaning (pairs_in p) (omega (arith, count-pairs, k.explorable.named.used_fit))
+    start_is = ap (λ (n : ℕ). config_as n d) (sym count_pairs) ∙ st.meaning (pairs_in p) (omega (arith, count_pairs, k.explorable.named.used_fit))
 
     start-state : d.state.0 ≡ q
     start-state = ap (λ (z : automata.Config). z.state) start_is
 
-    start-good : GoodConfig used d
-    start-good = st.good used
+    start_good : GoodConfig used d
+    start_good = st.good used
 
     pub start_fits : (used ≤ 4) × (GoodConfig used d) × (p.room.delays + delays_size * d.state.0 + delays_size ≤ length v)
-    start_fits = (k.explorable.named.used_fit, start-good, omega (arith, start-state, k.state_fits, k.explorable.delays_fit))
+    start_fits = (k.explorable.named.used_fit, start_good, omega (arith, start-state, k.state_fits, k.explorable.delays_fit))
 
-    pub may-admit : Admittable p h d v
-    may-admit = record {
+    pub may_admit : Admittable p h d v
+    may_admit = record {
       states = states;
       arcs = k.arcs;
       search = k.search;
       late = k.late;
       explorable = k.explorable;
       holds = k.holds;
-      good = start-good;
-      stored = stored_form used p.counts.states d k.explorable.named.used_fit start-good (omega (arith, start-state, k.state_fits))
-          (not_long used (pairs_in p) d k.explorable.named.used_fit start-good count-pairs k.explorable.within_limits
+      good = start_good;
+      stored = stored_form used p.counts.states d k.explorable.named.used_fit start_good (omega (arith, start-state, k.state_fits))
+          (not_long used (pairs_in p) d k.explorable.named.used_fit start_good count_pairs k.explorable.within_limits
           (ap (λ (z : automata.Config). automata.too_long (pairs_in p) z.leftovers) start_is ∙ start-short (pairs_in p)));
     }
 
@@ -184,28 +184,28 @@ module _ (p : Plan) (h : Head) (states : List ℕ) (q : ℕ) (v : List ℕ) (k :
           (length_closings (lent p.counts states arcs) p.pairs (omega (arith, x.named.used_fit, x.four_pairs)))
           ∙ ap (viable_in p states arcs) start_is
 
-      start-by : (arcs : List ℕ) (a : State ℕ) → Explorable p states arcs (length v) → HoldsClosing (tables_in p states arcs) p.room.delays p.counts.states v
+      start_by_lem : (arcs : List ℕ) (a : State ℕ) → Explorable p states arcs (length v) → HoldsClosing (tables_in p states arcs) p.room.delays p.counts.states v
           → get_elem? (table_in p states arcs).states q ≡ some a
           → start_by (pairs_in p) (viable_in p states arcs) (q, a) ≡ guard b (some (automata.start_at (pairs_in p) q))
-      start-by arcs a x hc e =
+      start_by_lem arcs a x hc e =
           let i : is_some a.initial ≡ true = initial_is p states arcs (length v) x q a e ∙ eq-eqb (get_or states (state_size * q) 0) 1 one in
           let c = automata.start_at (pairs_in p) q in
           ap₂ (λ (y z : Bool). guard (and y z) (some c)) i (sym (tested arcs x hc))
 
       -- it is not viable
-      pub starts-blocked : not b ≡ true → Enters p h states q v h v
-      starts-blocked n = starts_none (λ arcs a x hc e. start-by arcs a x hc e ∙ go b n)
+      pub starts_blocked : not b ≡ true → Enters p h states q v h v
+      starts_blocked n = starts_none (λ arcs a x hc e. start_by_lem arcs a x hc e ∙ go b n)
         where
           go : (y : Bool) → not y ≡ true → guard y (some (automata.start_at (pairs_in p) q)) ≡ none
           go true n = absurd (let z : ◌≡◌ {A = ℕ} 0 1 = cc in omega arith)
           go false n = refl
 
       -- it is entered
-      pub starts-there : not b ≡ false → (r : Head) (w : List ℕ) → Admits p h d v r w → Enters p h states q v r w
-      starts-there n r w y = record {
+      pub starts_there : not b ≡ false → (r : Head) (w : List ℕ) → Admits p h d v r w → Enters p h states q v r w
+      starts_there n r w y = record {
         widens = y.widens;
         meaning = λ arcs s l a x o e.
-            subst (λ (z : Option automata.Config). Comes p states arcs r (with_configs s (cons_maybe z [])) l w) (sym (start-by arcs a x o.closing e ∙ go b n))
+            subst (λ (z : Option automata.Config). Comes p states arcs r (with_configs s (cons_maybe z [])) l w) (sym (start_by_lem arcs a x o.closing e ∙ go b n))
             (subst (λ (z : automata.Config). Comes p states arcs r (record { vertices = insert same_config s.vertices z; edges = s.edges }) l w) start_is (y.meaning states arcs s l x o));
       }
         where

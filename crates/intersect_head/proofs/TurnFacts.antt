@@ -140,16 +140,16 @@ module _ (p : Plan) (h : Head) (arcs : List ℕ) (v : List ℕ) (q : Takable p h
 
   module _ (d : Config) (ld : d ≡ config_at (config_size * h.taken) v) where
     -- the loaded configuration stands for the one taken up
-    loaded-as : (states : List ℕ) (s : ConfigSearch) (l : Bool) (c : automata.Config) → Explorable p states arcs (length v) → Holds p states arcs h s l v
+    loaded_as : (states : List ℕ) (s : ConfigSearch) (l : Bool) (c : automata.Config) → Explorable p states arcs (length v) → Holds p states arcs h s l v
         → get_elem? s.vertices h.taken ≡ some c → config_as p.pairs.used d ≡ c
-    loaded-as states s l c x o e = ap (config_as p.pairs.used) (ld ∙ loaded p states arcs h s l v x o h.taken c e) ∙ (place_stored p states arcs h s l v x o h.taken c e).meaning
+    loaded_as states s l c x o e = ap (config_as p.pairs.used) (ld ∙ loaded p states arcs h s l v x o h.taken c e) ∙ (place_stored p states arcs h s l v x o h.taken c e).meaning
 
     module _ (g : Head) (w : List ℕ) (j : ℕ) (t : Turning p h arcs v g w j) where
       more_room : (states : List ℕ) → Explorable p states arcs (length v) → Explorable p states arcs (length w)
       more_room states x = subst (Explorable p states arcs) (sym t.grows.same_length) x
 
-      pub turn-requires : j < p.counts.arcs → Visitable p g d arcs j w
-      turn-requires b =
+      pub turn_requires : j < p.counts.arcs → Visitable p g d arcs j w
+      turn_requires b =
           let c = there_is.0 in
           let e = there_is.1 in
           let f : d ≡ config_of c = ld ∙ loaded p q.states arcs h q.search q.late v q.explorable q.holds h.taken c e in
@@ -168,11 +168,11 @@ module _ (p : Plan) (h : Head) (arcs : List ℕ) (v : List ℕ) (q : Takable p h
           }
 
       module _ (b : j < p.counts.arcs) (r : Head) (u : List ℕ) (z : Visits p g d arcs j w r u) where
-        turn-comes : (states : List ℕ) (s : ConfigSearch) (l : Bool) (c : automata.Config) → Explorable p states arcs (length v) → Holds p states arcs h s l v
+        turn_comes : (states : List ℕ) (s : ConfigSearch) (l : Bool) (c : automata.Config) → Explorable p states arcs (length v) → Holds p states arcs h s l v
             → get_elem? s.vertices h.taken ≡ some c
             → Comes p states arcs r (note_all same_config h.taken s (out_up_to (table_in p states arcs) (pairs_in p) (viable_in p states arcs) (j + 1) c))
             (or l (late_up_to (table_in p states arcs) (pairs_in p) (viable_in p states arcs) (j + 1) c)) u
-        turn-comes states s l c x o e =
+        turn_comes states s l c x o e =
             let A = table_in p states arcs in
             let ps = pairs_in p in
             let test = viable_in p states arcs in
@@ -182,22 +182,22 @@ module _ (p : Plan) (h : Head) (arcs : List ℕ) (v : List ℕ) (q : Takable p h
             let lj : Bool = or l (late_up_to A ps test j c) in
             let n : suc j ≡ j + 1 = omega arith in
             let c0 = z.meaning states sj lj a (more_room states x) (t.meaning states s l c x o e) y.1 in
-            let c1 = subst (λ (k : automata.Config). Comes p states arcs r (note_offer g.taken sj (j, a) (offer ps test k a)) (or lj (is_late (offer ps test k a))) u) (loaded-as states s l c x o e) c0 in
+            let c1 = subst (λ (k : automata.Config). Comes p states arcs r (note_offer g.taken sj (j, a) (offer ps test k a)) (or lj (is_late (offer ps test k a))) u) (loaded_as states s l c x o e) c0 in
             let c2 = subst (λ (k : ℕ). Comes p states arcs r (note_offer k sj (j, a) (offer ps test c a)) (or lj (is_late (offer ps test c a))) u) t.grows.taken c1 in
             let c3 = subst (λ (k : ConfigSearch). Comes p states arcs r k (or lj (is_late (offer ps test c a))) u) (note-more A ps test h.taken s c j a y.1) c2 in
             let c4 = subst (λ (k : Bool). Comes p states arcs r (note_all same_config h.taken s (out_up_to A ps test (suc j) c)) k u) (late-more A ps test h.taken s c j a y.1 l) c3 in
             subst (λ (k : ℕ). Comes p states arcs r (note_all same_config h.taken s (out_up_to A ps test k c)) (or l (late_up_to A ps test k c)) u) n c4
 
-        pub turn-next : r.full ≡ false → Turning p h arcs v r u (j + 1)
-        turn-next f = record {
+        pub turn_next : r.full ≡ false → Turning p h arcs v r u (j + 1)
+        turn_next f = record {
           within = omega arith;
           grows = grows_then p.room.states j 1 (j + 1) (progress h) (progress g) (progress r) v w u t.grows z.grows (omega arith);
-          meaning = λ states s l c x o e. (turn-comes states s l c x o e).held f;
+          meaning = λ states s l c x o e. (turn_comes states s l c x o e).held f;
         }
 
         -- the configurations are full before all arcs were looked at
-        pub turn-full : r.full ≡ true → TakesUp p h arcs v r u
-        turn-full f = record {
+        pub turn_full : r.full ≡ true → TakesUp p h arcs v r u
+        turn_full f = record {
           taken = λ n. TestFacts.false_not_true n f;
           few = λ n. TestFacts.false_not_true n f;
           same_length = z.grows.same_length ∙ t.grows.same_length;
@@ -207,18 +207,18 @@ module _ (p : Plan) (h : Head) (arcs : List ℕ) (v : List ℕ) (q : Takable p h
                 let A = table_in p states arcs in
                 let ps = pairs_in p in
                 let test = viable_in p states arcs in
-                let m = (turn-comes states s l c x o e).over f in
+                let m = (turn_comes states s l c x o e).over f in
                 let y = out_up_to-begins A ps test (j + 1) c in
                 omega (arith, m, noted_longer same_config configs_decided h.taken s (out_up_to A ps test (j + 1) c) y.rest (out A ps test c) y.joined);
           };
         }
 
       -- an arc that leaves another state is passed over
-      turn-skip : j < p.counts.arcs → (source_of arcs j ≡ d.state.0 → ⊥) → Turning p h arcs v g w (j + 1)
-      turn-skip b n =
-          let y = turn-requires b in
+      turn_skip : j < p.counts.arcs → (source_of arcs j ≡ d.state.0 → ⊥) → Turning p h arcs v g w (j + 1)
+      turn_skip b n =
+          let y = turn_requires b in
           let m : Offerable p d arcs j w = record { states = y.states; explorable = y.explorable; good = y.good; short = y.short; arc_fits = b } in
-          turn-next b g w (visits_nothing p g d arcs j w y _ (offers_away p d arcs j w m (source_of arcs j) d y.good refl n) refl) y.holds.not_full
+          turn_next b g w (visits_nothing p g d arcs j w y _ (offers_away p d arcs j w m (source_of arcs j) d y.good refl n) refl) y.holds.not_full
 
       -- all arcs were looked at
       pub turn_end : p.counts.arcs ≤ j → TakesUp p h arcs v (record { taken = g.taken + 1; reached = g.reached; arcs = g.arcs; late = g.late; full = g.full }) w
@@ -265,26 +265,26 @@ module _ (p : Plan) (h : Head) (arcs : List ℕ) (v : List ℕ) (q : Takable p h
         subst (λ (z : Config). z.state.0 < p.counts.states) (sym f) m.state_fits
 
     -- arcs that leave other states are passed over
-    turn-pass : (g : Head) (w : List ℕ) (n j k : ℕ) → j + n ≡ k → k ≤ p.counts.arcs → ((i : ℕ) → j ≤ i → i < k → source_of arcs i ≡ d.state.0 → ⊥)
+    turn_pass : (g : Head) (w : List ℕ) (n j k : ℕ) → j + n ≡ k → k ≤ p.counts.arcs → ((i : ℕ) → j ≤ i → i < k → source_of arcs i ≡ d.state.0 → ⊥)
         → Turning p h arcs v g w j → Turning p h arcs v g w k
-    turn-pass g w zero j k e b f t = let z : j ≡ k = omega arith in subst (Turning p h arcs v g w) z t
-    turn-pass g w (suc n) j k e b f t =
-        turn-pass g w n (j + 1) k (omega arith) b (λ i l. f i (omega arith)) (turn-skip g w j t (omega arith) (f j (omega arith) (omega arith)))
+    turn_pass g w zero j k e b f t = let z : j ≡ k = omega arith in subst (Turning p h arcs v g w) z t
+    turn_pass g w (suc n) j k e b f t =
+        turn_pass g w n (j + 1) k (omega arith) b (λ i l. f i (omega arith)) (turn_skip g w j t (omega arith) (f j (omega arith) (omega arith)))
 
     -- up to the first arc that leaves the state
     to-first : (g : Head) (w : List ℕ) (k j : ℕ) → Turning p h arcs v g w k → First arcs d.state.0 p.counts.arcs k j → Chaining p h arcs v d g w j
     to-first g w k j t f =
         let b = f.behind in
-        record { turning = turn-pass g w (j - k) k j (omega (arith, b)) f.within f.between t; leaves = f.leaves }
+        record { turning = turn_pass g w (j - k) k j (omega (arith, b)) f.within f.between t; leaves = f.leaves }
 
     module _ (first next : List ℕ) (x : Chained p.counts.states p.counts.arcs arcs first next) where
       -- the first arc of the chain
       chain-start : Chaining p h arcs v d h v (get_or first d.state.0 0)
-      chain-start = to-first h v 0 (get_or first d.state.0 0) turn_start (first-arc p.counts.states p.counts.arcs arcs first next x d.state.0 state_fits)
+      chain-start = to-first h v 0 (get_or first d.state.0 0) turn_start (first-arc p.counts.states p.counts.arcs arcs first next x d.state.0 state_fits_lem)
 
       -- found by the state's number
-      pub chain-begin : (q : ℕ) → q ≡ d.state.0 → Chaining p h arcs v d h v (get_or first q 0)
-      chain-begin k e = rw e chain-start
+      pub chain_begin : (q : ℕ) → q ≡ d.state.0 → Chaining p h arcs v d h v (get_or first q 0)
+      chain_begin k e = rw e chain-start
 
       -- the next arc stands behind
       pub chain-goes : (j : ℕ) → j < p.counts.arcs → source_of arcs j ≡ d.state.0 → j < get_or next j 0
@@ -294,5 +294,5 @@ module _ (p : Plan) (h : Head) (arcs : List ℕ) (v : List ℕ) (q : Takable p h
       pub chain_next : (g : Head) (w : List ℕ) (j : ℕ) → Chaining p h arcs v d g w j → (b : j < p.counts.arcs) (r : Head) (u : List ℕ) → Visits p g d arcs j w r u → r.full ≡ false
           → Chaining p h arcs v d r u (get_or next j 0)
       chain_next g w j t b r u z f =
-          to-first r u (j + 1) (get_or next j 0) (turn-next g w j t.turning b r u z f)
+          to-first r u (j + 1) (get_or next j 0) (turn_next g w j t.turning b r u z f)
           (next-arc p.counts.states p.counts.arcs arcs first next x d.state.0 j b (t.leaves b))

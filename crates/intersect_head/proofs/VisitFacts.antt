@@ -105,18 +105,18 @@ module _ (p : Plan) (h : Head) (d : Config) (j : ℕ) (v : List ℕ) (q : Arriva
         was_at p h d v q.good q.stored states arcs s late x o n w t2)
 
     -- it is new
-    pub arrives-new : (n : Reached) → r ≡ E.New n → (g : Head) (u : List ℕ)
+    pub arrives_new : (n : Reached) → r ≡ E.New n → (g : Head) (u : List ℕ)
         → (g ≡ counted (with_reached (h.reached + 1) h)) × (u ≡ stored_within p.room.edges p.room.arcs h.arcs (edge_bytes (noted h j n)) w) → Arrives p h d j v g u
-    arrives-new n z =
+    arrives_new n z =
         let t2 = subst (λ (y : Entered). EntersConfig h.reached p.room.states p.pairs.used d v y w) z t in
         let b = t2.fits in
         arrives_noted (h.reached + 1) n w (omega arith) (omega (arith, b))
         (λ states arcs s late x o. was_new p h d v q.good q.stored states arcs s late x o n w t2)
 
     -- there is no room for it
-    pub arrives-full : r ≡ E.Full → Arrives p h d j v (record { taken = h.taken; reached = h.reached; arcs = h.arcs; late = h.late; full = true }) w
+    pub arrives_full : r ≡ E.Full → Arrives p h d j v (record { taken = h.taken; reached = h.reached; arcs = h.arcs; late = h.late; full = true }) w
     unfolding note
-    arrives-full z =
+    arrives_full z =
         let t2 = subst (λ (y : Entered). EntersConfig h.reached p.room.states p.pairs.used d v y w) z t in
         record {
           grows = record { taken = refl; grown = omega arith; fits = reached_fits; few = omega arith; same_length = t2.same_length };

@@ -22,7 +22,7 @@ use Rattle.intersect_config.proofs.ListFacts.{All_take}
 use Rattle.intersect_config.proofs.TestFacts.{kept_length}
 use Rattle.intersect_config.proofs.RoundFacts.{all_leftovers, same_bytes}
 use Rattle.search_rows.specs.Inserted.{Tells}
-use Rattle.search_rows.proofs.CodeFacts.{codes-tell}
+use Rattle.search_rows.proofs.CodeFacts.{codes_tell}
 use Rattle.intersect_offers.specs.Held.{config_of, row_of, Stored}
 
 -- ---- by value and back
@@ -57,7 +57,7 @@ row_injective used n c d s t e =
 
 -- so they tell one that may be stored from all that are
 pub rows_tell : (used n : ℕ) (c : automata.Config) (cs : List automata.Config) → Stored used n c → All (Stored used n) cs → Tells row_of automata.same_config c cs
-rows_tell used n c cs s t = codes-tell row_of automata.same_config configs_decided (Stored used n) (row_injective used n) c cs s t
+rows_tell used n c cs s t = codes_tell row_of automata.same_config configs_decided (Stored used n) (row_injective used n) c cs s t
 
 -- ---- the limits
 

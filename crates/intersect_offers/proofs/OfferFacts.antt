@@ -75,24 +75,24 @@ module _ (p : Plan) (states arcs : List ℕ) (size : ℕ) (x : Explorable p stat
     arc_there : get_or (table_in p states arcs).arcs j (record { source = 0; target = 0; weight = 0; labels = [] }) ≡ a
     arc_there = ListFacts.place_default (table_in p states arcs).arcs j (record { source = 0; target = 0; weight = 0; labels = [] }) e
 
-    pub arc-reads : Reads arcs (arc_size * j) p.counts.tapes a
-    arc-reads = subst (Reads arcs (arc_size * j) p.counts.tapes) arc_there (reads_arc m x.sound j arc-within (record { source = 0; target = 0; weight = 0; labels = [] }))
+    pub arc_reads : Reads arcs (arc_size * j) p.counts.tapes a
+    arc_reads = subst (Reads arcs (arc_size * j) p.counts.tapes) arc_there (reads_arc m x.sound j arc-within (record { source = 0; target = 0; weight = 0; labels = [] }))
 
-    pub arc-source : a.source ≡ source_of arcs j
-    arc-source = ap (λ (b : Arc ℕ). b.source) (sym arc_there) ∙ sym (source_is m (table_of m) (sound_well_formed m x.sound) (sound_holds m x.sound) j arc-within)
+    pub arc_source : a.source ≡ source_of arcs j
+    arc_source = ap (λ (b : Arc ℕ). b.source) (sym arc_there) ∙ sym (source_is m (table_of m) (sound_well_formed m x.sound) (sound_holds m x.sound) j arc-within)
         ∙ ap (λ (k : ℕ). source_at k arcs) (omega arith)
 
-    arc-well-formed : WellFormedArc (table_of m).tapes (length (table_of m).states) a
-    arc-well-formed = subst (WellFormedArc (table_of m).tapes (length (table_of m).states)) arc_there
+    arc_well_formed : WellFormedArc (table_of m).tapes (length (table_of m).states) a
+    arc_well_formed = subst (WellFormedArc (table_of m).tapes (length (table_of m).states)) arc_there
         (All_at (WellFormedArc (table_of m).tapes (length (table_of m).states)) (table_of m).arcs (record { source = 0; target = 0; weight = 0; labels = [] }) j (sound_well_formed m x.sound).arcs
         (ListFacts.place_bound (table_of m).arcs j e))
 
     -- its source and its target are states of the table
-    pub arc-source-fits : a.source < p.counts.states
-    arc-source-fits = let t = arc-well-formed.source in omega (arith, t, (sound_holds m x.sound).states)
+    pub arc_source_fits : a.source < p.counts.states
+    arc_source_fits = let t = arc_well_formed.source in omega (arith, t, (sound_holds m x.sound).states)
 
-    pub arc-target-fits : a.target < p.counts.states
-    arc-target-fits = let t = arc-well-formed.target in omega (arith, t, (sound_holds m x.sound).states)
+    pub arc_target_fits : a.target < p.counts.states
+    arc_target_fits = let t = arc_well_formed.target in omega (arith, t, (sound_holds m x.sound).states)
 
   pub arc_exists : j < p.counts.arcs → (a : Arc ℕ) × (get_elem? (table_in p states arcs).arcs j ≡ some a)
   arc_exists h = ListFacts.place_exists (table_in p states arcs).arcs j (omega (arith, arc_count))
@@ -116,11 +116,11 @@ module _ (p : Plan) (c : Config) (arcs : List ℕ) (j : ℕ) (w : List ℕ) (o :
 
   -- the record of the arc is whole, and may be followed
   pub record_whole : arc_size * j + arc_size ≤ length arcs
-  record_whole = (arc-reads p o.states arcs (length w) o.explorable j some_arc.0 some_arc.1).whole
+  record_whole = (arc_reads p o.states arcs (length w) o.explorable j some_arc.0 some_arc.1).whole
 
   pub may_follow_lem : Followable c arcs (arc_size * j) p.pairs
   may_follow_lem = followable c arcs (arc_size * j) p.counts.tapes p.pairs some_arc.0
-      (arc-reads p o.states arcs (length w) o.explorable j some_arc.0 some_arc.1) o.explorable.named o.good
+      (arc_reads p o.states arcs (length w) o.explorable j some_arc.0 some_arc.1) o.explorable.named o.good
       (λ h l. let s = o.short h l in omega (arith, s))
 
   -- the definition, where the arc leaves another state
@@ -130,7 +130,7 @@ module _ (p : Plan) (c : Config) (arcs : List ℕ) (j : ℕ) (w : List ℕ) (o :
     good = q;
     stored = λ k. absurd (let z : ◌≡◌ {A = ℕ} 0 1 = cc in omega arith);
     meaning = λ states a ex hc g.
-        let s : a.source ≡ x = arc-source p states arcs (length w) ex j a g ∙ sym e in
+        let s : a.source ≡ x = arc_source p states arcs (length w) ex j a g ∙ sym e in
         let f : eqb a.source c.state.0 ≡ false = ap (λ (k : ℕ). eqb k c.state.0) s ∙ ne_eqb x c.state.0 n in
         sym (ap (λ (b : Bool). if b (offer_to (pairs_in p) (viable_in p states arcs) (automata.follow (pairs_in p) (config_as used c) a)) nothing) f);
   }
@@ -141,15 +141,15 @@ module _ (p : Plan) (c : Config) (arcs : List ℕ) (j : ℕ) (w : List ℕ) (o :
         → offer_to (pairs_in p) (viable_in p states arcs) (followed_as used r) ≡ offer (pairs_in p) (viable_in p states arcs) (config_as used c) a
     unfolding offer
     offer-to states a ex g =
-        let s : a.source ≡ x = arc-source p states arcs (length w) ex j a g ∙ sym e in
+        let s : a.source ≡ x = arc_source p states arcs (length w) ex j a g ∙ sym e in
         let t : eqb a.source c.state.0 ≡ true = eq-eqb a.source c.state.0 (s ∙ n) in
-        let k : followed_as used r ≡ automata.follow (pairs_in p) (config_as used c) a = f.meaning p.counts.tapes a ex.named (arc-reads p states arcs (length w) ex j a g) in
+        let k : followed_as used r ≡ automata.follow (pairs_in p) (config_as used c) a = f.meaning p.counts.tapes a ex.named (arc_reads p states arcs (length w) ex j a g) in
         ap (offer_to (pairs_in p) (viable_in p states arcs)) k
         ∙ sym (ap (λ (b : Bool). if b (offer_to (pairs_in p) (viable_in p states arcs) (automata.follow (pairs_in p) (config_as used c) a)) nothing) t)
 
     -- nothing, where the tapes of some pair are not compatible
-    pub offers-none : not r.compatible ≡ true → Offers p c arcs j w (record { kind = Nothing; config = r.config })
-    offers-none h = record {
+    pub offers_none : not r.compatible ≡ true → Offers p c arcs j w (record { kind = Nothing; config = r.config })
+    offers_none h = record {
       good = f.good;
       stored = λ k. absurd (let z : ◌≡◌ {A = ℕ} 0 1 = cc in omega arith);
       meaning = λ states a ex hc g. go r.compatible h (viable_in p states arcs) ∙ offer-to states a ex g;
@@ -160,9 +160,9 @@ module _ (p : Plan) (c : Config) (arcs : List ℕ) (j : ℕ) (w : List ℕ) (o :
         go false h v = refl
 
     module _ (h : not r.compatible ≡ false) where
-      followed-some : (states : List ℕ) (a : Arc ℕ) → Explorable p states arcs (length w) → get_elem? (table_in p states arcs).arcs j ≡ some a
+      followed_some : (states : List ℕ) (a : Arc ℕ) → Explorable p states arcs (length w) → get_elem? (table_in p states arcs).arcs j ≡ some a
           → followed_as used r ≡ some (config_as used r.config)
-      followed-some states a ex g = go r.compatible h
+      followed_some states a ex g = go r.compatible h
         where
           go : (b : Bool) → not b ≡ false → guard b (some (config_as used r.config)) ≡ some (config_as used r.config)
           go true h = refl
@@ -175,30 +175,30 @@ module _ (p : Plan) (c : Config) (arcs : List ℕ) (j : ℕ) (w : List ℕ) (o :
           let a = some_arc.0 in
           let g = some_arc.1 in
           let k : followed_as used r ≡ automata.follow (pairs_in p) (config_as used c) a =
-          f.meaning p.counts.tapes a ex.named (arc-reads p o.states arcs (length w) ex j a g) in
+          f.meaning p.counts.tapes a ex.named (arc_reads p o.states arcs (length w) ex j a g) in
           let s : r.config.state.0 ≡ a.target = followed-state (config_as used r.config) a.target (automata.advance_all (pairs_in p) (config_as used c).leftovers a)
-          (sym (followed-some o.states a ex g) ∙ k) in
-          let t = arc-target-fits p o.states arcs (length w) ex j a g in
+          (sym (followed_some o.states a ex g) ∙ k) in
+          let t = arc_target_fits p o.states arcs (length w) ex j a g in
           omega (arith, s, t)
 
-      pub viable-fits : (used ≤ 4) × (GoodConfig used r.config) × (p.room.delays + delays_size * r.config.state.0 + delays_size ≤ length w)
-      viable-fits = (used_four, f.good, omega (arith, state_fits, o.explorable.delays_fit))
+      pub viable_fits : (used ≤ 4) × (GoodConfig used r.config) × (p.room.delays + delays_size * r.config.state.0 + delays_size ≤ length w)
+      viable_fits = (used_four, f.good, omega (arith, state_fits_lem, o.explorable.delays_fit))
 
       module _ (b : Bool) (t : TellsViable p.room.delays used r.config w b) where
         -- the test is the definition's
         tested : (states : List ℕ) → Explorable p states arcs (length w) → HoldsClosing (tables_in p states arcs) p.room.delays p.counts.states w
             → b ≡ viable_in p states arcs (config_as used r.config)
-        tested states ex hc = t (tables_in p states arcs) p.counts.states hc ex.delays_fit state_fits
+        tested states ex hc = t (tables_in p states arcs) p.counts.states hc ex.delays_fit state_fits_lem
             (length_closings (lent p.counts states arcs) p.pairs (omega (arith, ex.named.used_fit, ex.four_pairs)))
 
         -- nothing, where it is not viable
-        pub offers-blocked : not b ≡ true → Offers p c arcs j w (record { kind = Nothing; config = r.config })
-        offers-blocked q = record {
+        pub offers_blocked : not b ≡ true → Offers p c arcs j w (record { kind = Nothing; config = r.config })
+        offers_blocked q = record {
           good = f.good;
           stored = λ k. absurd (let z : ◌≡◌ {A = ℕ} 0 1 = cc in omega arith);
           meaning = λ states a ex hc g.
               go rest b q ∙ ap (λ (y : Bool). if y rest nothing) (tested states ex hc)
-              ∙ ap (offer_to (pairs_in p) (viable_in p states arcs)) (sym (followed-some states a ex g)) ∙ offer-to states a ex g;
+              ∙ ap (offer_to (pairs_in p) (viable_in p states arcs)) (sym (followed_some states a ex g)) ∙ offer-to states a ex g;
         }
           where
             rest : Offer automata.Config
@@ -209,17 +209,17 @@ module _ (p : Plan) (c : Config) (arcs : List ℕ) (j : ℕ) (w : List ℕ) (o :
             go x false h = refl
 
         module _ (q : not b ≡ false) (l : Bool) (long-is : l ≡ automata.too_long (pairs_in p) (config_as used r.config).leftovers) where
-          count-pairs : length (pairs_as p.pairs) ≡ used
-          count-pairs = length-map (take used p.pairs.pairs) pair_as ∙ length-take-le used p.pairs.pairs (omega (arith, used_four, o.explorable.four_pairs))
+          count_pairs : length (pairs_as p.pairs) ≡ used
+          count_pairs = length-map (take used p.pairs.pairs) pair_as ∙ length-take-le used p.pairs.pairs (omega (arith, used_four, o.explorable.four_pairs))
 
           -- what is offered, by whether it is too long
-          offered-by : (states : List ℕ) (a : Arc ℕ) → Explorable p states arcs (length w) → HoldsClosing (tables_in p states arcs) p.room.delays p.counts.states w
+          offered_by : (states : List ℕ) (a : Arc ℕ) → Explorable p states arcs (length w) → HoldsClosing (tables_in p states arcs) p.room.delays p.counts.states w
               → get_elem? (table_in p states arcs).arcs j ≡ some a
               → if l late (to (config_as used r.config)) ≡ offer (pairs_in p) (viable_in p states arcs) (config_as used c) a
-          offered-by states a ex hc g =
+          offered_by states a ex hc g =
               ap (λ (y : Bool). if y late (to (config_as used r.config))) long-is
               ∙ go rest b q ∙ ap (λ (y : Bool). if y rest nothing) (tested states ex hc)
-              ∙ ap (offer_to (pairs_in p) (viable_in p states arcs)) (sym (followed-some states a ex g)) ∙ offer-to states a ex g
+              ∙ ap (offer_to (pairs_in p) (viable_in p states arcs)) (sym (followed_some states a ex g)) ∙ offer-to states a ex g
             where
               rest : Offer automata.Config
               rest = if (automata.too_long (pairs_in p) (config_as used r.config).leftovers) late (to (config_as used r.config))
@@ -229,18 +229,18 @@ module _ (p : Plan) (c : Config) (arcs : List ℕ) (j : ℕ) (w : List ℕ) (o :
               go x false h = absurd (let z : ◌≡◌ {A = ℕ} 0 1 = cc in omega arith)
 
           -- a step that is too long
-          pub offers-late : l ≡ true → Offers p c arcs j w (record { kind = Late; config = r.config })
-          offers-late z = record {
+          pub offers_late : l ≡ true → Offers p c arcs j w (record { kind = Late; config = r.config })
+          offers_late z = record {
             good = f.good;
             stored = λ k. absurd (let z : ◌≡◌ {A = ℕ} 0 1 = cc in omega arith);
-            meaning = λ states a ex hc g. ap (λ (y : Bool). if y late (to (config_as used r.config))) (sym z) ∙ offered-by states a ex hc g;
+            meaning = λ states a ex hc g. ap (λ (y : Bool). if y late (to (config_as used r.config))) (sym z) ∙ offered_by states a ex hc g;
           }
 
           -- a successor
-          pub offers-to : l ≡ false → Offers p c arcs j w (record { kind = To; config = r.config })
-          offers-to z = record {
+          pub offers_to : l ≡ false → Offers p c arcs j w (record { kind = To; config = r.config })
+          offers_to z = record {
             good = f.good;
-            stored = λ k. stored_form used p.counts.states r.config used_four f.good state_fits
-                (not_long used (pairs_in p) r.config used_four f.good count-pairs o.explorable.within_limits (sym long-is ∙ z));
-            meaning = λ states a ex hc g. ap (λ (y : Bool). if y late (to (config_as used r.config))) (sym z) ∙ offered-by states a ex hc g;
+            stored = λ k. stored_form used p.counts.states r.config used_four f.good state_fits_lem
+                (not_long used (pairs_in p) r.config used_four f.good count_pairs o.explorable.within_limits (sym long-is ∙ z));
+            meaning = λ states a ex hc g. ap (λ (y : Bool). if y late (to (config_as used r.config))) (sym z) ∙ offered_by states a ex hc g;
           }

@@ -26,7 +26,7 @@ use Rattle.intersect_head.specs.declared.head.Head.{Head}
 use Rattle.intersect_result.specs.Standing.{edges_of, Stands, Finishable, Finished}
 use Rattle.intersect_result.specs.Searched.{found_in, FoundWithin, Searched, Answerable, table_by}
 
-module _ (p : Plan) (hd : Head) (states inputs w : List ℕ) (oldStates oldArcs : List ℕ) (x : Answerable p hd states inputs w (length oldStates) (length oldArcs))
+module _ (p : Plan) (hd : Head) (states inputs w : List ℕ) (old_states old_arcs : List ℕ) (x : Answerable p hd states inputs w (length old_states) (length old_arcs))
     (ps : List TapePair) (v : Config → Bool) (found : Searched (lent p.counts states inputs) ps v p.room hd w) where
   -- the table that was read, and the room of the search
   abbrev m : Memory
@@ -35,22 +35,22 @@ module _ (p : Plan) (hd : Head) (states inputs w : List ℕ) (oldStates oldArcs 
   abbrev room : Room
   room = p.room
 
-  d : Divides (length oldStates / state_size) (length oldArcs / arc_size) p.counts.states (length w) room
+  d : Divides (length old_states / state_size) (length old_arcs / arc_size) p.counts.states (length w) room
   d = x.divides
 
   -- the space lent
   abbrev space : Space
-  space = space_of (slices_of oldStates oldArcs)
+  space = space_of (slices_of old_states old_arcs)
 
   -- a refusal leaves the slices
   answer_refused : (n : ℕ) → intersect_by (table_of m) ps v space ≡ refused n
-      → made_of (refused n) oldStates oldArcs ≡ put (table_by m ps v space) (slices_of oldStates oldArcs)
+      → made_of (refused n) old_states old_arcs ≡ put (table_by m ps v space) (slices_of old_states old_arcs)
   answer_refused n e =
-      sym (put_refused (slices_of oldStates oldArcs) n)
-      ∙ ap (λ (r : Answer (Intersection ℕ)). put (r >>= λ I. ok I.automaton) (slices_of oldStates oldArcs)) (sym e)
+      sym (put_refused (slices_of old_states old_arcs) n)
+      ∙ ap (λ (r : Answer (Intersection ℕ)). put (r >>= λ I. ok I.automaton) (slices_of old_states old_arcs)) (sym e)
 
   -- more configurations than there is room for
-  pub answer_full : hd.full ≡ true → made_of (refused refusal.states_full) oldStates oldArcs ≡ put (table_by m ps v space) (slices_of oldStates oldArcs)
+  pub answer_full : hd.full ≡ true → made_of (refused refusal.states_full) old_states old_arcs ≡ put (table_by m ps v space) (slices_of old_states old_arcs)
   answer_full e =
       answer_refused 8 (states_over_lem (table_of m) ps v space
       (subst (λ (k : ℕ). k < length (reached_configs (table_of m) ps v k)) d.state_cap_is (found.over e)))
@@ -67,8 +67,8 @@ module _ (p : Plan) (hd : Head) (states inputs w : List ℕ) (oldStates oldArcs 
     number = subst (λ (k : ℕ). hd.arcs ≡ length (edges_of m ps v (reached_configs (table_of m) ps v k))) d.state_cap_is seen.number
 
     -- more arcs than there is room for
-    pub answer-arcs : room.arcs < hd.arcs → made_of (refused refusal.arcs_full) oldStates oldArcs ≡ put (table_by m ps v space) (slices_of oldStates oldArcs)
-    answer-arcs h = answer_refused 9 (arcs_over_lem (table_of m) ps v space few (omega (arith, d.arc_cap_is, number, h)))
+    pub answer_arcs : room.arcs < hd.arcs → made_of (refused refusal.arcs_full) old_states old_arcs ≡ put (table_by m ps v space) (slices_of old_states old_arcs)
+    answer_arcs h = answer_refused 9 (arcs_over_lem (table_of m) ps v space few (omega (arith, d.arc_cap_is, number, h)))
 
     module _ (h : hd.arcs ≤ room.arcs) where
       within : length (edges_of m ps v (reached_configs (table_of m) ps v (state_cap space))) ≤ arc_cap space
@@ -78,8 +78,8 @@ module _ (p : Plan) (hd : Head) (states inputs w : List ℕ) (oldStates oldArcs 
       late_is = subst (λ (k : ℕ). hd.late ≡ delayed (table_of m) ps v (reached_configs (table_of m) ps v k)) d.state_cap_is seen.delay
 
       -- a step that is too long
-      pub answer-late : hd.late ≡ true → made_of (refused refusal.delay) oldStates oldArcs ≡ put (table_by m ps v space) (slices_of oldStates oldArcs)
-      answer-late f = answer_refused 10 (step-over (table_of m) ps v space few within (sym late_is ∙ f))
+      pub answer_late : hd.late ≡ true → made_of (refused refusal.delay) old_states old_arcs ≡ put (table_by m ps v space) (slices_of old_states old_arcs)
+      answer_late f = answer_refused 10 (step-over (table_of m) ps v space few within (sym late_is ∙ f))
 
       -- the configurations stand in work space
       stands : Stands m ps v (found_in m ps v room) room hd w
@@ -93,8 +93,8 @@ module _ (p : Plan) (hd : Head) (states inputs w : List ℕ) (oldStates oldArcs 
       }
 
       -- and can be finished
-      pub answer-ready : Finishable p hd states inputs w (length oldStates) (length oldArcs)
-      answer-ready = record {
+      pub answer_ready : Finishable p hd states inputs w (length old_states) (length old_arcs)
+      answer_ready = record {
         sound = x.sound;
         pairs = ps;
         test = v;
@@ -108,10 +108,10 @@ module _ (p : Plan) (hd : Head) (states inputs w : List ℕ) (oldStates oldArcs 
       }
 
       -- the result
-      pub answer-finished : hd.late ≡ false → (r : Made) → Finished p hd states inputs w r (slices_of oldStates oldArcs)
-          → r ≡ put (table_by m ps v space) (slices_of oldStates oldArcs)
-      answer-finished f r z =
+      pub answer_finished : hd.late ≡ false → (r : Made) → Finished p hd states inputs w r (slices_of old_states old_arcs)
+          → r ≡ put (table_by m ps v space) (slices_of old_states old_arcs)
+      answer_finished f r z =
           z ps v (found_in m ps v room) stands
-          ∙ ap (λ (k : ℕ). put (ok (assemble (table_of m) ps v (reached_configs (table_of m) ps v k)).automaton) (slices_of oldStates oldArcs)) d.state_cap_is
-          ∙ ap (λ (a : Answer (Intersection ℕ)). put (a >>= λ I. ok I.automaton) (slices_of oldStates oldArcs))
+          ∙ ap (λ (k : ℕ). put (ok (assemble (table_of m) ps v (reached_configs (table_of m) ps v k)).automaton) (slices_of old_states old_arcs)) d.state_cap_is
+          ∙ ap (λ (a : Answer (Intersection ℕ)). put (a >>= λ I. ok I.automaton) (slices_of old_states old_arcs))
           (sym (fits_built (table_of m) ps v space (record { states = few; arcs = within; undelayed = sym late_is ∙ f })))

@@ -33,7 +33,7 @@ use Rattle.intersect_trim.specs.Rows.{final_byte, Within}
 use Rattle.intersect_trim.specs.Result.{kept_states, kept_arcs, ArcsWithin, ArcsWritten}
 use Rattle.intersect_trim.specs.Model.{EdgeOf, result_of}
 use Rattle.intersect_trim.proofs.StateModel.{finals_model}
-use Rattle.intersect_trim.proofs.Meaning.{within_states, within_arcs, joins, states_fit_lem, arcs_fit, result-put}
+use Rattle.intersect_trim.proofs.Meaning.{within_states, within_arcs, joins, states_fit_lem, arcs_fit, result_put}
 use Rattle.intersect_room.specs.declared.room.Room.{Room}
 use Rattle.intersect_offers.specs.declared.plan.Plan.{Plan}
 use Rattle.intersect_head.specs.declared.head.Head.{Head}
@@ -84,20 +84,20 @@ module _ (m : Memory) (s : Sound m) (ps : List TapePair) (v : Config → Bool) (
     numbers = subst (λ (k : ℕ). Numbered (bools (take k marks)) k ranks kept) p.many keeps.numbers
 
     -- the records of the kept rows take up no more bytes than those of all
-    pub states-room : length (kept_states m.state_bytes (take hd.reached marks) (rows 0 config_size hd.reached w)) ≤ state_size * hd.reached
-    states-room =
+    pub states_room : length (kept_states m.state_bytes (take hd.reached marks) (rows 0 config_size hd.reached w)) ≤ state_size * hd.reached
+    states_room =
         subst (λ (k : ℕ). length (kept_states m.state_bytes (take k marks) (rows 0 config_size k w)) ≤ state_size * k) (sym p.many)
         (states_fit_lem m s cs es room.edges (length es) w p.placed p.held all_fit joined marks ranks kept numbers)
 
     -- and those of the hd.arcs between them no more than those of all edges
-    pub arcs-room : length (kept_arcs marks ranks m.arc_bytes (edges_at room.edges hd.arcs w)) ≤ arc_size * hd.arcs
-    arcs-room =
+    pub arcs_room : length (kept_arcs marks ranks m.arc_bytes (edges_at room.edges hd.arcs w)) ≤ arc_size * hd.arcs
+    arcs_room =
         subst (λ (k : ℕ). length (kept_arcs marks ranks m.arc_bytes (edges_at room.edges k w)) ≤ arc_size * k) (sym p.number)
         (arcs_fit m s cs es room.edges (length es) w p.placed p.held all_fit joined marks ranks kept numbers)
 
     -- the marks are those of the configurations from which an accepting one is reached
-    marks-are : bools (take (length cs) marks) ≡ config_marks (table_of m) ps v cs
-    marks-are =
+    marks_are : bools (take (length cs) marks) ≡ config_marks (table_of m) ps v cs
+    marks_are =
         let e : bools (take (length cs) marks) ≡ coaccessible (record_graph (edges_at room.edges (length es) w)) (bools (map (final_byte m.state_bytes) (rows 0 config_size (length cs) w))) =
         subst (λ (k : ℕ). bools (take (length cs) marks) ≡ coaccessible (record_graph (edges_at room.edges k w)) (bools (map (final_byte m.state_bytes) (rows 0 config_size (length cs) w)))) p.number
         (subst (λ (k : ℕ). bools (take k marks) ≡ coaccessible (record_graph (edges_at room.edges hd.arcs w)) (bools (map (final_byte m.state_bytes) (rows 0 config_size k w)))) p.many keeps.marked) in
@@ -106,22 +106,22 @@ module _ (m : Memory) (s : Sound m) (ps : List TapePair) (v : Config → Bool) (
         ∙ coaccessible-held room.edges (length es) es w (map (accepting (table_of m)) cs) p.held all_fit
 
     -- The bytes written are those of the result on the configurations.
-    pub finished : (tapes number : ℕ) (states arc_bytes oldStates oldArcs : List ℕ) → tapes ≡ m.tapes
-        → states ≡ overwrite (kept_states m.state_bytes (take hd.reached marks) (rows 0 config_size hd.reached w)) oldStates
-        → ArcsWritten marks ranks m.arc_bytes (edges_at room.edges hd.arcs w) number arc_bytes oldArcs
-        → made_of (ok (record { tapes = tapes; states = kept; arcs = number })) states arc_bytes ≡ put (ok (assemble (table_of m) ps v cs).automaton) (slices_of oldStates oldArcs)
-    finished tapes number states arc_bytes oldStates oldArcs t e f =
-        let x : states ≡ overwrite (kept_states m.state_bytes (take (length cs) marks) (rows 0 config_size (length cs) w)) oldStates =
-        subst (λ (k : ℕ). states ≡ overwrite (kept_states m.state_bytes (take k marks) (rows 0 config_size k w)) oldStates) p.many e in
-        let y : ArcsWritten marks ranks m.arc_bytes (edges_at room.edges (length es) w) number arc_bytes oldArcs =
-        subst (λ (k : ℕ). ArcsWritten marks ranks m.arc_bytes (edges_at room.edges k w) number arc_bytes oldArcs) p.number f in
+    pub finished : (tapes number : ℕ) (states arc_bytes old_states old_arcs : List ℕ) → tapes ≡ m.tapes
+        → states ≡ overwrite (kept_states m.state_bytes (take hd.reached marks) (rows 0 config_size hd.reached w)) old_states
+        → ArcsWritten marks ranks m.arc_bytes (edges_at room.edges hd.arcs w) number arc_bytes old_arcs
+        → made_of (ok (record { tapes = tapes; states = kept; arcs = number })) states arc_bytes ≡ put (ok (assemble (table_of m) ps v cs).automaton) (slices_of old_states old_arcs)
+    finished tapes number states arc_bytes old_states old_arcs t e f =
+        let x : states ≡ overwrite (kept_states m.state_bytes (take (length cs) marks) (rows 0 config_size (length cs) w)) old_states =
+        subst (λ (k : ℕ). states ≡ overwrite (kept_states m.state_bytes (take k marks) (rows 0 config_size k w)) old_states) p.many e in
+        let y : ArcsWritten marks ranks m.arc_bytes (edges_at room.edges (length es) w) number arc_bytes old_arcs =
+        subst (λ (k : ℕ). ArcsWritten marks ranks m.arc_bytes (edges_at room.edges k w) number arc_bytes old_arcs) p.number f in
         ap (λ (k : ℕ). made_of (ok (record { tapes = k; states = kept; arcs = number })) states arc_bytes) (t ∙ (sound_holds m s).tapes)
-        ∙ result-put m s cs es room.edges (length es) w p.placed p.held all_fit joined marks ranks kept numbers number states arc_bytes oldStates oldArcs x y
-        ∙ ap (λ (b : List Bool). put (ok (result_of (table_of m) b cs es)) (slices_of oldStates oldArcs)) marks-are
-        ∙ ap (λ (A : Automaton ℕ). put (ok A) (slices_of oldStates oldArcs)) (sym (assembled (table_of m) ps v cs p.distinct))
+        ∙ result_put m s cs es room.edges (length es) w p.placed p.held all_fit joined marks ranks kept numbers number states arc_bytes old_states old_arcs x y
+        ∙ ap (λ (b : List Bool). put (ok (result_of (table_of m) b cs es)) (slices_of old_states old_arcs)) marks_are
+        ∙ ap (λ (A : Automaton ℕ). put (ok A) (slices_of old_states old_arcs)) (sym (assembled (table_of m) ps v cs p.distinct))
 
 -- ---- what the calls ask for
-module _ (p : Plan) (hd : Head) (states inputs w : List ℕ) (forStates forArcs : ℕ) (f : Finishable p hd states inputs w forStates forArcs) where
+module _ (p : Plan) (hd : Head) (states inputs w : List ℕ) (for_states for_arcs : ℕ) (f : Finishable p hd states inputs w for_states for_arcs) where
   -- the table that was read
   abbrev m : Memory
   m = lent p.counts states inputs
@@ -138,16 +138,16 @@ module _ (p : Plan) (hd : Head) (states inputs w : List ℕ) (forStates forArcs 
 
   module _ (marks ranks : List ℕ) (kept : ℕ) (keeps : Kept p.room hd states w marks ranks kept) where
     -- the states of the result fit
-    pub states-writable : length (kept_states states (take hd.reached marks) (rows 0 config_size hd.reached w)) ≤ forStates
-    states-writable =
-        omega (arith, states-room m f.sound f.pairs f.test f.configs p.room hd w f.stands marks ranks kept keeps, f.states_lent)
+    pub states_writable : length (kept_states states (take hd.reached marks) (rows 0 config_size hd.reached w)) ≤ for_states
+    states_writable =
+        omega (arith, states_room m f.sound f.pairs f.test f.configs p.room hd w f.stands marks ranks kept keeps, f.states_lent)
 
     -- and its arcs
-    pub arcs-writable : hd.reached ≤ length marks
+    pub arcs_writable : hd.reached ≤ length marks
         → Joined (length marks) (edges_at p.room.edges hd.arcs w) × ArcsWithin (length inputs) (edges_at p.room.edges hd.arcs w)
-        × (length (kept_arcs marks ranks inputs (edges_at p.room.edges hd.arcs w)) ≤ forArcs)
-    arcs-writable h = (
+        × (length (kept_arcs marks ranks inputs (edges_at p.room.edges hd.arcs w)) ≤ for_arcs)
+    arcs_writable h = (
       joined_wider hd.reached (length marks) (edges_at p.room.edges hd.arcs w) h laid.joined,
       stands_arcs m f.sound f.pairs f.test f.configs p.room hd w f.stands,
-      omega (arith, arcs-room m f.sound f.pairs f.test f.configs p.room hd w f.stands marks ranks kept keeps, f.arcs_lent),
+      omega (arith, arcs_room m f.sound f.pairs f.test f.configs p.room hd w f.stands marks ranks kept keeps, f.arcs_lent),
     )

@@ -40,9 +40,9 @@ pub record Searched (m : Memory) (ps : List TapePair) (v : Config → Bool) (roo
 
 -- a search by the plan was made of the table in these bytes, its room that of the work space w for slices of so many
 -- bytes
-pub record Answerable (p : Plan) (h : Head) (states arcs w : List ℕ) (forStates forArcs : ℕ) : Type 0 where
+pub record Answerable (p : Plan) (h : Head) (states arcs w : List ℕ) (for_states for_arcs : ℕ) : Type 0 where
   pub sound : Sound (lent p.counts states arcs)
-  pub divides : Divides (forStates / state_size) (forArcs / arc_size) p.counts.states (length w) p.room
+  pub divides : Divides (for_states / state_size) (for_arcs / arc_size) p.counts.states (length w) p.room
   pub pairs : List TapePair
   pub test : Config → Bool
   pub searched : Searched (lent p.counts states arcs) pairs test p.room h w

@@ -54,7 +54,7 @@ pub record Stands (m : Memory) (ps : List TapePair) (v : Config → Bool) (cs : 
   pub held : HoldsEdges room.edges (length (edges_of m ps v cs)) (edges_of m ps v cs) w
 
 -- some configurations stand in w, with room for all of them in the result's slices of so many bytes
-pub record Finishable (p : Plan) (h : Head) (states arcs w : List ℕ) (forStates forArcs : ℕ) : Type 0 where
+pub record Finishable (p : Plan) (h : Head) (states arcs w : List ℕ) (for_states for_arcs : ℕ) : Type 0 where
   pub sound : Sound (lent p.counts states arcs)
   pub pairs : List TapePair
   pub test : Config → Bool
@@ -63,8 +63,8 @@ pub record Finishable (p : Plan) (h : Head) (states arcs w : List ℕ) (forState
   pub few : h.reached ≤ 1024
   pub rows_fit : config_size * h.reached ≤ length w
   pub edges_fit : p.room.edges + step_size * h.arcs ≤ length w
-  pub states_lent : state_size * h.reached ≤ forStates
-  pub arcs_lent : arc_size * h.arcs ≤ forArcs
+  pub states_lent : state_size * h.reached ≤ for_states
+  pub arcs_lent : arc_size * h.arcs ≤ for_arcs
 
 -- the answer and the slices are what a call leaves that gives the result on whatever configurations stand in w
 abbrev pub Finished : Plan → Head → List ℕ → List ℕ → List ℕ → Made → Slices → Type 0

@@ -1,7 +1,7 @@
 // The answer of an auto-intersection, by what the search over its configurations left in work space.
 ghost use Rattle.std.specs.Prelude.{length};
 ghost use Rattle.automata.specs.Calls.Outcome.{made_of, slices_of};
-ghost use Rattle.table.specs.Answers.{tableAs};
+ghost use Rattle.table.specs.Answers.{table_as};
 ghost use Rattle.intersect_result.specs.Standing.{Finishable, Finished};
 ghost use Rattle.intersect_result.specs.Searched.{Answerable, Answers};
 
@@ -25,7 +25,7 @@ fn finish(
     requires { Finishable plan head states.now arcs.now work.now (length out_states.old)
         (length out_arcs.old) }
     ensures { Finished plan head states.now arcs.now work.now
-        (made_of (tableAs result) out_states.new out_arcs.new)
+        (made_of (table_as result) out_states.new out_arcs.new)
         (slices_of out_states.old out_arcs.old) }
 {
     let mut marks = [0u8; 1024];
@@ -55,7 +55,7 @@ pub fn answer_search(
     requires { Answerable plan head states.now arcs.now work.now (length out_states.old)
         (length out_arcs.old) }
     ensures { Answers plan head states.now arcs.now work.now
-        (made_of (tableAs result) out_states.new out_arcs.new)
+        (made_of (table_as result) out_states.new out_arcs.new)
         (slices_of out_states.old out_arcs.old) }
 {
     if head.full {

@@ -86,10 +86,10 @@ module _ (p : Plan) (states : List ℕ) (v : List ℕ) (k : Beginnable p states 
   }
 
   module _ (b : q < p.counts.states) (r : Head) (u : List ℕ) (z : Enters p g states q w r u) where
-    begin-comes : (arcs : List ℕ) → Explorable p states arcs (length v) → HoldsClosing (tables_in p states arcs) p.room.delays p.counts.states v
+    begin_comes : (arcs : List ℕ) → Explorable p states arcs (length v) → HoldsClosing (tables_in p states arcs) p.room.delays p.counts.states v
         → Chained (bucket_by p.pairs.used p.room.states) config_size row_size p.room.states 0 v
         → Comes p states arcs r (with_configs (record { vertices = []; edges = [] }) (firsts p states arcs (q + 1))) false u
-    begin-comes arcs x c m =
+    begin_comes arcs x c m =
         let A = table_in p states arcs in
         let f = start_by (pairs_in p) (viable_in p states arcs) in
         let y = ListFacts.place_exists A.states q (omega (arith, state_count p states arcs (length v) x)) in
@@ -102,17 +102,17 @@ module _ (p : Plan) (states : List ℕ) (v : List ℕ) (k : Beginnable p states 
         let c1 = subst (λ (vs : List automata.Config). Comes p states arcs r (record { vertices = vs; edges = [] }) false u) (sym e) c0 in
         subst (λ (i : ℕ). Comes p states arcs r (with_configs (record { vertices = []; edges = [] }) (firsts p states arcs i)) false u) n c1
 
-    pub begin-next : r.full ≡ false → Beginning p states v r u (q + 1)
-    begin-next f = record {
+    pub begin_next : r.full ≡ false → Beginning p states v r u (q + 1)
+    begin_next f = record {
       within = omega arith;
       taken = z.widens.taken ∙ t.taken;
       arcs = z.widens.arcs ∙ t.arcs;
       same_length = z.widens.same_length ∙ t.same_length;
-      meaning = λ arcs x c m. (begin-comes arcs x c m).held f;
+      meaning = λ arcs x c m. (begin_comes arcs x c m).held f;
     }
 
-    pub begin-full : r.full ≡ true → Begun p states v r u
-    begin-full f = record {
+    pub begin_full : r.full ≡ true → Begun p states v r u
+    begin_full f = record {
       taken = z.widens.taken ∙ t.taken;
       arcs = z.widens.arcs ∙ t.arcs;
       same_length = z.widens.same_length ∙ t.same_length;
@@ -122,7 +122,7 @@ module _ (p : Plan) (states : List ℕ) (v : List ℕ) (k : Beginnable p states 
             let A = table_in p states arcs in
             let st = start_by (pairs_in p) (viable_in p states arcs) in
             let whole : List automata.Config = map_maybe st (numbered zero A.states) in
-            let m = (begin-comes arcs x c z).over f in
+            let m = (begin_comes arcs x c z).over f in
             let y = AppendFacts.first_values_begin st A.states (q + 1) in
             let l = inserted_longer same_config [] (firsts p states arcs (q + 1)) y.rest whole y.joined in
             subst (λ (s : ConfigSearch). p.room.states < length s.vertices) (all-starts p states arcs) (omega (arith, m, l));

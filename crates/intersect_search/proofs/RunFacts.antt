@@ -30,7 +30,7 @@ use Rattle.delays.proofs.KeptFacts.{holds_part}
 use Rattle.intersect_offers.specs.declared.plan.Plan.{Plan}
 use Rattle.intersect_head.specs.declared.head.Head.{Head}
 use Rattle.intersect_offers.specs.Plans.{Explorable, table_in, pairs_in, tables_in, viable_in}
-use Rattle.intersect_offers.proofs.OfferFacts.{arc_exists, arc-reads, arc-source, arc-source-fits}
+use Rattle.intersect_offers.proofs.OfferFacts.{arc_exists, arc_reads, arc_source, arc_source_fits}
 use Rattle.intersect_head.specs.Searching.{bucket_by, ConfigSearch, Holds, Comes, Takable, TakesUp}
 use Rattle.intersect_head.specs.Starting.{Beginnable, Begun}
 use Rattle.intersect_head.proofs.HeldFacts.{few_closings}
@@ -101,8 +101,8 @@ module _ (p : Plan) (h : Head) (arcs : List ℕ) (v : List ℕ) (q : Runnable p 
     wider : (states : List ℕ) → Explorable p states arcs (length v) → Explorable p states arcs (length w)
     wider states x = subst (Explorable p states arcs) (sym t.same_length) x
 
-    pub run-requires : g.taken < g.reached → Takable p g arcs w
-    run-requires b = record {
+    pub run_requires : g.taken < g.reached → Takable p g arcs w
+    run_requires b = record {
       states = q.states;
       search = _;
       late = _;
@@ -117,10 +117,10 @@ module _ (p : Plan) (h : Head) (arcs : List ℕ) (v : List ℕ) (q : Runnable p 
     run_room b = let o = t.meaning q.states q.explorable q.begun in omega (arith, o.reached, o.fits, b)
 
     module _ (b : g.taken < g.reached) (r : Head) (u : List ℕ) (z : TakesUp p g arcs w r u) where
-      run-comes : (states : List ℕ) → Explorable p states arcs (length v) → Comes p states arcs h (begun_search p states arcs) false v
+      run_comes : (states : List ℕ) → Explorable p states arcs (length v) → Comes p states arcs h (begun_search p states arcs) false v
           → Comes p states arcs r (search_at p states arcs (suc g.taken))
           (any (late_in p states arcs) (take (suc g.taken) (search_at p states arcs (suc g.taken)).vertices)) u
-      run-comes states x c =
+      run_comes states x c =
           let o = t.meaning states x c in
           let y = ListFacts.place_exists (search_at p states arcs g.taken).vertices g.taken (omega (arith, o.reached, b)) in
           let before : Bool = any (late_in p states arcs) (take g.taken (search_at p states arcs g.taken).vertices) in
@@ -129,19 +129,19 @@ module _ (p : Plan) (h : Head) (arcs : List ℕ) (v : List ℕ) (q : Runnable p 
           subst (λ (l : Bool). Comes p states arcs r (search_at p states arcs (suc g.taken)) l u)
           (sym (taken_any same_config configs_decided (out_in p states arcs) (starts_in p states arcs) (late_in p states arcs) g.taken y.0 y.1)) c1
 
-      pub run-next : r.full ≡ false → Running p h arcs v r u
-      run-next f = record {
+      pub run_next : r.full ≡ false → Running p h arcs v r u
+      run_next f = record {
         few = z.few f;
         same_length = z.same_length ∙ t.same_length;
         meaning = λ states x c.
             let n : suc g.taken ≡ r.taken = omega (arith, z.taken f) in
-            subst (λ (k : ℕ). Holds p states arcs r (search_at p states arcs k) (any (late_in p states arcs) (take k (search_at p states arcs k).vertices)) u) n ((run-comes states x c).held f);
+            subst (λ (k : ℕ). Holds p states arcs r (search_at p states arcs k) (any (late_in p states arcs) (take k (search_at p states arcs k).vertices)) u) n ((run_comes states x c).held f);
       }
 
-      pub run-full : r.full ≡ true → Runs p h arcs v r u
-      run-full f = record {
+      pub run_full : r.full ≡ true → Runs p h arcs v r u
+      run_full f = record {
         same_length = z.same_length ∙ t.same_length;
-        meaning = λ states x c. too_many p states arcs (suc g.taken) r u f ((run-comes states x c).over f);
+        meaning = λ states x c. too_many p states arcs (suc g.taken) r u f ((run_comes states x c).over f);
       }
 
     pub run_end : g.reached ≤ g.taken → Runs p h arcs v g w
@@ -164,8 +164,8 @@ chainable p states arcs size x =
       few = few;
       sources = λ j b.
           let y = arc_exists p states arcs size x j b in
-          let s = arc-source p states arcs size x j y.0 y.1 in
-          let f = arc-source-fits p states arcs size x j y.0 y.1 in
+          let s = arc_source p states arcs size x j y.0 y.1 in
+          let f = arc_source_fits p states arcs size x j y.0 y.1 in
           omega (arith, s, f);
       states_fit = omega (arith, wf.states_fit, holds.states);
       arcs_fit = few;
@@ -175,7 +175,7 @@ chainable p states arcs size x =
     whole zero e = omega arith
     whole (suc n) e =
         let y = arc_exists p states arcs size x n (omega arith) in
-        let r = (arc-reads p states arcs size x n y.0 y.1).whole in
+        let r = (arc_reads p states arcs size x n y.0 y.1).whole in
         omega (arith, r)
 
 -- ---- the whole
@@ -193,8 +193,8 @@ module _ (p : Plan) (states arcs : List ℕ) (v : List ℕ) (x : Explorable p st
     closing = holds_part (tables_in p states arcs) p.room.delays p.counts.states t w (few_closings p states arcs (length w) closed)
         (e.kept p.room.delays (delays_size * p.counts.states) (omega (arith, x.configs_fit, x.edges_fit))) c.tables
 
-    pub may-begin : Beginnable p states t
-    may-begin = record { arcs = arcs; explorable = cleared; closing = closing; chained = e.chained (bucket_by p.pairs.used p.room.states) }
+    pub may_begin : Beginnable p states t
+    may_begin = record { arcs = arcs; explorable = cleared; closing = closing; chained = e.chained (bucket_by p.pairs.used p.room.states) }
 
     module _ (h : Head) (u : List ℕ) (b : Begun p states t h u) where
       begun : Comes p states arcs h (begun_search p states arcs) false u
@@ -203,8 +203,8 @@ module _ (p : Plan) (states arcs : List ℕ) (v : List ℕ) (x : Explorable p st
       open_still : Explorable p states arcs (length u)
       open_still = subst (Explorable p states arcs) (sym b.same_length) cleared
 
-      pub may-run : Runnable p h arcs u
-      may-run = record { states = states; explorable = open_still; begun = begun; taken = b.taken; arcs_none = b.arcs }
+      pub may_run : Runnable p h arcs u
+      may_run = record { states = states; explorable = open_still; begun = begun; taken = b.taken; arcs_none = b.arcs }
 
       pub explored : (r : Head) (z : List ℕ) → Runs p h arcs u r z → Explored p states arcs v r z
       explored r z y = record {

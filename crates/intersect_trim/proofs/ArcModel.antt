@@ -88,14 +88,14 @@ module _ (m : Memory) (s : Sound m) where
     l : j < length A.arcs
     l = ListFacts.place_bound A.arcs j stands
 
-    record-fits : arc_size * j + arc_size ≤ length m.arc_bytes
-    record-fits =
+    record_fits : arc_size * j + arc_size ≤ length m.arc_bytes
+    record_fits =
         let e = length_encode_arcs A t in
         let b = front_fits (m.arcs * arc_size) m.arc_bytes (encode_arcs A) h.arc_bytes (omega (arith, h.arcs, e)) in
         omega (arith, h.arcs, l)
 
-    length-behind : length (behind A.tapes a) ≡ content_size
-    length-behind =
+    length_behind : length (behind A.tapes a) ≡ content_size
+    length_behind =
         let d : get_or A.arcs j a ≡ a = ListFacts.place_default A.arcs j a stands in
         let v : WellFormedArc A.tapes (length A.states) a = rw d at (All_at (WellFormedArc A.tapes (length A.states)) A.arcs a j t.arcs l) in
         let e = (arc_record_lawful A.tapes (length A.states) t.counts.states_fit).sized a v in
@@ -103,38 +103,38 @@ module _ (m : Memory) (s : Sound m) where
         let u : suc (suc (suc (suc (length (behind A.tapes a))))) ≡ arc_size = e ∙ w in
         omega arith
 
-    behind-model : part (arc_size * j + content_place) content_size m.arc_bytes ≡ behind A.tapes a
+    behind_model : part (arc_size * j + content_place) content_size m.arc_bytes ≡ behind A.tapes a
     unfolding part
-    behind-model =
+    behind_model =
         let z : arc_size * j + content_place ≡ j * arc_size + content_place = omega arith in
         let d : get_or A.arcs j a ≡ a = ListFacts.place_default A.arcs j a stands in
         ap (λ (k : ℕ). take content_size (drop k m.arc_bytes)) z ∙ arc_field m A t h j a (omega (arith, h.arcs, l)) content_place content_size (omega arith)
-        ∙ ap (λ (x : Arc ℕ). take content_size (behind A.tapes x)) d ∙ take_all content_size (behind A.tapes a) (omega (arith, length-behind))
+        ∙ ap (λ (x : Arc ℕ). take content_size (behind A.tapes x)) d ∙ take_all content_size (behind A.tapes a) (omega (arith, length_behind))
 
   -- the records of the edges' arcs stand in the bytes
   pub arcs_within : (n : ℕ) (es : List (Edge (ℕ × Arc ℕ))) → All (EdgeOf A n) es → ArcsWithin (length m.arc_bytes) (map record_of es)
   unfolding ArcsWithin
   arcs_within n [] a = tt
-  arcs_within n (x ∷ es) a = (record-fits x.label.0 x.label.1 a.0.arc, arcs_within n es a.1)
+  arcs_within n (x ∷ es) a = (record_fits x.label.0 x.label.1 a.0.arc, arcs_within n es a.1)
 
   module _ (n count : ℕ) (marks ranks : List ℕ) (numbers : Numbered (bools (take n marks)) n ranks count) where
     -- the record of an edge is that of the arc
-    pub arc-model : (k : ℕ) (x : Edge (ℕ × Arc ℕ)) → EdgeOf A n x
+    pub arc_model : (k : ℕ) (x : Edge (ℕ × Arc ℕ)) → EdgeOf A n x
         → arc_bytes ranks m.arc_bytes (record_of x) ≡ (arc_record A.tapes k).write (arc_of (ranked (kept n marks) x))
     unfolding arc_bytes
-    arc-model k x e =
+    arc_model k x e =
         let f = numbers.number x.from e.from in
         let g = numbers.number x.to e.to in
-        let b = behind-model x.label.0 x.label.1 e.arc in
+        let b = behind_model x.label.0 x.label.1 e.arc in
         λ i. to_le 2 (f i) ++ (to_le 2 (g i) ++ b i)
 
-    arcs-model : (k : ℕ) (es : List (Edge (ℕ × Arc ℕ))) → All (EdgeOf A n) es
+    arcs_model : (k : ℕ) (es : List (Edge (ℕ × Arc ℕ))) → All (EdgeOf A n) es
         → kept_arcs marks ranks m.arc_bytes (map record_of es) ≡ write_all (arc_record A.tapes k).write (map arc_of (kept_edges (kept n marks) es))
     unfolding kept_arcs kept_edges
-    arcs-model k [] a = refl
-    arcs-model k (x ∷ es) a =
+    arcs_model k [] a = refl
+    arcs_model k (x ∷ es) a =
         ap (λ (b : Bool). write_all (arc_bytes ranks m.arc_bytes) (if b (record_of x ∷ rest) rest)) (both_model n marks A x a.0)
-        ∙ go (both_marked (kept n marks) x) (arc-model k x a.0) (arcs-model k es a.1)
+        ∙ go (both_marked (kept n marks) x) (arc_model k x a.0) (arcs_model k es a.1)
         ∙ ap (λ (ys : List (Edge (ℕ × Arc ℕ))). write_all (arc_record A.tapes k).write (map arc_of ys)) (sym (kept_edges_cons (kept n marks) x es))
       where
         rest : List EdgeRecord
@@ -148,6 +148,6 @@ module _ (m : Memory) (s : Sound m) where
         go false e f = f
 
     -- The bytes of the edges between marked configurations are those of the result's arcs.
-    pub kept-arcs-model : (cs : List Config) (es : List (Edge (ℕ × Arc ℕ))) → All (EdgeOf A n) es
+    pub kept_arcs_model : (cs : List Config) (es : List (Edge (ℕ × Arc ℕ))) → All (EdgeOf A n) es
         → kept_arcs marks ranks m.arc_bytes (map record_of es) ≡ encode_arcs (result_of A (kept n marks) cs es)
-    kept-arcs-model cs es a = arcs-model (length (result_of A (kept n marks) cs es).states) es a
+    kept_arcs_model cs es a = arcs_model (length (result_of A (kept n marks) cs es).states) es a

@@ -31,7 +31,7 @@ use Rattle.intersect_trim.specs.Result.{row_record, kept_states, both_marks, arc
 use Rattle.intersect_trim.specs.Model.{result_of, EdgeOf}
 use Rattle.intersect_trim.proofs.ResultFacts.{length_row, length_arc}
 use Rattle.intersect_trim.proofs.StateModel.{rows-within, kept_model}
-use Rattle.intersect_trim.proofs.ArcModel.{edges-joined, arcs_within, count_model, kept-arcs-model}
+use Rattle.intersect_trim.proofs.ArcModel.{edges-joined, arcs_within, count_model, kept_arcs_model}
 
 -- ---- how many bytes the records take up
 
@@ -106,21 +106,21 @@ module _ (m : Memory) (s : Sound m) (cs : List Config) (es : List (Edge (ℕ × 
         omega (arith, a, b, c)
 
     -- The slices of the result are what the call that gives it leaves, and the counts are its counts.
-    pub result-put : (number : ℕ) (states arcs oldStates oldArcs : List ℕ)
-        → states ≡ overwrite (kept_states m.state_bytes (take (length cs) marks) (rows 0 config_size (length cs) w)) oldStates
-        → ArcsWritten marks ranks m.arc_bytes (edges_at base (length es) w) number arcs oldArcs
-        → made_of (ok (record { tapes = (table_of m).tapes; states = count; arcs = number })) states arcs ≡ put (ok result) (slices_of oldStates oldArcs)
+    pub result_put : (number : ℕ) (states arcs old_states old_arcs : List ℕ)
+        → states ≡ overwrite (kept_states m.state_bytes (take (length cs) marks) (rows 0 config_size (length cs) w)) old_states
+        → ArcsWritten marks ranks m.arc_bytes (edges_at base (length es) w) number arcs old_arcs
+        → made_of (ok (record { tapes = (table_of m).tapes; states = count; arcs = number })) states arcs ≡ put (ok result) (slices_of old_states old_arcs)
     unfolding put
-    result-put number states arcs oldStates oldArcs e f =
+    result_put number states arcs old_states old_arcs e f =
         let bs : List Bool = bools (take (length cs) marks) in
         let p : count ≡ length (map (state_of (table_of m)) (at_marks bs cs)) =
         numbers.total ∙ sym (length_at_marks bs cs) ∙ sym (length-map (at_marks bs cs) (state_of (table_of m))) in
         let q : number ≡ length (map (arc_of {W = ℕ}) (kept_edges bs es)) =
         f.number ∙ ap (λ (x : List EdgeRecord). length (filter (both_marks marks) x)) records ∙ count_model (length cs) marks (table_of m) es joined
         ∙ sym (length-map (kept_edges bs es) arc_of) in
-        let x : states ≡ overwrite (encode_states result) oldStates =
-        e ∙ ap (λ (b : List ℕ). overwrite b oldStates) (kept_model m s (take (length cs) marks) cs (rows 0 config_size (length cs) w) es placed) in
-        let y : arcs ≡ overwrite (encode_arcs result) oldArcs =
-        f.bytes ∙ ap (λ (b : List ℕ). overwrite b oldArcs)
-        (ap (kept_arcs marks ranks m.arc_bytes) records ∙ kept-arcs-model m s (length cs) count marks ranks numbers cs es joined) in
+        let x : states ≡ overwrite (encode_states result) old_states =
+        e ∙ ap (λ (b : List ℕ). overwrite b old_states) (kept_model m s (take (length cs) marks) cs (rows 0 config_size (length cs) w) es placed) in
+        let y : arcs ≡ overwrite (encode_arcs result) old_arcs =
+        f.bytes ∙ ap (λ (b : List ℕ). overwrite b old_arcs)
+        (ap (kept_arcs marks ranks m.arc_bytes) records ∙ kept_arcs_model m s (length cs) count marks ranks numbers cs es joined) in
         λ i. made_of (ok (record { tapes = (table_of m).tapes; states = p i; arcs = q i })) (x i) (y i)

@@ -96,8 +96,8 @@ module _ (m : Memory) (s : Sound m) where
     l : q < length A.states
     l = ListFacts.place_bound A.states q stands
 
-    pub record-fits : state_size * q + state_size ≤ length m.state_bytes
-    record-fits =
+    pub record_fits : state_size * q + state_size ≤ length m.state_bytes
+    record_fits =
         let e = length_encode_states A t in
         let b = front_fits (m.states * state_size) m.state_bytes (encode_states A) h.state_bytes (omega (arith, h.states, e)) in
         omega (arith, h.states, l)
@@ -111,44 +111,44 @@ module _ (m : Memory) (s : Sound m) where
         ap (λ (k : ℕ). take n (drop k m.state_bytes)) z ∙ state_field m A t h q blank (omega (arith, h.states, l)) o n e
         ∙ ap (λ (x : State ℕ). take n (drop o (state_record.write x))) (ListFacts.place_default A.states q blank stands)
 
-    flag-model : is_mark (get_or m.state_bytes (state_size * q + final_place) 0) ≡ is_some (final_of A q)
-    flag-model =
+    flag_model : is_mark (get_or m.state_bytes (state_size * q + final_place) 0) ≡ is_some (final_of A q)
+    flag_model =
         let z : state_size * q + final_place ≡ state_size * q + final_place + 0 = omega arith in
         let e : get_or m.state_bytes (state_size * q + final_place) 0 ≡ get_or (take 1 (drop final_place (state_record.write known))) 0 0 =
         ap (λ (k : ℕ). get_or m.state_bytes k 0) z ∙ sym (get_or-drop (state_size * q + final_place) m.state_bytes 0 0)
         ∙ sym (get_or-take 1 (drop (state_size * q + final_place) m.state_bytes) 0 0 (omega arith)) ∙ ap (λ (x : List ℕ). get_or x 0 0) (field final_place 1 (omega arith)) in
         ap is_mark e ∙ flag_of known.initial known.final ∙ (rw stands)
 
-    record-model : part (state_size * q) state_size m.state_bytes ≡ state_record.write known
+    record_model : part (state_size * q) state_size m.state_bytes ≡ state_record.write known
     unfolding part
-    record-model =
+    record_model =
         let z : state_size * q ≡ state_size * q + 0 = omega arith in
         ap (λ (k : ℕ). take state_size (drop k m.state_bytes)) z ∙ field 0 state_size (omega arith) ∙ whole_record known.initial known.final
 
   -- ---- a configuration and its row
 
   module _ (c : Config) (row : List ℕ) (r : RowOf c row) (l : c.state < length A.states) where
-    state-is : row_state row ≡ c.state
-    state-is = state_model c row r (omega (arith, l, t.counts.states_fit))
+    state_is : row_state row ≡ c.state
+    state_is = state_model c row r (omega (arith, l, t.counts.states_fit))
 
     row_fits : state_size * row_state row + state_size ≤ length m.state_bytes
-    row_fits = let e = ListFacts.place_exists A.states c.state l in let f = record-fits c.state e.0 e.1 in omega (arith, f, state-is)
+    row_fits = let e = ListFacts.place_exists A.states c.state l in let f = record_fits c.state e.0 e.1 in omega (arith, f, state_is)
 
     -- the mark of the row says whether the configuration is accepting
-    pub final-model : final_byte m.state_bytes row ≡ bit (accepting A c)
+    pub final_model : final_byte m.state_bytes row ≡ bit (accepting A c)
     unfolding final_byte
-    final-model =
+    final_model =
         let e = ListFacts.place_exists A.states c.state l in
         ap₂ (λ (p f : Bool). bit (and p f)) (plain_model c row r)
-        (ap (λ (q : ℕ). is_mark (get_or m.state_bytes (state_size * q + final_place) 0)) state-is ∙ flag-model c.state e.0 e.1)
+        (ap (λ (q : ℕ). is_mark (get_or m.state_bytes (state_size * q + final_place) 0)) state_is ∙ flag_model c.state e.0 e.1)
 
     -- the record of the row is that of the configuration as a state
-    pub row-model : row_record m.state_bytes row ≡ state_record.write (state_of A c)
+    pub row_model : row_record m.state_bytes row ≡ state_record.write (state_of A c)
     unfolding row_record
-    row-model =
+    row_model =
         let e = ListFacts.place_exists A.states c.state l in
-        ap₂ (λ (p : Bool) (q : ℕ). if p (part (state_size * q) state_size m.state_bytes) (zeros state_size)) (plain_model c row r) state-is
-        ∙ ap (λ (x : List ℕ). if (no_leftovers c) x (zeros state_size)) (record-model c.state e.0 e.1) ∙ (rw e.1 (go e.0 (no_leftovers c)))
+        ap₂ (λ (p : Bool) (q : ℕ). if p (part (state_size * q) state_size m.state_bytes) (zeros state_size)) (plain_model c row r) state_is
+        ∙ ap (λ (x : List ℕ). if (no_leftovers c) x (zeros state_size)) (record_model c.state e.0 e.1) ∙ (rw e.1 (go e.0 (no_leftovers c)))
       where
         go : (x : State ℕ) (b : Bool)
             → if b (state_record.write x) (zeros state_size) ≡ state_record.write (record { initial = guard b x.initial; final = guard b x.final })
@@ -171,7 +171,7 @@ module _ (m : Memory) (s : Sound m) where
   finals_model [] (x ∷ rs) r = absurd r
   finals_model (c ∷ cs) [] r = absurd r
   finals_model (c ∷ cs) (x ∷ rs) r =
-      ap₂ (λ (b : ℕ) (bs : List ℕ). b ∷ bs) (final-model c x r.0.0 r.0.1) (finals_model cs rs r.1)
+      ap₂ (λ (b : ℕ) (bs : List ℕ). b ∷ bs) (final_model c x r.0.0 r.0.1) (finals_model cs rs r.1)
 
   -- the records of the marked rows are the states of the result
   pub states_model : (bs : List Bool) (cs : List Config) (rs : List (List ℕ)) → RowsOf (length A.states) cs rs
@@ -180,7 +180,7 @@ module _ (m : Memory) (s : Sound m) where
   states_model (b ∷ bs) [] [] r = refl
   states_model (b ∷ bs) [] (x ∷ rs) r = absurd r
   states_model (b ∷ bs) (c ∷ cs) [] r = absurd r
-  states_model (b ∷ bs) (c ∷ cs) (x ∷ rs) r = go b (row-model c x r.0.0 r.0.1) (states_model bs cs rs r.1)
+  states_model (b ∷ bs) (c ∷ cs) (x ∷ rs) r = go b (row_model c x r.0.0 r.0.1) (states_model bs cs rs r.1)
     where
       go : (b : Bool) → row_record m.state_bytes x ≡ state_record.write (state_of A c)
           → write_all (row_record m.state_bytes) (at_marks bs rs) ≡ write_all state_record.write (map (state_of A) (at_marks bs cs))

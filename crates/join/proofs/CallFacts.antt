@@ -23,7 +23,7 @@ use Rattle.laws.proofs.JoinCalls.{join_by_calls_lem}
 use Rattle.table.specs.declared.answer.Refusal.{Refusal}
 use Rattle.table.specs.declared.answer.Judged.{Judged}
 use Rattle.table.specs.declared.answer.Judged.TheVariants.{Fine, Refused}
-use Rattle.table.specs.Answers.{judgedAs, refusalNumber}
+use Rattle.table.specs.Answers.{judged_as, refusal_number}
 use Rattle.table.specs.Pairs.{pairs_as}
 use Rattle.pairs.specs.declared.PairsJudged.{PairsJudged}
 use Rattle.pairs.specs.Judgement.{JoinJudged}
@@ -44,17 +44,17 @@ module _ (a b : Memory) (ps : List TapePair) (product result : Slices) (work : L
   answer = join_answer a b ps (space_of product) (space_of result) work
 
   abbrev after : Judged → Answer (Automaton ℕ)
-  after x = judgedAs x >>= λ (u : Unit {0}). join_steps ℕ_sum weight_fits (lent_to (space_of product) (space_of result) work) ps (table_of a) (table_of b)
+  after x = judged_as x >>= λ (u : Unit {0}). join_steps ℕ_sum weight_fits (lent_to (space_of product) (space_of result) work) ps (table_of a) (table_of b)
 
   -- a refusal before any step
-  pub call_refused : (why : Refusal) → j.judged ≡ Refused why → made_of (refused (refusalNumber why)) result.states result.arcs ≡ put answer result
+  pub call_refused : (why : Refusal) → j.judged ≡ Refused why → made_of (refused (refusal_number why)) result.states result.arcs ≡ put answer result
   call_refused why e =
-      sym (put_refused result (refusalNumber why)) ∙ ap (λ (r : Answer (Automaton ℕ)). put r result) (sym (p.answer work refl ∙ ap after e))
+      sym (put_refused result (refusal_number why)) ∙ ap (λ (r : Answer (Automaton ℕ)). put r result) (sym (p.answer work refl ∙ ap after e))
 
   module _ (e : j.judged ≡ Fine) where
     -- the steps can be made
-    pub call-joinable : Joinable a b listed.pairs j.room (length product.states) (length product.arcs) (length result.states) (length result.arcs) (length work)
-    call-joinable =
+    pub call_joinable : Joinable a b listed.pairs j.room (length product.states) (length product.arcs) (length result.states) (length result.arcs) (length work)
+    call_joinable =
         let f = p.listed_fine e in
         record {
           first = p.first e;
@@ -68,9 +68,9 @@ module _ (a b : Memory) (ps : List TapePair) (product result : Slices) (work : L
         }
 
     -- and what they leave is the call's
-    pub call-stepped : (r : Answer TableCounts) (states arcs : List ℕ)
+    pub call_stepped : (r : Answer TableCounts) (states arcs : List ℕ)
         → made_of r states arcs ≡ join_by_calls (table_of a) (table_of b) (pairs_as listed.pairs) product result → made_of r states arcs ≡ put answer result
-    call-stepped r states arcs z =
+    call_stepped r states arcs z =
         let wA = sound_well_formed a (p.first e) in
         let wB = sound_well_formed b (p.second e) in
         let n = (sound_holds a (p.first e)).tapes in
@@ -81,12 +81,12 @@ module _ (a b : Memory) (ps : List TapePair) (product result : Slices) (work : L
         ∙ ap (λ (x : Answer (Automaton ℕ)). put x result) (sym (p.answer work refl ∙ ap after e))
 
 -- The product's space and the work space are zero afterwards.
-pub call_cleared : (a b : Memory) (ps : List TapePair) (product result : Slices) (work : List ℕ) (r : Answer TableCounts) (states arcs zeroStates zeroArcs zeroWork : List ℕ)
+pub call_cleared : (a b : Memory) (ps : List TapePair) (product result : Slices) (work : List ℕ) (r : Answer TableCounts) (states arcs zero_states zero_arcs zero_work : List ℕ)
     (n m l : ℕ) → made_of r states arcs ≡ put (join_answer a b ps (space_of product) (space_of result) work) result
-    → n ≡ length product.states → zeroStates ≡ zeros n → m ≡ length product.arcs → zeroArcs ≡ zeros m → l ≡ length work → zeroWork ≡ zeros l
-    → joined_of r states arcs zeroStates zeroArcs zeroWork ≡ join_outcome a b ps product result work
+    → n ≡ length product.states → zero_states ≡ zeros n → m ≡ length product.arcs → zero_arcs ≡ zeros m → l ≡ length work → zero_work ≡ zeros l
+    → joined_of r states arcs zero_states zero_arcs zero_work ≡ join_outcome a b ps product result work
 unfolding join_outcome conclude
-call_cleared a b ps product result work r states arcs zeroStates zeroArcs zeroWork n m l e n-is states-zero m-is arcs-zero l-is work-zero =
+call_cleared a b ps product result work r states arcs zero_states zero_arcs zero_work n m l e n-is states-zero m-is arcs-zero l-is work-zero =
     λ i. record {
       made = e i;
       product = record { states = (states-zero ∙ ap zeros n-is) i; arcs = (arcs-zero ∙ ap zeros m-is) i };

@@ -26,7 +26,7 @@ use Rattle.automata.proofs.CallTests.{join-width}
 use Rattle.table.specs.declared.answer.Refusal.{Refusal}
 use Rattle.table.specs.declared.answer.Judged.{Judged}
 use Rattle.table.specs.declared.answer.Judged.TheVariants.{Fine, Refused}
-use Rattle.table.specs.Answers.{judgedAs}
+use Rattle.table.specs.Answers.{judged_as}
 use Rattle.table.proofs.TableFacts.{judged_sound}
 use Rattle.pairs.specs.declared.PairsJudged.{PairsJudged}
 use Rattle.pairs.specs.PairTests.{join_pairs_answer}
@@ -59,7 +59,7 @@ pub record NoneRefused (first second : Judged) (narrow : Bool) (pairs : Judged) 
   pub pairs_fine : pairs ≡ Fine
   pub is_enough : enough ≡ true
 
-pub none-refused : (t u : Judged) (n : Bool) (p : Judged) (e : Bool) → in_turn (judgedAs t) (judgedAs u) n (judgedAs p) e ≡ ok tt → NoneRefused t u n p e
+pub none-refused : (t u : Judged) (n : Bool) (p : Judged) (e : Bool) → in_turn (judged_as t) (judged_as u) n (judged_as p) e ≡ ok tt → NoneRefused t u n p e
 none-refused (Refused why) u n p e h = absurd (refused≢ok h)
 none-refused Fine (Refused why) n p e h = absurd (refused≢ok h)
 none-refused Fine Fine false p e h = absurd (refused≢ok h)
@@ -69,19 +69,19 @@ none-refused Fine Fine true Fine true h = record { first_fine = refl; second_fin
 
 module _ (t u p : Judged) (n e : Bool) (f : t ≡ Fine) (g : u ≡ Fine) where
   -- a width that is refused
-  pub turn_wide : n ≡ false → refused refusal.width ≡ in_turn (judgedAs t) (judgedAs u) n (judgedAs p) e
+  pub turn_wide : n ≡ false → refused refusal.width ≡ in_turn (judged_as t) (judged_as u) n (judged_as p) e
   turn_wide h = rw (f, g, h)
 
   module _ (h : n ≡ true) where
     -- pairs that are refused, work space that is too short, and no refusal
-    pub turn-pairs : (why : Refusal) → p ≡ Refused why → judgedAs p ≡ in_turn (judgedAs t) (judgedAs u) n (judgedAs p) e
-    turn-pairs why k = rw (f, g, h, k)
+    pub turn_pairs : (why : Refusal) → p ≡ Refused why → judged_as p ≡ in_turn (judged_as t) (judged_as u) n (judged_as p) e
+    turn_pairs why k = rw (f, g, h, k)
 
-    pub turn-short : p ≡ Fine → e ≡ false → refused refusal.space ≡ in_turn (judgedAs t) (judgedAs u) n (judgedAs p) e
-    turn-short k l = rw (f, g, h, k, l)
+    pub turn_short : p ≡ Fine → e ≡ false → refused refusal.space ≡ in_turn (judged_as t) (judged_as u) n (judged_as p) e
+    turn_short k l = rw (f, g, h, k, l)
 
-    pub turn-fine : p ≡ Fine → e ≡ true → ok tt ≡ in_turn (judgedAs t) (judgedAs u) n (judgedAs p) e
-    turn-fine k l = rw (f, g, h, k, l)
+    pub turn_fine : p ≡ Fine → e ≡ true → ok tt ≡ in_turn (judged_as t) (judged_as u) n (judged_as p) e
+    turn_fine k l = rw (f, g, h, k, l)
 
 -- ---- the call
 module _ (a b : Memory) (ps : List TapePair) (product result : Space) (work : ℕ) (t u p j : Answer (Unit {0})) (n e : Bool)
@@ -136,20 +136,20 @@ pairs-within n m ps e = (judge-ok (within n m (tapes_of ps)) _ _ tt e).0
 
 -- The judgements are those of the call.
 pub prepared : (a b : Memory) (ps : List TapePair) (product result : Space) (work : ℕ) (t u j : Judged) (l : PairsJudged) (n : Bool) (r : RoomAnswer)
-    → judgedAs t ≡ forget (decode_table a) → judgedAs u ≡ forget (decode_table b) → n ≡ leb (a.tapes + b.tapes) max_tapes
+    → judged_as t ≡ forget (decode_table a) → judged_as u ≡ forget (decode_table b) → n ≡ leb (a.tapes + b.tapes) max_tapes
     → JoinJudged ps a.tapes b.tapes l → JoinRoom product result work r
-    → judgedAs j ≡ in_turn (judgedAs t) (judgedAs u) n (judgedAs l.judged) r.enough → Prepares a b ps product result work l (record { judged = j; room = r.room })
+    → judged_as j ≡ in_turn (judged_as t) (judged_as u) n (judged_as l.judged) r.enough → Prepares a b ps product result work l (record { judged = j; room = r.room })
 prepared a b ps product result work t u j l n r is-t is-u is-n k is-r is-j = record {
-  answer = λ w z. by_tables a b ps product result work (judgedAs t) (judgedAs u) (judgedAs l.judged) (judgedAs j) n r.enough is-t is-u is-n k.answer is-r.enough is-j w z
+  answer = λ w z. by_tables a b ps product result work (judged_as t) (judged_as u) (judged_as l.judged) (judged_as j) n r.enough is-t is-u is-n k.answer is-r.enough is-j w z
       (decode_table a) (decode_table b) refl refl;
-  first = λ f. judged_sound a (sym is-t ∙ ap judgedAs (all f).first_fine);
-  second = λ f. judged_sound b (sym is-u ∙ ap judgedAs (all f).second_fine);
+  first = λ f. judged_sound a (sym is-t ∙ ap judged_as (all f).first_fine);
+  second = λ f. judged_sound b (sym is-u ∙ ap judged_as (all f).second_fine);
   narrow = λ f. leb→le (a.tapes + b.tapes) max_tapes (true_T (leb (a.tapes + b.tapes) max_tapes) (sym is-n ∙ (all f).is_narrow));
   listed_fine = λ f. (all f).pairs_fine;
-  inside = λ f. pairs-within a.tapes b.tapes ps (sym k.answer ∙ ap judgedAs (all f).pairs_fine);
+  inside = λ f. pairs-within a.tapes b.tapes ps (sym k.answer ∙ ap judged_as (all f).pairs_fine);
   enough = λ f. leb→le (join_work product result) work (true_T (leb (join_work product result) work) (sym is-r.enough ∙ (all f).is_enough));
   divides = λ f. is-r.divides (all f).is_enough;
 }
   where
     all : j ≡ Fine → NoneRefused t u n l.judged r.enough
-    all f = none-refused t u n l.judged r.enough (sym is-j ∙ ap judgedAs f)
+    all f = none-refused t u n l.judged r.enough (sym is-j ∙ ap judged_as f)

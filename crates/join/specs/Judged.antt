@@ -12,7 +12,7 @@ use Rattle.automata.specs.Join.{within, join_steps}
 use Rattle.automata.specs.Calls.Work.{join_work}
 use Rattle.automata.specs.Calls.Join.{lent_to, join_answer}
 use Rattle.table.specs.declared.answer.Judged.TheVariants.{Fine}
-use Rattle.table.specs.Answers.{judgedAs}
+use Rattle.table.specs.Answers.{judged_as}
 use Rattle.pairs.specs.declared.PairsJudged.{PairsJudged}
 use Rattle.pairs.specs.Judgement.{JoinJudged}
 use Rattle.intersect_room.specs.declared.room.RoomAnswer.{RoomAnswer}
@@ -34,7 +34,7 @@ pub record JoinRoom (product result : Space) (work : ℕ) (r : RoomAnswer) : Typ
 -- parts.
 pub record Prepares (a b : Memory) (ps : List TapePair) (product result : Space) (work : ℕ) (listed : PairsJudged) (r : Prepared) : Type 0 where
   pub answer : (w : List ℕ) → length w ≡ work → join_answer a b ps product result w
-      ≡ (judgedAs r.judged >>= λ (u : Unit {0}). join_steps ℕ_sum weight_fits (lent_to product result w) ps (table_of a) (table_of b))
+      ≡ (judged_as r.judged >>= λ (u : Unit {0}). join_steps ℕ_sum weight_fits (lent_to product result w) ps (table_of a) (table_of b))
   pub first : r.judged ≡ Fine → Sound a
   pub second : r.judged ≡ Fine → Sound b
   pub narrow : r.judged ≡ Fine → a.tapes + b.tapes ≤ max_tapes

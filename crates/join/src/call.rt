@@ -3,7 +3,7 @@ ghost use Rattle.std.specs.Prelude.{◌≡◌, List};
 ghost use Rattle.automata.specs.TapePair.{TapePair};
 ghost use Rattle.automata.specs.Calls.Outcome.{space_of, put, made_of, joined_of, slices_of};
 ghost use Rattle.automata.specs.Calls.Join.{join_answer, join_outcome};
-ghost use Rattle.table.specs.Answers.{lent, tableAs};
+ghost use Rattle.table.specs.Answers.{lent, table_as};
 ghost use Rattle.pairs.specs.PairBytes.{pairs_of};
 ghost use Rattle.pairs.specs.Judgement.{JoinJudged};
 ghost use Rattle.join.specs.Judged.{Listed};
@@ -32,7 +32,7 @@ fn build(
 ) -> TableAnswer
     requires { Listed first.tapes second.tapes listed }
     ensures { (ps : List TapePair) → JoinJudged ps first.tapes second.tapes listed
-        → made_of (tableAs result) out_states.new out_arcs.new
+        → made_of (table_as result) out_states.new out_arcs.new
         ≡ put (join_answer (lent first first_states.now first_arcs.now)
         (lent second second_states.now second_arcs.now) ps
         (space_of (slices_of product_states.old product_arcs.old))
@@ -95,7 +95,7 @@ pub fn join_judged(
 ) -> TableAnswer
     requires { Listed first.tapes second.tapes listed }
     ensures { (ps : List TapePair) → JoinJudged ps first.tapes second.tapes listed
-        → joined_of (tableAs result) out_states.new out_arcs.new product_states.new
+        → joined_of (table_as result) out_states.new out_arcs.new product_states.new
         product_arcs.new work.new
         ≡ join_outcome (lent first first_states.now first_arcs.now)
         (lent second second_states.now second_arcs.now) ps
@@ -140,7 +140,7 @@ pub fn join(
     out_arcs: &mut [u8],
     work: &mut [u8],
 ) -> TableAnswer
-    ensures { joined_of (tableAs result) out_states.new out_arcs.new
+    ensures { joined_of (table_as result) out_states.new out_arcs.new
         product_states.new product_arcs.new work.new
         ≡ join_outcome (lent first first_states.now first_arcs.now)
         (lent second second_states.now second_arcs.now) (pairs_of pairs.now)

@@ -2,7 +2,7 @@
 // work space.
 ghost use Rattle.std.specs.Prelude.{◌≡◌, ◌+◌, leb};
 ghost use Rattle.automata.specs.Limits.{max_tapes};
-ghost use Rattle.table.specs.Answers.{judgedAs, lent};
+ghost use Rattle.table.specs.Answers.{judged_as, lent};
 ghost use Rattle.intersect_room.specs.Room.{lent_space};
 ghost use Rattle.join.specs.Judged.{in_turn, PreparesFor};
 
@@ -24,7 +24,7 @@ fn width_fits(n: usize, m: usize) -> bool
 
 // The first refusal of two tables, of their width, of the pairs and their limits, or of the work space.
 fn in_turn(first: Judged, second: Judged, narrow: bool, pairs: Judged, enough: bool) -> Judged
-    ensures { judgedAs result ≡ in_turn (judgedAs first) (judgedAs second) narrow (judgedAs pairs) enough }
+    ensures { judged_as result ≡ in_turn (judged_as first) (judged_as second) narrow (judged_as pairs) enough }
 {
     let Judged::Fine = first else {
         return first;

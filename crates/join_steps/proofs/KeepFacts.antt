@@ -21,7 +21,7 @@ use Rattle.table.specs.declared.answer.Counts.{Counts}
 use Rattle.table.specs.declared.answer.TableAnswer.{TableAnswer}
 use Rattle.table.specs.declared.answer.TableAnswer.TheVariants.{Table, Refused}
 use Rattle.table.specs.declared.pair.PairList.{PairList}
-use Rattle.table.specs.Answers.{refusalNumber, countsAs, tableAs, lent}
+use Rattle.table.specs.Answers.{refusal_number, counts_as, table_as, lent}
 use Rattle.table.specs.Pairs.{pairs_as, Named}
 use Rattle.intersect_room.specs.declared.room.Room.{Room}
 use Rattle.join_steps.specs.Steps.{SecondsDroppable, Keepable}
@@ -49,11 +49,11 @@ made_table r s c states arcs e =
     }
 
 -- the answer of a step, by what it was
-pub told : (t : TableAnswer) (c : Counts) (states arcs : List ℕ) (o : Made) → t ≡ Table c → made_of (tableAs t) states arcs ≡ o → made_of (ok (countsAs c)) states arcs ≡ o
-told t c states arcs o q e = subst (λ (x : TableAnswer). made_of (tableAs x) states arcs ≡ o) q e
+pub told : (t : TableAnswer) (c : Counts) (states arcs : List ℕ) (o : Made) → t ≡ Table c → made_of (table_as t) states arcs ≡ o → made_of (ok (counts_as c)) states arcs ≡ o
+told t c states arcs o q e = subst (λ (x : TableAnswer). made_of (table_as x) states arcs ≡ o) q e
 
 -- ---- after the auto-intersection
-module _ (m : Memory) (pairs : PairList) (room : Room) (forStates forArcs work : ℕ) (x : Keepable m pairs room forStates forArcs work) (s : Slices) where
+module _ (m : Memory) (pairs : PairList) (room : Room) (for_states for_arcs work : ℕ) (x : Keepable m pairs room for_states for_arcs work) (s : Slices) where
   -- the steps that are left
   abbrev next : Memory → Slices → Made
   next K left = drop_step K (seconds (tapes_of (pairs_as pairs))) left
@@ -62,19 +62,19 @@ module _ (m : Memory) (pairs : PairList) (room : Room) (forStates forArcs work :
   step = intersect_step m (pairs_as pairs) s
 
   -- a refusal ends them
-  pub keep_refused : (t : TableAnswer) (why : Refusal) (states arcs : List ℕ) → t ≡ Refused why → made_of (tableAs t) states arcs ≡ step
-      → made_of (tableAs t) states arcs ≡ and_then step next
-  keep_refused t why states arcs q e = e ∙ sym (and_then_refused step next (refusalNumber why) (ap (λ (o : Made). o.answer) (sym e) ∙ ap tableAs q))
+  pub keep_refused : (t : TableAnswer) (why : Refusal) (states arcs : List ℕ) → t ≡ Refused why → made_of (table_as t) states arcs ≡ step
+      → made_of (table_as t) states arcs ≡ and_then step next
+  keep_refused t why states arcs q e = e ∙ sym (and_then_refused step next (refusal_number why) (ap (λ (o : Made). o.answer) (sym e) ∙ ap table_as q))
 
   -- what is kept is a table, of which the second tapes can be dropped
-  pub kept_droppable : (t : TableAnswer) (c : Counts) (states arcs : List ℕ) → t ≡ Table c → made_of (tableAs t) states arcs ≡ step
+  pub kept_droppable : (t : TableAnswer) (c : Counts) (states arcs : List ℕ) → t ≡ Table c → made_of (table_as t) states arcs ≡ step
       → SecondsDroppable (lent c states arcs) pairs
   unfolding intersect_step
   kept_droppable t₀ c states arcs q e =
       let i = x.keeps in
-      let e' : made_of (ok (countsAs c)) states arcs ≡ put (intersect_on (space_of s) (pairs_as pairs) (table_of m)) s =
+      let e' : made_of (ok (counts_as c)) states arcs ≡ put (intersect_on (space_of s) (pairs_as pairs) (table_of m)) s =
       told t₀ c states arcs step q e ∙ ap (λ (r : Answer (Automaton ℕ)). put (r >>= λ P. intersect_on (space_of s) (pairs_as pairs) P) s) (sound_decoded m i.sound) in
-      let t = made_table (intersect_on (space_of s) (pairs_as pairs) (table_of m)) s (countsAs c) states arcs e' in
+      let t = made_table (intersect_on (space_of s) (pairs_as pairs) (table_of m)) s (counts_as c) states arcs e' in
       let w = (Results.intersected (space_of s) (pairs_as pairs) (table_of m) t.automaton (sound_well_formed m i.sound) t.gave).well_formed in
       let same : m.tapes ≡ c.tapes =
       (sound_holds m i.sound).tapes ∙ sym (t.tapes ∙ Results.intersected_tapes (space_of s) (pairs_as pairs) (table_of m) t.automaton t.gave) in
@@ -85,7 +85,7 @@ module _ (m : Memory) (pairs : PairList) (room : Room) (forStates forArcs work :
       }
 
   -- dropping them ends the steps
-  pub keep_dropped : (t : TableAnswer) (c : Counts) (states arcs : List ℕ) (o : Made) → t ≡ Table c → made_of (tableAs t) states arcs ≡ step
+  pub keep_dropped : (t : TableAnswer) (c : Counts) (states arcs : List ℕ) (o : Made) → t ≡ Table c → made_of (table_as t) states arcs ≡ step
       → o ≡ drop_step (lent c states arcs) (seconds (tapes_of (pairs_as pairs))) (slices_of states arcs) → o ≡ and_then step next
   keep_dropped t c states arcs o q e z =
-      z ∙ sym (and_then_given (made_of (ok (countsAs c)) states arcs) next (countsAs c) refl) ∙ ap (λ (p : Made). and_then p next) (told t c states arcs step q e)
+      z ∙ sym (and_then_given (made_of (ok (counts_as c)) states arcs) next (counts_as c) refl) ∙ ap (λ (p : Made). and_then p next) (told t c states arcs step q e)

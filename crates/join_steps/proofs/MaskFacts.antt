@@ -42,11 +42,11 @@ module _ (l : List Pair) (used place i : ℕ) where
     here : later l used place i ≡ any (λ (p : automata.Pair). eqb p.second (suc place)) (automata.tapes_of (pair_as (get_or l i no_pair) ∷ drop (suc i) (map pair_as (take used l))))
     here = ap (λ (ps : List automata.TapePair). any (λ (p : automata.Pair). eqb p.second (suc place)) (automata.tapes_of ps)) (used_from l used i h k)
 
-    pub second-here : (get_or l i no_pair).second ≡ place + 1 → later l used place i ≡ true
-    second-here e = here ∙ rw (eq-eqb (get_or l i no_pair).second (suc place) (e ∙ add-one place))
+    pub second_here : (get_or l i no_pair).second ≡ place + 1 → later l used place i ≡ true
+    second_here e = here ∙ rw (eq-eqb (get_or l i no_pair).second (suc place) (e ∙ add-one place))
 
-    pub second-later : ((get_or l i no_pair).second ≡ place + 1 → ⊥) → later l used place (i + 1) ≡ later l used place i
-    second-later e = ap (later l used place) (add-one i) ∙ sym (here ∙ rw (ne_eqb (get_or l i no_pair).second (suc place) (λ q. e (q ∙ sym (add-one place)))))
+    pub second_later : ((get_or l i no_pair).second ≡ place + 1 → ⊥) → later l used place (i + 1) ≡ later l used place i
+    second_later e = ap (later l used place) (add-one i) ∙ sym (here ∙ rw (ne_eqb (get_or l i no_pair).second (suc place) (λ q. e (q ∙ sym (add-one place)))))
 
 -- ---- the bits
 

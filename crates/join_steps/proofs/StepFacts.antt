@@ -27,7 +27,7 @@ use Rattle.table.specs.declared.answer.Counts.{Counts}
 use Rattle.table.specs.declared.answer.TableAnswer.{TableAnswer}
 use Rattle.table.specs.declared.answer.TableAnswer.TheVariants.{Table, Refused}
 use Rattle.table.specs.declared.pair.PairList.{PairList}
-use Rattle.table.specs.Answers.{refusalNumber, countsAs, tableAs, lent}
+use Rattle.table.specs.Answers.{refusal_number, counts_as, table_as, lent}
 use Rattle.table.specs.Pairs.{pairs_as, Named}
 use Rattle.pairs.specs.Judgement.{Moved}
 use Rattle.intersect_room.specs.declared.room.Room.{Room}
@@ -45,9 +45,9 @@ limits_placed f (p ∷ ps) = ap (and (leb p.limit max_delay)) (limits_placed f p
 -- ---- the product
 
 -- it has all that it asks for
-pub product_ready : (a b : Memory) (pairs : PairList) (room : Room) (forProductStates forProductArcs forStates forArcs work : ℕ)
-    → Joinable a b pairs room forProductStates forProductArcs forStates forArcs work → Multipliable a b forProductStates forProductArcs work
-product_ready a b pairs room forProductStates forProductArcs forStates forArcs work x = record {
+pub product_ready : (a b : Memory) (pairs : PairList) (room : Room) (for_product_states for_product_arcs for_states for_arcs work : ℕ)
+    → Joinable a b pairs room for_product_states for_product_arcs for_states for_arcs work → Multipliable a b for_product_states for_product_arcs work
+product_ready a b pairs room for_product_states for_product_arcs for_states for_arcs work x = record {
   first = x.first;
   second = x.second;
   tapes_fit = x.narrow;
@@ -63,32 +63,32 @@ module _ (a b : Memory) (pairs : PairList) (p s : Slices) where
   product = product_step (table_of a) (table_of b) p
 
   -- a refusal ends them, and the result is as it was
-  pub product-refused : (t : TableAnswer) (why : Refusal) (states arcs : List ℕ) → t ≡ Refused why → made_of (tableAs t) states arcs ≡ product
-      → made_of (tableAs t) s.states s.arcs ≡ all_steps_lem
+  pub product-refused : (t : TableAnswer) (why : Refusal) (states arcs : List ℕ) → t ≡ Refused why → made_of (table_as t) states arcs ≡ product
+      → made_of (table_as t) s.states s.arcs ≡ all_steps_lem
   product-refused t why states arcs q e =
-      ap (λ (x : TableAnswer). made_of (tableAs x) s.states s.arcs) q ∙ sym (put_refused s (refusalNumber why))
-      ∙ sym (join-product-refused (table_of a) (table_of b) (pairs_as pairs) p s (refusalNumber why) (ap (λ (o : Made). o.answer) (sym e) ∙ ap tableAs q))
+      ap (λ (x : TableAnswer). made_of (table_as x) s.states s.arcs) q ∙ sym (put_refused s (refusal_number why))
+      ∙ sym (join-product-refused (table_of a) (table_of b) (pairs_as pairs) p s (refusal_number why) (ap (λ (o : Made). o.answer) (sym e) ∙ ap table_as q))
 
   -- else the other steps follow on what stands in the product's space
-  pub product-given : Sound a → (t : TableAnswer) (c : Counts) (states arcs : List ℕ) (r : PairList) (o : Made) → t ≡ Table c → made_of (tableAs t) states arcs ≡ product
+  pub product-given : Sound a → (t : TableAnswer) (c : Counts) (states arcs : List ℕ) (r : PairList) (o : Made) → t ≡ Table c → made_of (table_as t) states arcs ≡ product
       → Moved a.tapes pairs r → o ≡ and_then (intersect_step (lent c states arcs) (pairs_as r) s) (λ K left. drop_step K (seconds (tapes_of (pairs_as r))) left) → o ≡ all_steps_lem
   product-given h t c states arcs r o q e₀ v z =
-      let e : made_of (ok (countsAs c)) states arcs ≡ product = told t c states arcs product q e₀ in
+      let e : made_of (ok (counts_as c)) states arcs ≡ product = told t c states arcs product q e₀ in
       let kept : pairs_as r ≡ behind (table_of a).tapes (pairs_as pairs) =
       v.pairs ∙ ap (λ (n : ℕ). behind n (pairs_as pairs)) (sound_holds a h).tapes in
       z
       ∙ ap (λ (qs : List TapePair). and_then (intersect_step (lent c states arcs) qs s) (λ K left. drop_step K (seconds (tapes_of qs)) left)) kept
-      ∙ ap (λ (o : Made). and_then (intersect_step (lent_table (countsAs c) o.result) (behind (table_of a).tapes (pairs_as pairs)) s)
+      ∙ ap (λ (o : Made). and_then (intersect_step (lent_table (counts_as c) o.result) (behind (table_of a).tapes (pairs_as pairs)) s)
       (λ K left. drop_step K (seconds (tapes_of (behind (table_of a).tapes (pairs_as pairs)))) left)) e
-      ∙ sym (join-product-given (table_of a) (table_of b) (pairs_as pairs) p s (countsAs c) (ap (λ (o : Made). o.answer) (sym e)))
+      ∙ sym (join-product-given (table_of a) (table_of b) (pairs_as pairs) p s (counts_as c) (ap (λ (o : Made). o.answer) (sym e)))
 
   -- what stands there is a table that can be kept on the moved pairs
   pub product_keepable : (room : Room) (work size : ℕ) → Joinable a b pairs room (length p.states) (length p.arcs) (length s.states) (length s.arcs) work → size ≡ work
-      → (t : TableAnswer) (c : Counts) (states arcs : List ℕ) (r : PairList) → t ≡ Table c → made_of (tableAs t) states arcs ≡ product
+      → (t : TableAnswer) (c : Counts) (states arcs : List ℕ) (r : PairList) → t ≡ Table c → made_of (table_as t) states arcs ≡ product
       → Moved a.tapes pairs r → length r.pairs ≡ 4 → Keepable (lent c states arcs) r room (length s.states) (length s.arcs) size
   unfolding product_step
   product_keepable room work size x long t₀ c states arcs r q e v four =
-      let t = made_table (cross_product ℕ_sum weight_fits (space_of p) (table_of a) (table_of b)) p (countsAs c) states arcs (told t₀ c states arcs product q e) in
+      let t = made_table (cross_product ℕ_sum weight_fits (space_of p) (table_of a) (table_of b)) p (counts_as c) states arcs (told t₀ c states arcs product q e) in
       let n = (sound_holds a x.first).tapes in
       let m = (sound_holds b x.second).tapes in
       let made = Results.crossed (space_of p) (table_of a) (table_of b) t.automaton (sound_well_formed a x.first) (sound_well_formed b x.second)

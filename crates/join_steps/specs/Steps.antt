@@ -21,18 +21,18 @@ pub record SecondsDroppable (m : Memory) (pairs : PairList) : Type 0 where
   pub left : 1 ≤ place_after (seconds (tapes_of (pairs_as pairs))) m.tapes
 
 -- a table that can be kept on these pairs, and its second tapes dropped then
-pub record Keepable (m : Memory) (pairs : PairList) (room : Room) (forStates forArcs work : ℕ) : Type 0 where
-  pub keeps : Intersectable m pairs room forStates forArcs work
+pub record Keepable (m : Memory) (pairs : PairList) (room : Room) (for_states for_arcs work : ℕ) : Type 0 where
+  pub keeps : Intersectable m pairs room for_states for_arcs work
   pub left : 1 ≤ place_after (seconds (tapes_of (pairs_as pairs))) m.tapes
 
 -- two tables, pairs of a tape of the first and one of the second with limits in range, and work space for a product
 -- and, divided, for a result in slices of so many bytes
-pub record Joinable (a b : Memory) (pairs : PairList) (room : Room) (forProductStates forProductArcs forStates forArcs work : ℕ) : Type 0 where
+pub record Joinable (a b : Memory) (pairs : PairList) (room : Room) (for_product_states for_product_arcs for_states for_arcs work : ℕ) : Type 0 where
   pub first : Sound a
   pub second : Sound b
   pub narrow : a.tapes + b.tapes ≤ max_tapes
   pub sided : Sided a.tapes b.tapes pairs
   pub inside : T (within a.tapes b.tapes (tapes_of (pairs_as pairs)))
   pub within_limits : limits_fit (pairs_as pairs) ≡ true
-  pub work_fits : product_work (lent_space (forProductStates / state_size) (forProductArcs / arc_size)) ≤ work
-  pub divides : Divides (forStates / state_size) (forArcs / arc_size) (forProductStates / state_size) work room
+  pub work_fits : product_work (lent_space (for_product_states / state_size) (for_product_arcs / arc_size)) ≤ work
+  pub divides : Divides (for_states / state_size) (for_arcs / arc_size) (for_product_states / state_size) work room

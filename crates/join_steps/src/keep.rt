@@ -5,7 +5,7 @@ ghost use Rattle.automata.specs.TapePair.{tapes_of};
 ghost use Rattle.automata.specs.Tapes.{seconds};
 ghost use Rattle.automata.specs.Calls.Outcome.{made_of, slices_of, and_then};
 ghost use Rattle.automata.specs.Calls.JoinSteps.{intersect_step, drop_step};
-ghost use Rattle.table.specs.Answers.{lent, countsAs, tableAs};
+ghost use Rattle.table.specs.Answers.{lent, counts_as, table_as};
 ghost use Rattle.table.specs.Pairs.{pairs_as};
 ghost use Rattle.join_steps.specs.Steps.{SecondsDroppable, Keepable};
 
@@ -19,7 +19,7 @@ use tapes::drop::drop_in_place;
 // The table in `states` and `arcs` without the second tapes of the pairs, where it stands.
 fn drop_seconds(counts: Counts, pairs: PairList, states: &[u8], arcs: &mut [u8]) -> Counts
     requires { SecondsDroppable (lent counts states.now arcs.old) pairs }
-    ensures { made_of (ok (countsAs result)) states.now arcs.new
+    ensures { made_of (ok (counts_as result)) states.now arcs.new
         ≡ drop_step (lent counts states.now arcs.old) (seconds (tapes_of (pairs_as pairs)))
         (slices_of states.now arcs.old) }
 {
@@ -38,7 +38,7 @@ pub fn keep_firsts(
 ) -> TableAnswer
     requires { Keepable (lent plan.counts states.now arcs.now) plan.pairs plan.room
         (length out_states.old) (length out_arcs.old) (length work.old) }
-    ensures { made_of (tableAs result) out_states.new out_arcs.new
+    ensures { made_of (table_as result) out_states.new out_arcs.new
         ≡ and_then (intersect_step (lent plan.counts states.now arcs.now) (pairs_as plan.pairs)
         (slices_of out_states.old out_arcs.old))
         (λ K left. drop_step K (seconds (tapes_of (pairs_as plan.pairs))) left) }

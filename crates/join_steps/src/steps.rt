@@ -4,7 +4,7 @@ ghost use Rattle.std.specs.Prelude.{◌≡◌, length};
 ghost use Rattle.automata.specs.Memory.{table_of};
 ghost use Rattle.automata.specs.Calls.Outcome.{made_of, slices_of};
 ghost use Rattle.automata.specs.Calls.JoinSteps.{join_by_calls};
-ghost use Rattle.table.specs.Answers.{lent, tableAs};
+ghost use Rattle.table.specs.Answers.{lent, table_as};
 ghost use Rattle.table.specs.Pairs.{pairs_as};
 ghost use Rattle.join_steps.specs.Steps.{Joinable};
 
@@ -36,7 +36,7 @@ pub fn join_steps(
     requires { Joinable (lent first first_states.now first_arcs.now)
         (lent second second_states.now second_arcs.now) pairs room (length product_states.old)
         (length product_arcs.old) (length out_states.old) (length out_arcs.old) (length work.old) }
-    ensures { made_of (tableAs result) out_states.new out_arcs.new
+    ensures { made_of (table_as result) out_states.new out_arcs.new
         ≡ join_by_calls (table_of (lent first first_states.now first_arcs.now))
         (table_of (lent second second_states.now second_arcs.now)) (pairs_as pairs)
         (slices_of product_states.old product_arcs.old)

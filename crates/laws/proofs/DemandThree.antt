@@ -40,11 +40,11 @@ use Rattle.automata.proofs.SoundFacts.{table_of_is}
 use Rattle.automata.proofs.PathFacts.{weighs_length}
 use Rattle.automata.proofs.ReadingFacts.{chosen_alike}
 use Rattle.laws.proofs.CallTrees.{calls_again}
-use Rattle.laws.proofs.Lemmas.JoinAlgebra.{join-met, join-met-written, SameLeast, least_refl, exchange, in-parts₁, in-parts₂, in-steps}
-use Rattle.laws.proofs.Lemmas.ProjectionPaths.{projected-weighs}
+use Rattle.laws.proofs.Lemmas.JoinAlgebra.{join-met, join-met-written, SameLeast, least_refl, exchange, in_parts₁, in_parts₂, in_steps}
+use Rattle.laws.proofs.Lemmas.ProjectionPaths.{projected_weighs}
 use Rattle.laws.proofs.Lemmas.ReadWeights.{read_alike, read_either}
-use Rattle.laws.proofs.Lemmas.Weights.{Level, level_of, level_trans, level-weight, weight-level, level-lesser}
-use Rattle.laws.proofs.Lemmas.SharedPairs.{width-shared}
+use Rattle.laws.proofs.Lemmas.Weights.{Level, level_of, level-trans, level-weight, weight-level, level-lesser}
+use Rattle.laws.proofs.Lemmas.SharedPairs.{width_shared}
 use Rattle.laws.proofs.Lemmas.ExchangedTapes.{exchanged-width, exchanged_back}
 use Rattle.laws.proofs.Lemmas.TreeTables.{table_is, JoinedTrees, joined_trees, joined_gave, united_trees, united_gave, chosen_tree, chosen_gave, kept_trees, kept_gave}
 
@@ -97,7 +97,7 @@ module _ (l l₁ : JoinLent) (ps ps₁ : List TapePair) (a a₁ b b₁ : Calls) 
       ∙ (λ i. hb.tapes i + place_after (seconds (turned qs)) (ha.tapes i)) ∙ sym k.join.tapes in
       let weighs : (t : Tuple) (w : ℕ) → W R t w ↔ ((s : Tuple) × (chosen order s ≡ t) × W J s w) =
       λ t w. subst (λ (R : Automaton ℕ). W R t w ↔ ((s : Tuple) × (chosen order s ≡ t) × W J s w)) c.chooses
-      (projected-weighs ℕ_sum J c.formed order t w) in
+      (projected_weighs ℕ_sum J c.formed order t w) in
       record {
         tapes = sym (ap (λ (R : Automaton ℕ). R.tapes) c.chooses) ∙ width;
         weights = λ t. level-weight ℕ_sum R t K t (
@@ -128,7 +128,7 @@ module _ (s : Slices) (l l₁ l₂ : JoinLent) (ps ps₁ ps₂ : List TapePair) 
       let j₁ = joined_trees l₁ ps₁ (tapes_of ps) x₁ a₁ b₁ g₁ in
       let j₂ = joined_trees l₂ ps₂ (tapes_of ps) x₂ c₂ b₂ g₂ in
       let u = united_trees a c s (joined_gave l ps (uniting a c s) b g).0 in
-      in-parts₁ ℕ_sum (tapes_of ps) (table a) (table a₁) (table c) (table c₂) (table (uniting a c s)) (table b) (table b₁) (table b₂) u.weighs
+      in_parts₁ ℕ_sum (tapes_of ps) (table a) (table a₁) (table c) (table c₂) (table (uniting a c s)) (table b) (table b₁) (table b₂) u.weighs
       (alike a a₁ u.first j₁.first ha) (alike c c₂ u.second j₂.first hc) (alike b b₁ j.second j₁.second hb₁) (alike b b₂ j.second j₂.second hb₂)
       (table (joining l ps (uniting a c s) b)) (table (joining l₁ ps₁ a₁ b₁)) (table (joining l₂ ps₂ c₂ b₂)) t j.join j₁.join j₂.join
 
@@ -139,7 +139,7 @@ module _ (s : Slices) (l l₁ l₂ : JoinLent) (ps ps₁ ps₂ : List TapePair) 
       let j₁ = joined_trees l₁ ps₁ (tapes_of ps) x₁ b₁ a₁ g₁ in
       let j₂ = joined_trees l₂ ps₂ (tapes_of ps) x₂ b₂ c₂ g₂ in
       let u = united_trees a c s (joined_gave l ps b (uniting a c s) g).1 in
-      in-parts₂ ℕ_sum (tapes_of ps) (table a) (table a₁) (table c) (table c₂) (table (uniting a c s)) (table b) (table b₁) (table b₂) u.weighs
+      in_parts₂ ℕ_sum (tapes_of ps) (table a) (table a₁) (table c) (table c₂) (table (uniting a c s)) (table b) (table b₁) (table b₂) u.weighs
       (alike a a₁ u.first j₁.second ha) (alike c c₂ u.second j₂.second hc) (alike b b₁ j.first j₁.first hb₁) (alike b b₂ j.first j₂.first hb₂)
       (table (joining l ps b (uniting a c s))) (table (joining l₁ ps₁ b₁ a₁)) (table (joining l₂ ps₂ b₂ c₂)) t j.join j₁.join j₂.join
 
@@ -157,7 +157,7 @@ by_union c d e s g n h =
       tapes = n ∙ sym u.tapes;
       weights = λ t.
           let X : ℕ → Type 0 = λ w. WR (table d) t w ⊎ WR (table e) t w in
-          level-weight ℕ_sum (table c) t U t (level_trans ℕ_sum (WR (table c) t) X (WR U t) (h t) (level_of ℕ_sum X (WR U t) (λ w. Iff.symm (read_either ℕ_sum (W U) (W (table d)) (W (table e)) u.weighs t w))));
+          level-weight ℕ_sum (table c) t U t (level-trans ℕ_sum (WR (table c) t) X (WR U t) (h t) (level_of ℕ_sum X (WR U t) (λ w. Iff.symm (read_either ℕ_sum (W U) (W (table d)) (W (table e)) u.weighs t w))));
     }
 
 -- joins of tables with as many tapes have as many
@@ -183,10 +183,10 @@ by_steps l l₁ s s₁ work ps first later a a₁ b b₁ h ha hb g g₁ =
     subst (λ m. T (within n m all)) hb.tapes (subst (λ n. T (within n (table b).tapes all)) ha.tapes j.join.in_range) in
     let tapes : J.tapes ≡ n + place_after (seconds all) (table b₁).tapes = j.join.tapes ∙ (λ i. ha.tapes i + place_after (seconds all) (hb.tapes i)) in
     record {
-      tapes = tapes ∙ sym (width-shared all (tapes_of first) later h n (table b₁).tapes in-range j.join.distinct_seconds)
+      tapes = tapes ∙ sym (width_shared all (tapes_of first) later h n (table b₁).tapes in-range j.join.distinct_seconds)
           ∙ ap (place_after set) (sym (k.keeps.tapes ∙ j₁.join.tapes)) ∙ ap (λ (R : Automaton ℕ). R.tapes) k.drops;
       weights = λ t. subst (λ (R : Automaton ℕ). SameWeight ℕ_sum J t R t) k.drops (level-weight ℕ_sum J t (without set k.kept) t
-          (in-steps ℕ_sum all (tapes_of first) later h (table a) (table a₁) (table b) (table b₁) J (table (joining l₁ first a₁ b₁)) k.kept j.join j₁.join
+          (in_steps ℕ_sum all (tapes_of first) later h (table a) (table a₁) (table b) (table b₁) J (table (joining l₁ first a₁ b₁)) k.kept j.join j₁.join
           ha.tapes (alike a a₁ j.first j₁.first ha) (alike b b₁ j.second j₁.second hb) k.keeps t));
     }
 

@@ -17,7 +17,7 @@ use Rattle.automata.specs.Lookup.{lookup}
 use Rattle.automata.specs.LeastPath.{FirstLeast, Account, least_path}
 use Rattle.automata.proofs.ListFacts.{none_not_some}
 use Rattle.automata.proofs.LookupRuns.{onward, onward-sum}
-use Rattle.automata.proofs.TupleWeight.{run_sum, spells-tuple}
+use Rattle.automata.proofs.TupleWeight.{run_sum, spells_tuple}
 use Rattle.automata.proofs.TraceOrderFacts.{before_asym}
 use Rattle.automata.proofs.LeastPathStarts.{Starts, Behind, least_path-cases}
 use Rattle.laws.specs.LeastPath.{Tells, LeastPaths}
@@ -54,7 +54,7 @@ module _ (S : OrderedSum) (A : Automaton S.W) (formed : Formed A) (t : Tuple) (w
     refl,
     ap (λ z. s.initial ⊕ (z ⊕ s.run.final)) (sym (run_sum S A formed s.run.arcs))
         ∙ ap (◌⊕◌ s.initial) (sym (onward-sum S A s.run.arcs s.run.final) ∙ sym s.run.weight) ∙ sym s.sum,
-    (spells-tuple S A formed t width s.run.walk).0 s.run.spells,
+    (spells_tuple S A formed t width s.run.walk).0 s.run.spells,
   )
 
   path-starts : (π : SuccessfulPath A) → tuple π ≡ t → Starts S A formed.within t π.start π.run (weight S π)
@@ -68,7 +68,7 @@ module _ (S : OrderedSum) (A : Automaton S.W) (formed : Formed A) (t : Tuple) (w
       final = π.final;
       walk = π.successful.walk;
       ends = π.successful.ends;
-      spells = (spells-tuple S A formed t width π.successful.walk).1 e;
+      spells = (spells_tuple S A formed t width π.successful.walk).1 e;
       weight = refl;
     };
     sum = ap (◌⊕◌ π.initial) (ap (λ z. z ⊕ π.final) (sym (run_sum S A formed π.arcs)) ∙ sym (onward-sum S A π.arcs π.final));

@@ -107,10 +107,10 @@ table-listed m = fine_bind (require (counts_fit m.tapes m.states m.arcs) 3) _ (f
     (λ t. fine_bind (read_all state_record m.states m.state_bytes) _ (fine_all state_record fine_state_record m.states m.state_bytes)
     (λ states. fine_bind (read_all (arc_record m.tapes m.states) m.arcs m.arc_bytes) _
     (fine_all (arc_record m.tapes m.states) (fine_arc_record m.tapes m.states) m.arcs m.arc_bytes)
-    (λ arcs. fine-given (record { tapes = m.tapes; states = states; arcs = arcs }))))
+    (λ arcs. fine_given (record { tapes = m.tapes; states = states; arcs = arcs }))))
   where
-    fine-given : (A : Automaton ℕ) → Fine (ok A)
-    fine-given A n e = let z : ◌≡◌ {A = ℕ} 0 1 = cc in absurd (omega arith)
+    fine_given : (A : Automaton ℕ) → Fine (ok A)
+    fine_given A n e = let z : ◌≡◌ {A = ℕ} 0 1 = cc in absurd (omega arith)
 
 -- a text
 text-listed : (space : Space) (x : List ℕ) (n : ℕ) → ReadRefused space x n → OfTable n ⊎ ((n ≡ 8) ⊎ (n ≡ 9))

@@ -32,8 +32,8 @@ use Rattle.laws.specs.OrderCases.{room, branching, one_apart, reached_states, br
 use Rattle.laws.proofs.Results.{memory_formed}
 use Rattle.laws.proofs.Order.{tables_in_order}
 use Rattle.laws.proofs.Lemmas.OrderFacts.{ordered_unique}
-use Rattle.laws.proofs.Lemmas.IntersectionOrder.{found-ordered}
-use Rattle.laws.proofs.Lemmas.ProductOrder.{states-ordered}
+use Rattle.laws.proofs.Lemmas.IntersectionOrder.{found_ordered}
+use Rattle.laws.proofs.Lemmas.ProductOrder.{states_ordered}
 
 -- the claim on automata
 orders : TablesInOrder ℕ_sum weight_fits
@@ -77,7 +77,7 @@ found_undelayed = refl
 pub branching-only : (cs : List Config) → Ordered (config_graph branching one_apart) cs → map (λ (c : Config). c.state) cs ≡ reached_states
 branching-only cs o =
     ap (map (λ (c : Config). c.state)) (ordered_unique (config_graph branching one_apart) cs found o
-    (found-ordered branching one_apart (viable (closing_tables branching one_apart)) (viable_decides branching branching_formed one_apart) 64 found_few found_undelayed))
+    (found_ordered branching one_apart (viable (closing_tables branching one_apart)) (viable_decides branching branching_formed one_apart) 64 found_few found_undelayed))
     ∙ branching-reached
 
 -- what the wrong searches find ...
@@ -118,7 +118,7 @@ product_few = let l : length (product_states ℕ_sum 64 left right) ≡ 8 = refl
 
 -- every numbering of its states that is in order is this one
 pub product-only : (cs : List Vertex) → Ordered (product_graph ℕ_sum left right) cs → cs ≡ product_vertices
-product-only cs o = ordered_unique (product_graph ℕ_sum left right) cs (product_states ℕ_sum 64 left right) o (states-ordered ℕ_sum left right 64 product_few) ∙ product-reached
+product-only cs o = ordered_unique (product_graph ℕ_sum left right) cs (product_states ℕ_sum 64 left right) o (states_ordered ℕ_sum left right 64 product_few) ∙ product-reached
 
 -- what the wrong searches find ...
 pub product_wrong : wrong_products ≡ wrong_vertices

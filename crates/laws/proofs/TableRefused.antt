@@ -37,8 +37,8 @@ use Rattle.laws.specs.TableRefused.{
 use borrow.Author.Tests.{leb-true, leb-false, le-leb, lt-leb}
 use Rattle.automata.proofs.TestFacts
 use Rattle.automata.proofs.AnswerFacts.{refused≢ok, then_refuses}
-use Rattle.automata.proofs.TableFacts.{countsFit→Counts, Counts→countsFit}
-use Rattle.laws.proofs.Lemmas.Judging.{bind-cases, then_on, require-cases, require_refuses, require_goes_on}
+use Rattle.automata.proofs.TableFacts.{counts_fit→Counts, Counts→counts_fit}
+use Rattle.laws.proofs.Lemmas.Judging.{bind-cases, then_on, require-cases, require_refuses, require-goes_on}
 
 -- ---- one line or record, and several
 
@@ -58,7 +58,7 @@ module _ {B A : Type 0} (f : Format B A) where
 
       answer : (k : ℕ) → FirstRefused f x k → read_first f x ≡ refused k
       answer _ (first_short h) = require_refuses (leb f.width (length x)) 1 (behind x) (lt-leb f.width (length x) h)
-      answer _ (first_unread h k e) = require_goes_on (leb f.width (length x)) 1 (behind x) k (le-leb f.width (length x) h)
+      answer _ (first_unread h k e) = require-goes_on (leb f.width (length x)) 1 (behind x) k (le-leb f.width (length x) h)
           (then_refuses (f.read (take f.width x)) (λ a. ok (a, drop f.width x)) k e)
 
   -- those behind a first that reads
@@ -131,15 +131,15 @@ module _ (space : Space) (x : List ℕ) where
       fitting : (c : ℕ × (ℕ × ℕ)) (y : List ℕ) → HeaderFits space x c y → (k : ℕ) → lines_of c y ≡ refused k
           → read_table space.states space.arcs x ≡ refused k
       fitting c y f k e = then_on (read_first header_line x) _ (c, y) k f.header
-          (require_goes_on (leb c.1.0 space.states) 8 _ k (le-leb c.1.0 space.states f.states)
-          (require_goes_on (leb c.1.1 space.arcs) 9 _ k (le-leb c.1.1 space.arcs f.arcs) e))
+          (require-goes_on (leb c.1.0 space.states) 8 _ k (le-leb c.1.0 space.states f.states)
+          (require-goes_on (leb c.1.1 space.arcs) 9 _ k (le-leb c.1.1 space.arcs f.arcs) e))
 
       answer : (k : ℕ) → ReadRefused space x k → read_table space.states space.arcs x ≡ refused k
       answer _ (read_header_lem k h) = then_refuses (read_first header_line x) _ k ((first-refused header_line x k).1 h)
       answer _ (read_states c y q h) = then_on (read_first header_line x) _ (c, y) _ q
           (require_refuses (leb c.1.0 space.states) 8 _ (lt-leb c.1.0 space.states h))
       answer _ (read_arcs c y q h l) = then_on (read_first header_line x) _ (c, y) _ q
-          (require_goes_on (leb c.1.0 space.states) 8 _ _ (le-leb c.1.0 space.states h)
+          (require-goes_on (leb c.1.0 space.states) 8 _ _ (le-leb c.1.0 space.states h)
           (require_refuses (leb c.1.1 space.arcs) 9 _ (lt-leb c.1.1 space.arcs l)))
       answer _ (read_state-line c y f k h) = fitting c y f k
           (then_refuses (read_many state_line c.1.0 y) _ k ((many_refused state_line c.1.0 y k).1 h))
@@ -162,9 +162,9 @@ table-refused m n = (why, answer n)
     why : decode_table m ≡ refused n → TableRefused m n
     why e = ⊎_elim
         (λ (t, z). subst (TableRefused m) z (table_counts (λ c. TestFacts.false_not_true t
-        (TestFacts.T_true (counts_fit m.tapes m.states m.arcs) (Counts→countsFit m.tapes m.states m.arcs c)))))
+        (TestFacts.T_true (counts_fit m.tapes m.states m.arcs) (Counts→counts_fit m.tapes m.states m.arcs c)))))
         (λ (t, e).
-        let c = countsFit→Counts m.tapes m.states m.arcs (TestFacts.true_T (counts_fit m.tapes m.states m.arcs) t) in
+        let c = counts_fit→Counts m.tapes m.states m.arcs (TestFacts.true_T (counts_fit m.tapes m.states m.arcs) t) in
         ⊎_elim (λ y. table-state c n ((all-refused state_record m.states m.state_bytes n).0 y))
         (λ (ss, q, e). table-arc c ss q n ((all-refused line m.arcs m.arc_bytes n).0
         (⊎_elim (λ y. y) (λ (_, _, q). absurd (refused≢ok (sym q))) (bind-cases (read_all line m.arcs m.arc_bytes) _ n e))))
@@ -172,13 +172,13 @@ table-refused m n = (why, answer n)
         (require-cases (counts_fit m.tapes m.states m.arcs) 3 _ n e)
 
     passed : Counts m.tapes m.states m.arcs → counts_fit m.tapes m.states m.arcs ≡ true
-    passed c = TestFacts.T_true (counts_fit m.tapes m.states m.arcs) (Counts→countsFit m.tapes m.states m.arcs c)
+    passed c = TestFacts.T_true (counts_fit m.tapes m.states m.arcs) (Counts→counts_fit m.tapes m.states m.arcs c)
 
     answer : (k : ℕ) → TableRefused m k → decode_table m ≡ refused k
     answer _ (table_counts h) = require_refuses (counts_fit m.tapes m.states m.arcs) 3 _
-        (TestFacts.T_false (counts_fit m.tapes m.states m.arcs) (λ t. h (countsFit→Counts m.tapes m.states m.arcs t)))
-    answer _ (table-state c k h) = require_goes_on (counts_fit m.tapes m.states m.arcs) 3 _ k (passed c)
+        (TestFacts.T_false (counts_fit m.tapes m.states m.arcs) (λ t. h (counts_fit→Counts m.tapes m.states m.arcs t)))
+    answer _ (table-state c k h) = require-goes_on (counts_fit m.tapes m.states m.arcs) 3 _ k (passed c)
         (then_refuses (read_all state_record m.states m.state_bytes) _ k ((all-refused state_record m.states m.state_bytes k).1 h))
-    answer _ (table-arc c ss q k h) = require_goes_on (counts_fit m.tapes m.states m.arcs) 3 _ k (passed c)
+    answer _ (table-arc c ss q k h) = require-goes_on (counts_fit m.tapes m.states m.arcs) 3 _ k (passed c)
         (then_on (read_all state_record m.states m.state_bytes) _ ss k q
         (then_refuses (read_all line m.arcs m.arc_bytes) _ k ((all-refused line m.arcs m.arc_bytes k).1 h)))

@@ -71,14 +71,14 @@ lookup-refused text work A n = (why, answer n)
     after : Tuple → Answer (Option ℕ)
     after t = judged_tuple A.tapes t (found t)
 
-    of-tuple : (t : Tuple) → lines text ≡ ok t → (k : ℕ) → TupleRefused A.tapes t k → LookupRefused text work A k
-    of-tuple t l _ (tuple_count x) = lookup_count t l x
-    of-tuple t l _ (tuple-size c x) = lookup-size t l c x
-    of-tuple t l _ (tuple-form c s x) = lookup-form t l c s x
+    of_tuple : (t : Tuple) → lines text ≡ ok t → (k : ℕ) → TupleRefused A.tapes t k → LookupRefused text work A k
+    of_tuple t l _ (tuple_count x) = lookup_count t l x
+    of_tuple t l _ (tuple-size c x) = lookup-size t l c x
+    of_tuple t l _ (tuple-form c s x) = lookup-form t l c s x
 
     why : (lines text >>= after) ≡ refused n → LookupRefused text work A n
     why e = ⊎_elim (λ x. lookup-text n x)
-        (λ (t, l, e). ⊎_elim (of-tuple t l n)
+        (λ (t, l, e). ⊎_elim (of_tuple t l n)
         (λ (g, e). ⊎_elim
         (λ (x, z). subst (LookupRefused text work A) z (lookup_work_lem t l g.width g.short g.symbols (leb-false (lookup_work (size A) t) (length work) x)))
         (λ (_, e). absurd (refused≢ok (sym e)))
@@ -136,26 +136,26 @@ path-refused text room list work A wf n = (why, answer n)
     after : Tuple → Answer (Option (Account ℕ))
     after t = judged_tuple A.tapes t (found t)
 
-    of-tuple : (t : Tuple) → lines text ≡ ok t → (k : ℕ) → TupleRefused A.tapes t k → PathRefused text room list work A k
-    of-tuple t l _ (tuple_count x) = path_count t l x
-    of-tuple t l _ (tuple-size c x) = path-size t l c x
-    of-tuple t l _ (tuple-form c s x) = path-form t l c s x
+    of_tuple : (t : Tuple) → lines text ≡ ok t → (k : ℕ) → TupleRefused A.tapes t k → PathRefused text room list work A k
+    of_tuple t l _ (tuple_count x) = path_count t l x
+    of_tuple t l _ (tuple-size c x) = path-size t l c x
+    of_tuple t l _ (tuple-form c s x) = path-form t l c s x
 
-    asks-space : (t : Tuple) → Asks (space t) ((room ≡ true) × (path_work (size A) t ≤ length work))
-    asks-space t = asks_and room (enough (path_work (size A) t) work) (λ e. e, λ e. e) (asks_leb (path_work (size A) t) (length work))
+    asks_space : (t : Tuple) → Asks (space t) ((room ≡ true) × (path_work (size A) t ≤ length work))
+    asks_space t = asks_and room (enough (path_work (size A) t) work) (λ e. e, λ e. e) (asks_leb (path_work (size A) t) (length work))
 
     lacking : (t : Tuple) → ¬ ((room ≡ true) × (path_work (size A) t ≤ length work)) → (room ≡ false) ⊎ (length work < path_work (size A) t)
     lacking t short = ⊎_elim (λ r. ⊎_elim inr (λ w. absurd (short (r, w))) (over-or-within (path_work (size A) t) (length work))) inl (TestFacts.decide room)
 
     why : (lines text >>= after) ≡ refused n → PathRefused text room list work A n
     why e = ⊎_elim (λ x. path-text n x)
-        (λ (t, l, e). ⊎_elim (of-tuple t l n)
+        (λ (t, l, e). ⊎_elim (of_tuple t l n)
         (λ (g, e). ⊎_elim
         (λ (x, z). subst (PathRefused text room list work A) z (path-space t l g.width g.short g.symbols (lacking t x)))
         (λ ((r, w), e).
         let (z, π, f, h) = (list_refused A wf t g.width (places_in list) n).0 e in
         subst (PathRefused text room list work A) z (path_list t l g.width g.short g.symbols r w π f h))
-        (judge_asks (space t) (asks-space t) _ _ n e))
+        (judge_asks (space t) (asks_space t) _ _ n e))
         (tuple-refused A.tapes t (found t) n e))
         (bind-cases (lines text) after n e)
 
@@ -171,8 +171,8 @@ path-refused text room list work A wf n = (why, answer n)
     answer _ (path-size t l c x) = refuses t l _ (tuple-size c x)
     answer _ (path-form t l c s x) = refuses t l _ (tuple-form c s x)
     answer _ (path-space t l c s b (inl x)) = goes_on t l (record { width = c; short = s; symbols = b }) _
-        (judge_stops (space t) (asks-space t) _ _ (λ (r, _). TestFacts.false_not_true x r))
+        (judge_stops (space t) (asks_space t) _ _ (λ (r, _). TestFacts.false_not_true x r))
     answer _ (path-space t l c s b (inr x)) = goes_on t l (record { width = c; short = s; symbols = b }) _
-        (judge_stops (space t) (asks-space t) _ _ (λ (_, w). omega arith))
+        (judge_stops (space t) (asks_space t) _ _ (λ (_, w). omega arith))
     answer _ (path_list t l c s b r w π f h) = goes_on t l (record { width = c; short = s; symbols = b }) _
-        (judge_passes (space t) (asks-space t) _ _ _ (r, w) ((list_refused A wf t c (places_in list) _).1 (refl, π, f, h)))
+        (judge_passes (space t) (asks_space t) _ _ _ (r, w) ((list_refused A wf t c (places_in list) _).1 (refl, π, f, h)))

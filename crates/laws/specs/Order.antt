@@ -84,7 +84,7 @@ module _ {C : Type 0} (G : KeyedGraph C) (cs : List C) where
     -- the first arrival at each, by number
     pub arrivals : List Arrival
     pub one_each : length arrivals ≡ length cs
-    pub first_reached : (k : ℕ) (x : Arrival) (c : C) → get_elem? arrivals k ≡ some x → get_elem? cs k ≡ some c → FirstReached k x c
+    pub first-reached : (k : ℕ) (x : Arrival) (c : C) → get_elem? arrivals k ≡ some x → get_elem? cs k ≡ some c → FirstReached k x c
     -- the higher number was reached later
     pub increasing : (k l : ℕ) (x y : Arrival) → get_elem? arrivals k ≡ some x → get_elem? arrivals l ≡ some y → k < l → x ⊏ y
 
@@ -100,14 +100,14 @@ module _ {W : Type 0} where
   -- The states of a table, by number, and its arcs; the keys of its states and of its arcs are given by their numbers.
   -- The states with an initial weight start.
   abbrev pub table_graph : Automaton W → (ℕ → Key) → (ℕ → Key) → KeyedGraph ℕ
-  table_graph A stateKey arc_key = record {
-    Starts = λ s k. (i : W) × (initial_of A k ≡ some i) × (stateKey k ≡ s);
+  table_graph A state_key arc_key = record {
+    Starts = λ s k. (i : W) × (initial_of A k ≡ some i) × (state_key k ≡ s);
     Steps = λ j e k. (m : ℕ) × (a : Arc W) × (get_elem? A.arcs m ≡ some a) × (a.source ≡ j) × (a.target ≡ k) × (arc_key m ≡ e);
   }
 
   -- The states stand in the order first reached; the arcs stand by source state, then by key.
-  pub record OrderedTable (A : Automaton W) (stateKey arc_key : ℕ → Key) : Type 0 where
-    pub states : Ordered (table_graph A stateKey arc_key) (range zero (size A))
+  pub record OrderedTable (A : Automaton W) (state_key arc_key : ℕ → Key) : Type 0 where
+    pub states : Ordered (table_graph A state_key arc_key) (range zero (size A))
     pub arcs : (m n : ℕ) (a b : Arc W) → get_elem? A.arcs m ≡ some a → get_elem? A.arcs n ≡ some b → m < n
         → step a.source (arc_key m) ⊏ step b.source (arc_key n)
 

@@ -13,7 +13,7 @@ use Rattle.automata.specs.Closing.{closing_tables, viable}
 use Rattle.automata.specs.Explore.{insert_all, successors, reached}
 use Rattle.automata.specs.Intersect.{starts, out}
 use Rattle.automata.specs.System.{system, out_at, final_at}
-use Rattle.automata.specs.Product.{Vertex, same_vertex, allBoth, allAfterFirst, allAfterSecond, all_pairs, product_system}
+use Rattle.automata.specs.Product.{Vertex, same_vertex, all_both, all_after_first, all_after_second, all_pairs, product_system}
 use Rattle.automata.specs.Cases.{first, between, last, arc, empty, A, B, X, Y, Z, tape_pair}
 
 -- room for every case
@@ -91,7 +91,7 @@ abbrev pub exchanged_moves : Vertex → List (Content ℕ × Vertex)
 exchanged_moves c =
     let xs = out_at ℕ_sum (system left) c.0 in
     let ys = out_at ℕ_sum (system right) c.1 in
-    allBoth ℕ_sum xs ys ++ (allAfterSecond ℕ_sum 1 (final_at ℕ_sum (system right) c.1) xs ++ allAfterFirst ℕ_sum 1 (final_at ℕ_sum (system left) c.0) ys)
+    all_both ℕ_sum xs ys ++ (all_after_second ℕ_sum 1 (final_at ℕ_sum (system right) c.1) xs ++ all_after_first ℕ_sum 1 (final_at ℕ_sum (system left) c.0) ys)
 
 -- what wrong searches find: initial pairs by the second table's state first, the moves after ends exchanged, and the
 -- moves out of a state backwards

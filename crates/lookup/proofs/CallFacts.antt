@@ -19,15 +19,15 @@ use Rattle.automata.specs.Calls.Lookup.{lookup_answer, lookup_outcome}
 use Rattle.table.specs.declared.answer.Refusal.{Refusal}
 use Rattle.table.specs.declared.answer.Judged.{Judged}
 use Rattle.table.specs.declared.answer.Judged.TheVariants.{Refused}
-use Rattle.table.specs.Answers.{judgedAs}
+use Rattle.table.specs.Answers.{judged_as}
 use Rattle.lookup_tuple.specs.declared.Strings.{Strings}
 use Rattle.lookup_tuple.specs.declared.judge.TupleJudged.{TupleJudged}
 use Rattle.lookup_tuple.specs.Strings.{Stands}
 use Rattle.lookup_tuple.specs.Positions.{positions}
 use Rattle.lookup_cells.specs.Fillable.{Fillable}
-use Rattle.lookup.specs.Answers.{noneAfter}
+use Rattle.lookup.specs.Answers.{none_after}
 use Rattle.lookup.specs.Judgement.{answer_by, Called, JudgedCall}
-use Rattle.lookup.proofs.JudgeFacts.{judged_refused, called-answer, called-size, cells_are, answers_by, tests-first}
+use Rattle.lookup.proofs.JudgeFacts.{judged_refused, called_answer, called_size, cells_are, answers_by, tests-first}
 
 module _ (m : Memory) (text work : List ℕ) where
   -- what is answered of a table and a tuple that pass
@@ -41,38 +41,38 @@ module _ (m : Memory) (text work : List ℕ) where
 
   -- a table or a tuple that is refused
   pub call_refused : (r : TupleJudged) (why : Refusal) (a : Answer (Option ℕ)) → JudgedCall m text r → r.judged ≡ Refused why
-      → a ≡ noneAfter (judgedAs r.judged) → a ≡ lookup_answer m text work
+      → a ≡ none_after (judged_as r.judged) → a ≡ lookup_answer m text work
   call_refused r why a j f g =
-      g ∙ ap (λ (x : Judged). noneAfter (judgedAs x)) f ∙ sym (judged_refused m text r j why f told) ∙ sym answer_is
+      g ∙ ap (λ (x : Judged). none_after (judged_as x)) f ∙ sym (judged_refused m text r j why f told) ∙ sym answer_is
 
   module _ (s : Strings) (k : Called m text s) (n : ℕ) (e : n ≡ m.states * positions s.lengths) where
     -- the answer, once the tuple is judged
-    call-passed : lookup_answer m text work ≡ judge (enough (lookup_work m.states k.tuple) work) 13 (ok (lookup ℕ_sum (table_of m) k.tuple))
-    call-passed =
-        answer_is ∙ called-answer m text s k told
-        ∙ ap (λ (q : ℕ). judge (enough (lookup_work q k.tuple) work) 13 (ok (lookup ℕ_sum (table_of m) k.tuple))) (called-size m text s k)
+    call_passed : lookup_answer m text work ≡ judge (enough (lookup_work m.states k.tuple) work) 13 (ok (lookup ℕ_sum (table_of m) k.tuple))
+    call_passed =
+        answer_is ∙ called_answer m text s k told
+        ∙ ap (λ (q : ℕ). judge (enough (lookup_work q k.tuple) work) 13 (ok (lookup ℕ_sum (table_of m) k.tuple))) (called_size m text s k)
 
     -- the bytes needed
-    need-is : 8 * n ≡ lookup_work m.states k.tuple
+    need_is : 8 * n ≡ lookup_work m.states k.tuple
     unfolding lookup_work
-    need-is = ap (λ (q : ℕ). 8 * q) (cells_are m text s k n e)
+    need_is = ap (λ (q : ℕ). 8 * q) (cells_are m text s k n e)
 
     -- too little work space
-    pub work-short : length work < 8 * n → refused 13 ≡ lookup_answer m text work
-    work-short h =
-        sym (call-passed ∙ ap (λ (b : Bool). judge b 13 (ok (lookup ℕ_sum (table_of m) k.tuple))) (lt-leb (lookup_work m.states k.tuple) (length work) (omega (arith, need-is, h))))
+    pub work_short : length work < 8 * n → refused 13 ≡ lookup_answer m text work
+    work_short h =
+        sym (call_passed ∙ ap (λ (b : Bool). judge b 13 (ok (lookup ℕ_sum (table_of m) k.tuple))) (lt-leb (lookup_work m.states k.tuple) (length work) (omega (arith, need_is, h))))
 
     -- enough: the cells can be filled
-    pub work-enough : 8 * n ≤ length work → Fillable m text s (length work)
-    work-enough h =
-        record { sound = k.sound; tuple = k.tuple; stands = k.stands; tapes_are = k.tapes_are; fits = omega (arith, need-is, h) }
+    pub work_enough : 8 * n ≤ length work → Fillable m text s (length work)
+    work_enough h =
+        record { sound = k.sound; tuple = k.tuple; stands = k.stands; tapes_are = k.tapes_are; fits = omega (arith, need_is, h) }
 
     -- and the weight is the one found
-    pub work-done : 8 * n ≤ length work → (o : Option ℕ) (a : Answer (Option ℕ))
+    pub work_done : 8 * n ≤ length work → (o : Option ℕ) (a : Answer (Option ℕ))
         → ((t : Tuple) → Stands text t s → length t ≡ m.tapes → o ≡ lookup ℕ_sum (table_of m) t) → a ≡ ok o → a ≡ lookup_answer m text work
-    work-done h o a g f =
+    work_done h o a g f =
         f ∙ ap ok (g k.tuple k.stands k.tapes_are)
-        ∙ sym (call-passed ∙ ap (λ (b : Bool). judge b 13 (ok (lookup ℕ_sum (table_of m) k.tuple))) (le-leb (lookup_work m.states k.tuple) (length work) (omega (arith, need-is, h))))
+        ∙ sym (call_passed ∙ ap (λ (b : Bool). judge b 13 (ok (lookup ℕ_sum (table_of m) k.tuple))) (le-leb (lookup_work m.states k.tuple) (length work) (omega (arith, need_is, h))))
 
 -- Work space is zero afterwards.
 pub call_cleared : (m : Memory) (text work zeroed : List ℕ) (n : ℕ) (a : Answer (Option ℕ)) → a ≡ lookup_answer m text work → n ≡ length work → zeroed ≡ zeros n

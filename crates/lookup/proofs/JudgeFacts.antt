@@ -21,7 +21,7 @@ use Rattle.automata.proofs.SoundFacts.{sound, sound_decoded, sound_holds}
 use Rattle.table.specs.declared.answer.Refusal.{Refusal}
 use Rattle.table.specs.declared.answer.Judged.{Judged}
 use Rattle.table.specs.declared.answer.Judged.TheVariants.{Fine, Refused}
-use Rattle.table.specs.Answers.{judgedAs, refusalNumber}
+use Rattle.table.specs.Answers.{judged_as, refusal_number}
 use Rattle.table.proofs.AnswerFacts.{forget-ok}
 use Rattle.table.proofs.SoundFacts.{few_tapes, few_states}
 use Rattle.lookup_tuple.specs.declared.Strings.{Strings}
@@ -53,12 +53,12 @@ pub answers_by : {X : Type 0} (m : Memory) (text : List ℕ) (call onward : Auto
     → (decode_table m >>= λ A. lines text >>= λ t. call A t) ≡ answer_by m text onward
 answers_by {X} m text call onward same = go (decode_table m)
   where
-    text-by : (A : Automaton ℕ) (a : Answer Tuple) → (a >>= λ t. call A t) ≡ (a >>= λ t. tuple_tests A.tapes t >>= λ u. onward A t)
-    text-by A (ok t) = same A t
-    text-by A (refused n) = refl
+    text_by : (A : Automaton ℕ) (a : Answer Tuple) → (a >>= λ t. call A t) ≡ (a >>= λ t. tuple_tests A.tapes t >>= λ u. onward A t)
+    text_by A (ok t) = same A t
+    text_by A (refused n) = refl
 
     go : (d : Answer (Automaton ℕ)) → (d >>= λ A. lines text >>= λ t. call A t) ≡ (d >>= λ A. lines text >>= λ t. tuple_tests A.tapes t >>= λ u. onward A t)
-    go (ok A) = text-by A (lines text)
+    go (ok A) = text_by A (lines text)
     go (refused n) = refl
 
 module _ (m : Memory) (text : List ℕ) where
@@ -82,24 +82,24 @@ module _ (m : Memory) (text : List ℕ) where
 
   -- a judgement that refuses is the answer
   pub judged_refused : {X : Type 0} (r : TupleJudged) → JudgedCall m text r → (why : Refusal) → r.judged ≡ Refused why
-      → (onward : Automaton ℕ → Tuple → Answer X) → answer_by m text onward ≡ refused (refusalNumber why)
-  judged_refused r j why f onward = judged_first (refusalNumber why) (ap judgedAs (sym f) ∙ j.answer) onward
+      → (onward : Automaton ℕ → Tuple → Answer X) → answer_by m text onward ≡ refused (refusal_number why)
+  judged_refused r j why f onward = judged_first (refusal_number why) (ap judged_as (sym f) ∙ j.answer) onward
 
   module _ (s : Strings) (k : Called m text s) where
     -- the answer where both pass
-    pub called-answer : {X : Type 0} (onward : Automaton ℕ → Tuple → Answer X) → answer_by m text onward ≡ onward (table_of m) k.tuple
-    called-answer {X} onward =
+    pub called_answer : {X : Type 0} (onward : Automaton ℕ → Tuple → Answer X) → answer_by m text onward ≡ onward (table_of m) k.tuple
+    called_answer {X} onward =
         ap (λ (d : Answer (Automaton ℕ)). d >>= λ A. lines text >>= λ t. tuple_tests A.tapes t >>= λ u. onward A t) (sound_decoded m k.sound)
         ∙ ap (λ (a : Answer Tuple). a >>= λ t. tuple_tests (table_of m).tapes t >>= λ u. onward (table_of m) t) k.lines_are
         ∙ ap (λ (n : ℕ). tuple_tests n k.tuple >>= λ u. onward (table_of m) k.tuple) (sym (sound_holds m k.sound).tapes)
         ∙ ap (λ (a : Answer (Unit {0})). a >>= λ u. onward (table_of m) k.tuple) k.passed
 
-    pub called-size : size (table_of m) ≡ m.states
-    called-size = sym (sound_holds m k.sound).states
+    pub called_size : size (table_of m) ≡ m.states
+    called_size = sym (sound_holds m k.sound).states
 
     -- its strings are short, and its states few
-    pub called-short : (m.states ≤ 1024) × ShortStrings s
-    called-short = (few_states m k.sound, stands_short text k.tuple s k.stands)
+    pub called_short : (m.states ≤ 1024) × ShortStrings s
+    called_short = (few_states m k.sound, stands_short text k.tuple s k.stands)
 
     -- the number of work cells
     pub cells_are : (n : ℕ) → n ≡ m.states * positions s.lengths → n ≡ m.states * combinations k.tuple
@@ -108,22 +108,22 @@ module _ (m : Memory) (text : List ℕ) where
   -- ---- the judgement by its steps
 
   -- a table that is refused
-  pub table-refused : (j : Judged) (s : Strings) (why : Refusal) → judgedAs j ≡ forget (decode_table m) → j ≡ Refused why
+  pub table-refused : (j : Judged) (s : Strings) (why : Refusal) → judged_as j ≡ forget (decode_table m) → j ≡ Refused why
       → JudgedCall m text (record { judged = j; strings = s })
-  table-refused j s why e f = record { answer = e ∙ go (decode_table m) (sym (ap judgedAs f) ∙ e); called = λ g. absurd (refused≢ok (ap judgedAs (sym f ∙ g))) }
+  table-refused j s why e f = record { answer = e ∙ go (decode_table m) (sym (ap judged_as f) ∙ e); called = λ g. absurd (refused≢ok (ap judged_as (sym f ∙ g))) }
     where
-      go : (d : Answer (Automaton ℕ)) → refused (refusalNumber why) ≡ forget d
+      go : (d : Answer (Automaton ℕ)) → refused (refusal_number why) ≡ forget d
           → forget d ≡ (d >>= λ A. lines text >>= λ t. tuple_tests A.tapes t >>= λ u. ok (tt {0}))
       go (ok A) k = absurd (refused≢ok k)
       go (refused n) k = refl
 
   -- a table that passes, and the tuple judged
-  pub tuple_judged : (j : Judged) (r : TupleJudged) → judgedAs j ≡ forget (decode_table m) → j ≡ Fine → JudgedTuple text m.tapes r → JudgedCall m text r
+  pub tuple_judged : (j : Judged) (r : TupleJudged) → judged_as j ≡ forget (decode_table m) → j ≡ Fine → JudgedTuple text m.tapes r → JudgedCall m text r
   unfolding tuple_answer
-  tuple_judged j r e f p = record { answer = p.answer ∙ sym by-tuple; called = called }
+  tuple_judged j r e f p = record { answer = p.answer ∙ sym by_tuple; called = called }
     where
       s : Sound m
-      s = let a = forget-ok (decode_table m) (sym e ∙ ap judgedAs f) in sound m a.0 a.1
+      s = let a = forget-ok (decode_table m) (sym e ∙ ap judged_as f) in sound m a.0 a.1
 
       unit : (a : Answer (Unit {0})) → (a >>= λ u. ok (tt {0})) ≡ a
       unit (ok u) = refl
@@ -133,8 +133,8 @@ module _ (m : Memory) (text : List ℕ) where
       each n (ok t) = unit (tuple_tests n t)
       each n (refused k) = refl
 
-      by-tuple : answer_by {X = Unit {0}} m text (λ A t. ok (tt {0})) ≡ (lines text >>= λ t. tuple_tests m.tapes t)
-      by-tuple =
+      by_tuple : answer_by {X = Unit {0}} m text (λ A t. ok (tt {0})) ≡ (lines text >>= λ t. tuple_tests m.tapes t)
+      by_tuple =
           ap (λ (d : Answer (Automaton ℕ)). d >>= λ A. lines text >>= λ t. tuple_tests A.tapes t >>= λ u. ok (tt {0})) (sound_decoded m s)
           ∙ each (table_of m).tapes (lines text) ∙ ap (λ (n : ℕ). lines text >>= λ t. tuple_tests n t) (sym (sound_holds m s).tapes)
 
@@ -146,5 +146,5 @@ module _ (m : Memory) (text : List ℕ) where
             lines_are = t.lines_are;
             stands = t.stands;
             tapes_are = t.tapes_are;
-            passed = sym (ap judgedAs (sym g) ∙ p.answer ∙ ap (λ (a : Answer Tuple). a >>= λ z. tuple_tests m.tapes z) t.lines_are);
+            passed = sym (ap judged_as (sym g) ∙ p.answer ∙ ap (λ (a : Answer Tuple). a >>= λ z. tuple_tests m.tapes z) t.lines_are);
           }

@@ -5,7 +5,7 @@ use Rattle.automata.specs.Automaton.{Automaton, Tuple}
 use Rattle.automata.specs.Memory.{Memory, Sound, decode_table}
 use Rattle.automata.specs.Calls.Lookup.{lines}
 use Rattle.table.specs.declared.answer.Judged.TheVariants.{Fine}
-use Rattle.table.specs.Answers.{judgedAs}
+use Rattle.table.specs.Answers.{judged_as}
 use Rattle.lookup_tuple.specs.declared.Strings.{Strings}
 use Rattle.lookup_tuple.specs.declared.judge.TupleJudged.{TupleJudged}
 use Rattle.lookup_tuple.specs.Strings.{Stands}
@@ -26,5 +26,5 @@ pub record Called (m : Memory) (text : List ℕ) (s : Strings) : Type 0 where
 
 -- the first refusal, and where there is none the table and the tuple
 pub record JudgedCall (m : Memory) (text : List ℕ) (r : TupleJudged) : Type 0 where
-  pub answer : judgedAs r.judged ≡ answer_by m text (λ A t. ok tt)
+  pub answer : judged_as r.judged ≡ answer_by m text (λ A t. ok tt)
   pub called : r.judged ≡ Fine → Called m text r.strings

@@ -3,9 +3,9 @@ ghost use Rattle.std.specs.Prelude.{◌≡◌};
 ghost use Rattle.automata.specs.Answer.{ok};
 ghost use Rattle.automata.specs.Calls.Outcome.{found_of};
 ghost use Rattle.automata.specs.Calls.Lookup.{lookup_answer, lookup_outcome};
-ghost use Rattle.table.specs.Answers.{judgedAs, lent};
-ghost use Rattle.lookup_cells.specs.Answers.{optionAs};
-ghost use Rattle.lookup.specs.Answers.{weightAs, noneAfter};
+ghost use Rattle.table.specs.Answers.{judged_as, lent};
+ghost use Rattle.lookup_cells.specs.Answers.{option_as};
+ghost use Rattle.lookup.specs.Answers.{weight_as, none_after};
 
 use crate::judge::{cell_count, judge_call};
 use lookup_cells::answer::Weight64;
@@ -26,7 +26,7 @@ pub enum WeightAnswer {
 
 // A refusal of the table or of the tuple.
 fn refused_by(judged: Judged) -> WeightAnswer
-    ensures { weightAs result ≡ noneAfter (judgedAs judged) }
+    ensures { weight_as result ≡ none_after (judged_as judged) }
 {
     match judged {
         Judged::Fine => WeightAnswer::Nothing,
@@ -36,7 +36,7 @@ fn refused_by(judged: Judged) -> WeightAnswer
 
 // The weight found, or none.
 fn answer_of(found: Weight64) -> WeightAnswer
-    ensures { weightAs result ≡ ok (optionAs found) }
+    ensures { weight_as result ≡ ok (option_as found) }
 {
     match found {
         Weight64::Sum(w) => WeightAnswer::Weight(w),
@@ -46,7 +46,7 @@ fn answer_of(found: Weight64) -> WeightAnswer
 
 // The answer of the call, with whatever is left in work space.
 fn find(counts: Counts, states: &[u8], arcs: &[u8], tuple: &[u8], work: &mut [u8]) -> WeightAnswer
-    ensures { weightAs result ≡ lookup_answer (lent counts states.now arcs.now)
+    ensures { weight_as result ≡ lookup_answer (lent counts states.now arcs.now)
         tuple.now work.old }
 {
     let parsed = judge_call(counts, states, arcs, tuple);
@@ -70,7 +70,7 @@ pub fn lookup(
     tuple: &[u8],
     work: &mut [u8],
 ) -> WeightAnswer
-    ensures { found_of (weightAs result) work.new ≡ lookup_outcome
+    ensures { found_of (weight_as result) work.new ≡ lookup_outcome
         (lent counts states.now arcs.now) tuple.now work.old }
 {
     let answer = find(counts, states, arcs, tuple, work);

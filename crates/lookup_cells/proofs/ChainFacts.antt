@@ -65,9 +65,9 @@ module _ (key : ℕ → ℕ) (lo n : ℕ) (xs ys : List ℕ) (h : ChainedFrom ke
     first_up = λ q lt. up q lt (ℕ_discrete q (key lo));
     first_is = λ q lt less. is q lt less (ℕ_discrete q (key lo));
     first-none = λ q lt f le less before. none q lt f le less before (ℕ_discrete q (key lo));
-    next_up = λ f le less. n-up f le less (ℕ_discrete f lo);
-    next_is = λ f le less there. n-is f le less there (ℕ_discrete f lo);
-    next_none = λ f le less g after in_all before. n-none f le less g after in_all before (ℕ_discrete f lo);
+    next_up = λ f le less. n_up f le less (ℕ_discrete f lo);
+    next_is = λ f le less there. n_is f le less there (ℕ_discrete f lo);
+    next_none = λ f le less g after in_all before. n_none f le less g after in_all before (ℕ_discrete f lo);
   }
     where
       up : (q : ℕ) → q < 1024 → Dec (q ≡ key lo) → lo ≤ get_or ys q 0
@@ -86,21 +86,21 @@ module _ (key : ℕ → ℕ) (lo n : ℕ) (xs ys : List ℕ) (h : ChainedFrom ke
           go (yes own) = λ g. ne (sym g ∙ ap key own)
           go (no other) = h.first-none q lt f (omega arith) less (omega (arith, first_other q lt ne))
 
-      n-up : (f : ℕ) → lo ≤ f → f < n → Dec (f ≡ lo) → f < get_or ys (1024 + f) 0
-      n-up f le less (yes own) = omega (arith, own, next-own, ap (λ (k : ℕ). get_or ys (1024 + k) 0) own, h.first_up (key lo) small)
-      n-up f le less (no other) = omega (arith, next_other f other, h.next_up f (omega arith) less)
+      n_up : (f : ℕ) → lo ≤ f → f < n → Dec (f ≡ lo) → f < get_or ys (1024 + f) 0
+      n_up f le less (yes own) = omega (arith, own, next-own, ap (λ (k : ℕ). get_or ys (1024 + k) 0) own, h.first_up (key lo) small)
+      n_up f le less (no other) = omega (arith, next_other f other, h.next_up f (omega arith) less)
 
-      n-is : (f : ℕ) → lo ≤ f → f < n → get_or ys (1024 + f) 0 < n → Dec (f ≡ lo) → key (get_or ys (1024 + f) 0) ≡ key f
-      n-is f le less there (yes own) =
+      n_is : (f : ℕ) → lo ≤ f → f < n → get_or ys (1024 + f) 0 < n → Dec (f ≡ lo) → key (get_or ys (1024 + f) 0) ≡ key f
+      n_is f le less there (yes own) =
           let g : get_or ys (1024 + f) 0 ≡ get_or xs (key lo) 0 = ap (λ (k : ℕ). get_or ys (1024 + k) 0) own ∙ next-own in
           ap key g ∙ h.first_is (key lo) small (omega (arith, g)) ∙ ap key (sym own)
-      n-is f le less there (no other) = ap key (next_other f other) ∙ h.next_is f (omega arith) less (omega (arith, next_other f other))
+      n_is f le less there (no other) = ap key (next_other f other) ∙ h.next_is f (omega arith) less (omega (arith, next_other f other))
 
-      n-none : (f : ℕ) → lo ≤ f → f < n → (g : ℕ) → f < g → g < n → g < get_or ys (1024 + f) 0 → Dec (f ≡ lo) → key g ≢ key f
-      n-none f le less g after in_all before (yes own) =
+      n_none : (f : ℕ) → lo ≤ f → f < n → (g : ℕ) → f < g → g < n → g < get_or ys (1024 + f) 0 → Dec (f ≡ lo) → key g ≢ key f
+      n_none f le less g after in_all before (yes own) =
           let z : get_or ys (1024 + f) 0 ≡ get_or xs (key lo) 0 = ap (λ (k : ℕ). get_or ys (1024 + k) 0) own ∙ next-own in
           λ same. h.first-none (key lo) small g (omega (arith, own)) in_all (omega (arith, z)) (same ∙ ap key own)
-      n-none f le less g after in_all before (no other) =
+      n_none f le less g after in_all before (no other) =
           h.next_none f (omega arith) less g after in_all (omega (arith, next_other f other))
 
 -- the same, counted by what is left

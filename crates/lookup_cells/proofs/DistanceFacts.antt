@@ -73,8 +73,8 @@ module _ (A : Automaton ℕ) (t : Tuple) (xs : List ℕ) (within : Within (graph
     abbrev here : ℕ
     here = val A t xs q ps
 
-    here-bound : (k w : ℕ) → Onward ℕ_sum A k q rests w → here ≤ w
-    here-bound k w o =
+    here_bound : (k w : ℕ) → Onward ℕ_sum A k q rests w → here ≤ w
+    here_bound k w o =
         let i = distances_bound A t xs within 0 d o.final ps lt h (omega arith) o.leads.1 o.ends o.spells in omega (arith, i, o.weight)
 
     -- where the number is a weight, `best` finds one that is no more
@@ -86,8 +86,8 @@ module _ (A : Automaton ℕ) (t : Tuple) (xs : List ℕ) (within : Within (graph
         (w, e, omega (arith, leb→le w u l, leb→le u (onward ℕ_sum A o.arcs o.final) g, o.weight))
 
     -- The number stands for what `best` finds with as many arcs as are enough.
-    here-best : weight_of here ≡ found
-    here-best = go found refl
+    here_best : weight_of here ≡ found
+    here_best = go found refl
       where
         none-far : found ≡ none → Dec (far ≤ here) → far ≤ here
         none-far e (yes l) = l
@@ -96,7 +96,7 @@ module _ (A : Automaton ℕ) (t : Tuple) (xs : List ℕ) (within : Within (graph
         go : (o : Option ℕ) → found ≡ o → weight_of here ≡ o
         go none e = rw (le-ltb here far (none-far e (dec_le far here)))
         go (some w) e =
-            let up : here ≤ w = here-bound (arcs_enough ℕ_sum A rests) w ((best_least ℕ_sum A (arcs_enough ℕ_sum A rests) q rests).holds w e) in
+            let up : here ≤ w = here_bound (arcs_enough ℕ_sum A rests) w ((best_least ℕ_sum A (arcs_enough ℕ_sum A rests) q rests).holds w e) in
             let small : here < far = omega (arith, up, best_small A ok few rests (omega (arith, rests_short ps t)) q w e) in
             let (v, g, l) = here_found small in
             let same : w ≡ v = some-injective w v (sym e ∙ g) in
@@ -105,4 +105,4 @@ module _ (A : Automaton ℕ) (t : Tuple) (xs : List ℕ) (within : Within (graph
 
   -- Once all combinations are done, the cells are filled.
   pub distances_filled : Filled A t xs
-  distances_filled = record { below = d.below; least = here-best }
+  distances_filled = record { below = d.below; least = here_best }

@@ -50,17 +50,17 @@ module _ (states : List ℕ) (n all : ℕ) (v : List ℕ) where
   start_first = record { place_is = omega arith; rest = refl; same_length = refl }
 
   module _ (q left rest : ℕ) (w : List ℕ) (h : Starting states n all v q left w) where
-    pub start-turn : (u : List ℕ) → left ≡ suc rest → Starts states all q u w → Starting states n all v (q + 1) rest u
+    pub start_turn : (u : List ℕ) → left ≡ suc rest → Starts states all q u w → Starting states n all v (q + 1) rest u
     unfolding started_from
-    start-turn u d t = record {
+    start_turn u d t = record {
       place_is = omega (arith, h.place_is, d);
       rest = ap (started_from rest (q + 1) states all) t.cells_are ∙ ap (λ (k : ℕ). started_from k q states all (cells_of w)) (sym d) ∙ h.rest;
       same_length = t.same_length ∙ h.same_length;
     }
 
-    pub start-end : left ≡ 0 → StartsAll states all n w v
+    pub start_end : left ≡ 0 → StartsAll states all n w v
     unfolding started_from
-    start-end d = record { cells_are = ap (λ (k : ℕ). started_from k q states all (cells_of w)) (sym d) ∙ h.rest; same_length = h.same_length }
+    start_end d = record { cells_are = ap (λ (k : ℕ). started_from k q states all (cells_of w)) (sym d) ∙ h.rest; same_length = h.same_length }
 
 -- ---- initial weights
 

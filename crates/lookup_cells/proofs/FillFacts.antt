@@ -35,7 +35,7 @@ use Rattle.lookup_moves.proofs.CellFacts.{length_cells}
 use Rattle.lookup_cells.proofs.DistanceFacts.{Distances, distances_filled}
 use Rattle.lookup_cells.proofs.PushFacts.{reach_rest}
 use Rattle.lookup_cells.proofs.PushMeaning.{AtSpot, ready, settled_done}
-use Rattle.lookup_cells.proofs.SpotMeaning.{digits, place_digits, all_at, spans_positive, at-spot}
+use Rattle.lookup_cells.proofs.SpotMeaning.{digits, place_digits, all_at, spans_positive, at_spot}
 use Rattle.lookup_cells.proofs.MoveMeaning.{combinations_positive}
 use Rattle.lookup_cells.proofs.StartMeaning.{sixteens, cleared-cell, begun_distances, started_rest}
 use Rattle.lookup_cells.proofs.LeastMeaning.{stands_short, lookup_means}
@@ -90,11 +90,11 @@ module _ (c : Counts) (states arcs text : List ℕ) (s : Strings) (room : ℕ) (
     all_room : 8 * (c.states * spans.all) ≤ room
     all_room = subst (λ (n : ℕ). 8 * (c.states * n) ≤ room) (sym (all_at text f.tuple s st spans sp)) table-room
 
-    all-positive : 0 < spans.all
-    all-positive = omega (arith, all_at text f.tuple s st spans sp, combinations_positive f.tuple)
+    all_positive : 0 < spans.all
+    all_positive = omega (arith, all_at text f.tuple s st spans sp, combinations_positive f.tuple)
 
     pub stated : (w : List ℕ) → length w ≡ room → Stated states c.states spans.all w
-    stated w l = record { lent = states_lent_lem (lent c states arcs) f.sound; some_combination = all-positive; fits = omega (arith, l, all_room) }
+    stated w l = record { lent = states_lent_lem (lent c states arcs) f.sound; some_combination = all_positive; fits = omega (arith, l, all_room) }
 
     pub positive : Positive spans
     positive = spans_positive text f.tuple s st spans sp
@@ -116,7 +116,7 @@ module _ (c : Counts) (states arcs text : List ℕ) (s : Strings) (room : ℕ) (
       left_is = omega arith;
       same_length = a.same_length ∙ ap length e ∙ length-replicate room far_byte;
       rest = λ k out lt.
-          ap (λ (xs : List ℕ). get_or xs k 0) a.cells_are ∙ started_rest c.states 0 states spans.all all-positive (cells_of v) k (rest_of k out)
+          ap (λ (xs : List ℕ). get_or xs k 0) a.cells_are ∙ started_rest c.states 0 states spans.all all_positive (cells_of v) k (rest_of k out)
           ∙ ap (λ (x : List ℕ). get_or (cells_of x) k 0) e ∙ cleared-cell room k lt;
       distances = λ t h tapes.
           subst (λ (xs : List ℕ). Distances (table_of (lent c states arcs)) t xs spans.all)
@@ -126,40 +126,40 @@ module _ (c : Counts) (states arcs text : List ℕ) (s : Strings) (room : ℕ) (
 
   module _ (spans : Spans) (left rest : ℕ) (w : List ℕ) (g : Filling c states arcs text s spans room left w) where
     -- what is known of the cells
-    fill-below : (k : ℕ) → get_or (cells_of w) k 0 ≤ far
-    fill-below = (g.distances f.tuple st f.tapes_are).below
+    fill_below : (k : ℕ) → get_or (cells_of w) k 0 ≤ far
+    fill_below = (g.distances f.tuple st f.tapes_are).below
 
     module _ (d : left ≡ suc rest) (spot : Spot) (e : spot ≡ spot_of s spans rest) where
       small : (t : Tuple) → Stands text t s → rest < combinations t
       small t h = omega (arith, all_at text t s h spans g.spanned, g.left_is, d)
 
-      spot-at : (t : Tuple) → Stands text t s → AtSpot text t spot (digits rest t)
-      spot-at t h = subst (λ (z : Spot). AtSpot text t z (digits rest t)) (sym e) (at-spot text t s h spans g.spanned rest (small t h))
+      spot_at : (t : Tuple) → Stands text t s → AtSpot text t spot (digits rest t)
+      spot_at t h = subst (λ (z : Spot). AtSpot text t z (digits rest t)) (sym e) (at_spot text t s h spans g.spanned rest (small t h))
 
       all_is : spot.all ≡ spans.all
-      all_is = (spot-at f.tuple st).all_is ∙ sym (all_at text f.tuple s st spans g.spanned)
+      all_is = (spot_at f.tuple st).all_is ∙ sym (all_at text f.tuple s st spans g.spanned)
 
-      pub fill-requires : Ready c arcs text spot × Spaced c.states spot w
-      fill-requires =
-          let a = spot-at f.tuple st in
+      pub fill_requires : Ready c arcs text spot × Spaced c.states spot w
+      fill_requires =
+          let a = spot_at f.tuple st in
           let n : spot.number ≡ rest = a.number_is ∙ place_digits rest f.tuple (small f.tuple st) in
           let r : 8 * (c.states * spot.all) ≤ room = subst (λ (n : ℕ). 8 * (c.states * n) ≤ room) (sym a.all_is) table-room in (
             ready c states arcs text f.sound f.tuple f.tapes_are spot (digits rest f.tuple) a,
-            record { number_is = omega (arith, n, a.all_is, small f.tuple st); fits = omega (arith, r, g.same_length); below = fill-below },
+            record { number_is = omega (arith, n, a.all_is, small f.tuple st); fits = omega (arith, r, g.same_length); below = fill_below },
           )
 
-      pub fill-turn : (u : List ℕ) → Settles c arcs text spot u w → Filling c states arcs text s spans room rest u
-      fill-turn u z = record {
+      pub fill_turn : (u : List ℕ) → Settles c arcs text spot u w → Filling c states arcs text s spans room rest u
+      fill_turn u z = record {
         spanned = g.spanned;
         left_is = omega (arith, g.left_is, d);
         same_length = z.same_length ∙ g.same_length;
-        rest = λ k out lt. reach_rest c arcs text spot fill-requires.0 fill-requires.1.number_is (cells_of w) (cells_of u) z.reach k
+        rest = λ k out lt. reach_rest c arcs text spot fill_requires.0 fill_requires.1.number_is (cells_of w) (cells_of u) z.reach k
             (subst (λ (n : ℕ). c.states * n ≤ k) (sym all_is) out) ∙ g.rest k out lt;
         distances = λ t h tapes.
             let p = place_digits rest t (small t h) in
             let b : suc (place (digits rest t) t) ≡ left = omega (arith, p, d) in
             subst (λ (n : ℕ). Distances (table_of (lent c states arcs)) t (cells_of u) n) p
-            (settled_done c states arcs text f.sound t tapes spot (digits rest t) (spot-at t h) u w z
+            (settled_done c states arcs text f.sound t tapes spot (digits rest t) (spot_at t h) u w z
             (omega (arith, length_cells w, g.same_length, tuple-room spans g.spanned t h))
             (subst (λ (n : ℕ). Distances (table_of (lent c states arcs)) t (cells_of w) n) (sym b) (g.distances t h tapes)));
       }
@@ -178,8 +178,8 @@ module _ (c : Counts) (states arcs text : List ℕ) (s : Strings) (room : ℕ) (
 
   -- the least over the initial states where the cells are filled
   module _ (spans : Spans) (sp : Spanned s.lengths spans) (w : List ℕ) (l : length w ≡ room) (g : CellsFilled (lent c states arcs) text s w) where
-    pub weight-requires : Stated states c.states spans.all w × ((k : ℕ) → get_or (cells_of w) k 0 ≤ far)
-    weight-requires = (stated spans sp w l, (g.filled f.tuple st f.tapes_are).below)
+    pub weight_requires : Stated states c.states spans.all w × ((k : ℕ) → get_or (cells_of w) k 0 ≤ far)
+    weight_requires = (stated spans sp w l, (g.filled f.tuple st f.tapes_are).below)
 
     pub weight_is : (o : Option ℕ) → o ≡ weight_of (least_up_to c.states states spans.all (cells_of w))
         → (t : Tuple) → Stands text t s → length t ≡ c.tapes → o ≡ lookup ℕ_sum (table_of (lent c states arcs)) t

@@ -26,7 +26,7 @@ use Rattle.table.specs.Records.{option_of, state_at}
 use Rattle.table.specs.declared.answer.Counts.{Counts}
 use Rattle.table.specs.declared.record.Weight.{Weight}
 use Rattle.table.specs.declared.record.Weight.TheVariants.{Absent, Present}
-use Rattle.table.proofs.SoundFacts.{state-loaded, few_states}
+use Rattle.table.proofs.SoundFacts.{state_loaded, few_states}
 use Rattle.lookup_tuple.specs.declared.Strings.{Strings}
 use Rattle.lookup_tuple.specs.Strings.{Stands}
 use Rattle.lookup_moves.specs.Distances.{far, weight_of}
@@ -70,7 +70,7 @@ pub stands_short : (text : List ℕ) (t : Tuple) (s : Strings) → Stands text t
 stands_short text t s st = omega (arith, total-le t (λ h lt. omega (arith, st.length_is h lt, st.short h)), st.few)
 
 module _ (c : Counts) (states arcs : List ℕ) (sound : Sound (lent c states arcs)) (t : Tuple) (short : total length t ≤ 512) (xs : List ℕ)
-    (f : Filled (table_of (lent c states arcs)) t xs) (all : ℕ) (all_is : all ≡ combinations t) where
+    (f : Filled (table_of (lent c states arcs)) t xs) (all : ℕ) (all-is : all ≡ combinations t) where
   abbrev table : Automaton ℕ
   table = table_of (lent c states arcs)
 
@@ -85,34 +85,34 @@ module _ (c : Counts) (states arcs : List ℕ) (sound : Sound (lent c states arc
     few : size table ≤ 1024
     few = omega (arith, few_states (lent c states arcs) sound, (sound_holds (lent c states arcs) sound).states)
 
-    value-is : get_or xs (q * all + 0) 0 ≡ get_or xs (cell q (beginnings t) t) 0
-    value-is =
-        let e : q * all ≡ q * combinations t = ap (λ (k : ℕ). q * k) all_is in
+    value_is : get_or xs (q * all + 0) 0 ≡ get_or xs (cell q (beginnings t) t) 0
+    value_is =
+        let e : q * all ≡ q * combinations t = ap (λ (k : ℕ). q * k) all-is in
         let g : q * all + 0 ≡ cell q (beginnings t) t = omega (arith, e, place_beginnings t) in ap (λ (k : ℕ). get_or xs k 0) g
 
-    best-is : weight_of (get_or xs (q * all + 0) 0) ≡ best ℕ_sum table (arcs_enough ℕ_sum table t) q t
-    best-is = ap weight_of value-is ∙ f.least q (beginnings t) in_table (positions_beginnings t) ∙ ap (least_onward ℕ_sum table q) (drop_all_beginnings t)
+    best_is : weight_of (get_or xs (q * all + 0) 0) ≡ best ℕ_sum table (arcs_enough ℕ_sum table t) q t
+    best_is = ap weight_of value_is ∙ f.least q (beginnings t) in_table (positions_beginnings t) ∙ ap (least_onward ℕ_sum table q) (drop_all_beginnings t)
 
-    initial-is : initial_of table q ≡ option_of (state_at (state_size * q) states).initial
-    initial-is = ap (λ o. bind o (λ s. s.initial)) (state-loaded (lent c states arcs) sound q lt)
+    initial_is : initial_of table q ≡ option_of (state_at (state_size * q) states).initial
+    initial_is = ap (λ o. bind o (λ s. s.initial)) (state_loaded (lent c states arcs) sound q lt)
 
-    from-means : weight_of (from_state states all xs q) ≡ from q
+    from_means : weight_of (from_state states all xs q) ≡ from q
     unfolding from_state
-    from-means = go (state_at (state_size * q) states).initial refl
+    from_means = go (state_at (state_size * q) states).initial refl
       where
         go : (x : Weight) → (state_at (state_size * q) states).initial ≡ x → weight_of (beginning x (get_or xs (q * all + 0) 0)) ≡ from q
-        go Absent e = let i : initial_of table q ≡ none = initial-is ∙ ap option_of e in rw (from, i)
+        go Absent e = let i : initial_of table q ≡ none = initial_is ∙ ap option_of e in rw (from, i)
         go (Present w) e =
-            let i : initial_of table q ≡ some w = initial-is ∙ ap option_of e in
+            let i : initial_of table q ≡ some w = initial_is ∙ ap option_of e in
             rw (from, i) (weight-plus w (get_or xs (q * all + 0) 0) (best ℕ_sum table (arcs_enough ℕ_sum table t) q t)
-            ((weights_bounded table (sound_well_formed (lent c states arcs) sound)).initials q w i) best-is
+            ((weights_bounded table (sound_well_formed (lent c states arcs) sound)).initials q w i) best_is
             (λ v g. best_small table (weights_bounded table (sound_well_formed (lent c states arcs) sound)) few t short q v g))
 
   least_means : (n : ℕ) → n ≤ c.states → weight_of (least_up_to n states all xs) ≡ least_below ℕ_sum from n
   unfolding least_up_to
   least_means zero h = refl
   least_means (suc n) h =
-      weight_min (least_up_to n states all xs) (from_state states all xs n) ∙ ap₂ (lesser ℕ_sum) (least_means n (omega arith)) (from-means n (omega arith))
+      weight_min (least_up_to n states all xs) (from_state states all xs n) ∙ ap₂ (lesser ℕ_sum) (least_means n (omega arith)) (from_means n (omega arith))
 
   pub lookup_means : weight_of (least_up_to c.states states all xs) ≡ lookup ℕ_sum table t
   unfolding lookup

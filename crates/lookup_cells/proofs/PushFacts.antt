@@ -123,37 +123,37 @@ module _ (tapes e : ℕ) (arcs text : List ℕ) (s : Spot) where
   module _ (by k₁ k₂ source target weight x : ℕ) (changed : Bool) (u w : List ℕ) (k : back_by tapes e arcs text s ≡ some by) (c₁ : k₁ ≡ source_of arcs e) (c₂ : source ≡ k₁ * s.all + (s.number - by))
       (c₃ : k₂ ≡ target_of arcs e) (c₄ : target ≡ k₂ * s.all + s.number) (c₅ : weight ≡ arc_weight arcs e) (c₆ : x ≡ get_or (cells_of w) target 0)
       (l : Lowers source (weight + x) changed u w) where
-    moved-cells : cells_of u ≡ pushed tapes e arcs text s (cells_of w)
+    moved_cells : cells_of u ≡ pushed tapes e arcs text s (cells_of w)
     unfolding pushed
-    moved-cells = l.cells_are ∙ rw (k, c₂, c₁, c₆, c₄, c₃, c₅)
+    moved_cells = l.cells_are ∙ rw (k, c₂, c₁, c₆, c₄, c₃, c₅)
 
     no_more_of : (b₂ : Bool) → Trend b₂ (cells_of u) (cells_of w) → sum (cells_of u) ≤ sum (cells_of w)
     no_more_of true t = omega (arith, t.less refl)
     no_more_of false t = omega (arith, ap sum (t.still refl))
 
-    other-stays : (j : ℕ) → j ≢ source → get_or (cells_of u) j 0 ≡ get_or (cells_of w) j 0
-    other-stays j ne = ap (λ (xs : List ℕ). get_or xs j 0) l.cells_are ∙ lowered_other source (weight + x) (cells_of w) j ne
+    other_stays : (j : ℕ) → j ≢ source → get_or (cells_of u) j 0 ≡ get_or (cells_of w) j 0
+    other_stays j ne = ap (λ (xs : List ℕ). get_or xs j 0) l.cells_are ∙ lowered_other source (weight + x) (cells_of w) j ne
 
     -- one with a symbol leaves the numbers at the combination
-    pub visits-back : by ≢ 0 → by ≤ s.number → s.number < s.all → Visits tapes e arcs text s false u w
-    visits-back some-by le small = record {
-      cells_are = moved-cells;
+    pub visits_back : by ≢ 0 → by ≤ s.number → s.number < s.all → Visits tapes e arcs text s false u w
+    visits_back some-by le small = record {
+      cells_are = moved_cells;
       same_length = l.same_length;
       no_more = no_more_of changed l.trend;
       less = λ c. absurd (false≢true c);
-      stays = λ q c. other-stays (cell_at s q) (λ same.
+      stays = λ q c. other_stays (cell_at s q) (λ same.
           let (i, j) = digits-≡ s.all q s.number k₁ (s.number - by) small (omega arith) (same ∙ c₂) in some-by (omega (arith, j)));
     }
 
     -- one without
-    pub visits-here : by ≡ 0 → s.number < s.all → Visits tapes e arcs text s changed u w
-    visits-here no-by small = record {
-      cells_are = moved-cells;
+    pub visits_here : by ≡ 0 → s.number < s.all → Visits tapes e arcs text s changed u w
+    visits_here no-by small = record {
+      cells_are = moved_cells;
       same_length = l.same_length;
       no_more = no_more_of changed l.trend;
       less = l.trend.less;
       stays = λ q. ⊎_elim (λ z. ap (λ (xs : List ℕ). get_or xs (cell_at s q) 0) (l.trend.still z)) (λ ne.
-          other-stays (cell_at s q) (λ same.
+          other_stays (cell_at s q) (λ same.
           let (i, j) = digits-≡ s.all q s.number k₁ (s.number - by) small (omega arith) (same ∙ c₂) in ne (i ∙ c₁)));
     }
 
@@ -216,11 +216,11 @@ module _ (c : Counts) (arcs text : List ℕ) (s : Spot) where
   pub reach_rest : Ready c arcs text s → s.number < s.all → (xs ys : List ℕ) → Pushed c arcs text s xs ys → (j : ℕ) → c.states * s.all ≤ j → get_or ys j 0 ≡ get_or xs j 0
   unfolding pushed
   reach_rest ready small xs ys start j out = refl
-  reach_rest ready small xs ys (more {ys = vs} e lt q) j out = pushed-rest (back_by c.tapes e arcs text s) ∙ reach_rest ready small xs vs q j out
+  reach_rest ready small xs ys (more {ys = vs} e lt q) j out = pushed_rest (back_by c.tapes e arcs text s) ∙ reach_rest ready small xs vs q j out
     where
-      pushed-rest : (o : Option ℕ) → get_or (passed o (source_of arcs e) (target_of arcs e) (arc_weight arcs e) s vs) j 0 ≡ get_or vs j 0
-      pushed-rest none = refl
-      pushed-rest (some k) = lowered_other (cell_back s (source_of arcs e) k) (arc_weight arcs e + get_or vs (cell_at s (target_of arcs e)) 0) vs j
+      pushed_rest : (o : Option ℕ) → get_or (passed o (source_of arcs e) (target_of arcs e) (arc_weight arcs e) s vs) j 0 ≡ get_or vs j 0
+      pushed_rest none = refl
+      pushed_rest (some k) = lowered_other (cell_back s (source_of arcs e) k) (arc_weight arcs e + get_or vs (cell_at s (target_of arcs e)) 0) vs j
           (λ same. omega (arith, same, out, digits_lt {q = source_of arcs e} {m = c.states} {r = s.number - k} {c = s.all} (ready.each e lt).source (omega arith)))
 
   pub spreads_none : (w m : List ℕ) → Queue m → Spreads c arcs text s w w m m
@@ -250,8 +250,8 @@ module _ (c : Counts) (arcs text : List ℕ) (s : Spot) where
         → (f : ℕ) → f < c.arcs → (Done c.tapes f arcs text s m (cells_of w)) ⊎ ((e ≤ f) × (target_of arcs f ≡ q))
 
   module _ (index : List ℕ) (ch : Chained (target_of arcs) c.arcs index) (q : ℕ) (small : q < 1024) (v a : List ℕ) where
-    pub chaining-start : (e : ℕ) → Queue a → e ≡ first_of index q → Chaining q v a e v a
-    chaining-start e lined i = record {
+    pub chaining_start : (e : ℕ) → Queue a → e ≡ first_of index q → Chaining q v a e v a
+    chaining_start e lined i = record {
       spreads = spreads_none v a lined;
       in_chain = λ lt. ap (target_of arcs) i ∙ ch.first_is q small (omega (arith, i));
       settles = λ h f lt. go h f lt (ℕ_discrete (target_of arcs f) q) (dec_le e f);
@@ -264,8 +264,8 @@ module _ (c : Counts) (arcs text : List ℕ) (s : Spot) where
         go h f lt (yes own) (no gt) = absurd (ch.first-none q small f (omega arith) lt (omega (arith, i)) own)
 
     module _ (e : ℕ) (w m : List ℕ) (g : Chaining q v a e w m) where
-      pub chaining-turn : (x : ℕ) (u n : List ℕ) → e < c.arcs → x ≡ next_of index e → Pushes c arcs text s e u w n m → Chaining q v a x u n
-      chaining-turn x u n lt i p = record {
+      pub chaining_turn : (x : ℕ) (u n : List ℕ) → e < c.arcs → x ≡ next_of index e → Pushes c arcs text s e u w n m → Chaining q v a x u n
+      chaining_turn x u n lt i p = record {
         spreads = spreads_join v w u a m n g.spreads p.spreads;
         in_chain = λ more_left. ap (target_of arcs) i ∙ ch.next_is e (omega arith) lt (omega (arith, i)) ∙ g.in_chain lt;
         settles = λ h f in_all. go f in_all (ℕ_discrete f e) (dec_le x f) (g.settles h f in_all);
@@ -279,8 +279,8 @@ module _ (c : Counts) (arcs text : List ℕ) (s : Spot) where
           go f in_all (no other) (no gt) (inr k) =
               absurd (ch.next_none e (omega arith) lt f (omega (arith, k.0, other)) in_all (omega (arith, i)) (k.1 ∙ sym (g.in_chain lt)))
 
-      pub chaining-end : c.arcs ≤ e → PushesAll c arcs text s q w v m a
-      chaining-end out = record {
+      pub chaining_end : c.arcs ≤ e → PushesAll c arcs text s q w v m a
+      chaining_end out = record {
         spreads = g.spreads;
         settles = λ h f lt. ⊎_elim (λ d. d) (λ k. absurd (omega (arith, k.0))) (g.settles h f lt);
       }
@@ -296,13 +296,13 @@ module _ (c : Counts) (arcs text : List ℕ) (s : Spot) where
     pub settles : AllDone c arcs text s m w
 
   module _ (v a : List ℕ) where
-    pub settling-start : Queue a → AllDone c arcs text s a v → Settling v a v a
-    settling-start g h = record { reach = start; same_length = refl; same_queue = refl; lined = g; settles = h }
+    pub settling_start : Queue a → AllDone c arcs text s a v → Settling v a v a
+    settling_start g h = record { reach = start; same_length = refl; same_queue = refl; lined = g; settles = h }
 
     module _ (w m : List ℕ) (g : Settling v a w m) (ready : Ready c arcs text s) where
       -- the first state and the arcs into it
-      pub settling-turn : (p : ℕ) (n₁ u n : List ℕ) → Dequeues p n₁ m → PushesAll c arcs text s p u w n n₁ → Settling v a u n
-      settling-turn p n₁ u n d k = record {
+      pub settling_turn : (p : ℕ) (n₁ u n : List ℕ) → Dequeues p n₁ m → PushesAll c arcs text s p u w n n₁ → Settling v a u n
+      settling_turn p n₁ u n d k = record {
         reach = pushed-join (cells_of v) (cells_of w) (cells_of u) g.reach k.spreads.reach;
         same_length = k.spreads.same_length ∙ g.same_length;
         same_queue = k.spreads.same_queue ∙ d.same_length ∙ g.same_queue;
@@ -313,11 +313,11 @@ module _ (c : Counts) (arcs text : List ℕ) (s : Spot) where
           keep : (f : ℕ) → target_of arcs f < 1024 → target_of arcs f ≢ p → Done c.tapes f arcs text s m (cells_of w) → Done c.tapes f arcs text s n₁ (cells_of w)
           keep f below other = ⊎_elim (λ h. inl (d.keeps (target_of arcs f) below other h)) inr
 
-      pub settling-less : (p : ℕ) (n₁ u n : List ℕ) → Dequeues p n₁ m → PushesAll c arcs text s p u w n n₁ → to_do n (cells_of u) < to_do m (cells_of w)
-      settling-less p n₁ u n d k = omega (arith, k.spreads.no_more, d.one_less)
+      pub settling_less : (p : ℕ) (n₁ u n : List ℕ) → Dequeues p n₁ m → PushesAll c arcs text s p u w n n₁ → to_do n (cells_of u) < to_do m (cells_of w)
+      settling_less p n₁ u n d k = omega (arith, k.spreads.no_more, d.one_less)
 
-      pub settling-end : count_of m ≡ 0 → Settles c arcs text s w v
-      settling-end none-wait = record {
+      pub settling_end : count_of m ≡ 0 → Settles c arcs text s w v
+      settling_end none-wait = record {
         reach = g.reach;
         same_length = g.same_length;
         still = λ f lt.
@@ -343,15 +343,15 @@ module _ (states : ℕ) (s : Spot) (work a : List ℕ) where
   reaching-start g = record { same_queue = refl; lined = g; in_all = omega arith; each = λ p lt. absurd (omega arith) }
 
   module _ (q : ℕ) (m : List ℕ) (g : Reaching states s work a q m) (lt : q < states) where
-    pub reaching-skip : (k x : ℕ) → k ≡ cell_at s q → x ≡ get_or (cells_of work) k 0 → far ≤ x → Reaching states s work a (q + 1) m
-    reaching-skip k x i j le = record { same_queue = g.same_queue; lined = g.lined; in_all = omega arith; each = λ p l. go p l (ℕ_discrete p q) }
+    pub reaching_skip : (k x : ℕ) → k ≡ cell_at s q → x ≡ get_or (cells_of work) k 0 → far ≤ x → Reaching states s work a (q + 1) m
+    reaching_skip k x i j le = record { same_queue = g.same_queue; lined = g.lined; in_all = omega arith; each = λ p l. go p l (ℕ_discrete p q) }
       where
         go : (p : ℕ) → p < q + 1 → Dec (p ≡ q) → (0 < get_or m p 0) ⊎ (far ≤ get_or (cells_of work) (cell_at s p) 0)
         go p l (yes same) = inr (omega (arith, le, j ∙ ap (λ (z : ℕ). get_or (cells_of work) z 0) i, ap (λ (z : ℕ). get_or (cells_of work) (cell_at s z) 0) same))
         go p l (no other) = g.each p (omega arith)
 
-    pub reaching-take : (n : List ℕ) → states ≤ 1024 → Enqueues q n m → Reaching states s work a (q + 1) n
-    reaching-take n few e = record {
+    pub reaching_take : (n : List ℕ) → states ≤ 1024 → Enqueues q n m → Reaching states s work a (q + 1) n
+    reaching_take n few e = record {
       same_queue = e.same_length ∙ g.same_queue;
       lined = e.queue;
       in_all = omega arith;

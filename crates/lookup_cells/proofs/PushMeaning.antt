@@ -21,7 +21,7 @@ use Rattle.automata.specs.Layout.{arc_size, label_size}
 use Rattle.table.specs.Answers.{lent}
 use Rattle.table.specs.Records.{label_as, label_at, labels_at, content_at, arc_at, arc_as, Padded}
 use Rattle.table.specs.declared.answer.Counts.{Counts}
-use Rattle.table.proofs.SoundFacts.{few_tapes, few_states, few_arcs, arcs_lent_lem, arc-loaded, arc-canonical, arc-source, arc_target}
+use Rattle.table.proofs.SoundFacts.{few_tapes, few_states, few_arcs, arcs_lent_lem, arc_loaded, arc_canonical, arc_source, arc_target}
 use Rattle.table.specs.declared.record.Label.{Label}
 use Rattle.lookup_moves.specs.declared.spot.Spot.{Spot}
 use Rattle.lookup_moves.specs.Moves.{Laid, Labelled, Spotted}
@@ -70,69 +70,69 @@ module _ (c : Counts) (states arcs text : List ℕ) (sound : Sound (lent c state
     abbrev arc : Arc ℕ
     arc = arc_as c.tapes (arc_at (arc_size * e) arcs)
 
-    arc-at : get_elem? table.arcs e ≡ some arc
-    arc-at = arc-loaded (lent c states arcs) sound e lt
+    arc_at_lem : get_elem? table.arcs e ≡ some arc
+    arc_at_lem = arc_loaded (lent c states arcs) sound e lt
 
-    arc-labelled : Labelled arcs (labels_start (arc_size * e))
+    arc_labelled : Labelled arcs (labels_start (arc_size * e))
     unfolding arc_at content_at
-    arc-labelled = record {
+    arc_labelled = record {
       lent = omega (arith, arcs_lent_lem (lent c states arcs) sound);
       short = labels_short 8 (labels_start (arc_size * e)) arcs
-          (subst (λ (k : ℕ). All Padded (labels_at 8 k arcs)) (add_assoc (arc_size * e) 4 4) (arc-canonical (lent c states arcs) sound e lt).padded);
+          (subst (λ (k : ℕ). All Padded (labels_at 8 k arcs)) (add_assoc (arc_size * e) 4 4) (arc_canonical (lent c states arcs) sound e lt).padded);
     }
 
-    pub arc-labels : labelled c.tapes (labels_start (arc_size * e)) arcs ≡ arc.labels
+    pub arc_labels : labelled c.tapes (labels_start (arc_size * e)) arcs ≡ arc.labels
     unfolding arc_at content_at
-    arc-labels =
+    arc_labels =
         ap (map label_as) (sym (take_labels c.tapes 8 (labels_start (arc_size * e)) arcs (few_tapes (lent c states arcs) sound))
         ∙ ap (λ (k : ℕ). take c.tapes (labels_at 8 k arcs)) (sym (add_assoc (arc_size * e) 4 4)))
 
-    arc-spotted : Positions ps t × Spotted text s 0 ps t × (labels_start (arc_size * e) + label_size * c.tapes ≤ length arcs) × ((i : ℕ) → i < c.tapes → get_or arcs (labels_start (arc_size * e) + label_size * i) 0 ≤ 8)
-    arc-spotted =
+    arc_spotted : Positions ps t × Spotted text s 0 ps t × (labels_start (arc_size * e) + label_size * c.tapes ≤ length arcs) × ((i : ℕ) → i < c.tapes → get_or arcs (labels_start (arc_size * e) + label_size * i) 0 ≤ 8)
+    arc_spotted =
         let f = few_tapes (lent c states arcs) sound in
-        (spot.positions, spot.spotted, omega (arith, arc-labelled.lent, f), λ i h. arc-labelled.short i (omega (arith, f)))
+        (spot.positions, spot.spotted, omega (arith, arc_labelled.lent, f), λ i h. arc_labelled.short i (omega (arith, f)))
 
     -- where its labels end at the combination, they lead there from an earlier one
-    pub arc-before : (k : ℕ) → back_by c.tapes e arcs text s ≡ some k → Before arc.labels t ps k
-    arc-before k f =
-        let (pos, sp, room, short) = arc-spotted in
+    pub arc_before : (k : ℕ) → back_by c.tapes e arcs text s ≡ some k → Before arc.labels t ps k
+    arc_before k f =
+        let (pos, sp, room, short) = arc_spotted in
         let (i, j, b) = moves_sound c.tapes 0 (labels_start (arc_size * e)) 0 arcs text s ps t tapes-are pos sp room short k f in
         let z : i ≡ k = omega (arith, j) in
-        subst (λ (n : ℕ). Before arc.labels t ps n) z (subst (λ (ls : List (List ℕ)). Before ls t ps i) arc-labels b)
+        subst (λ (n : ℕ). Before arc.labels t ps n) z (subst (λ (ls : List (List ℕ)). Before ls t ps i) arc_labels b)
 
     -- and the other way round
-    pub arc-back : (ps' : List ℕ) (rest : Tuple) → Positions ps' t → moved ps' arc.labels ≡ ps → left_quotients arc.labels (drop_all ps' t) ≡ some rest
+    pub arc_back : (ps' : List ℕ) (rest : Tuple) → Positions ps' t → moved ps' arc.labels ≡ ps → left_quotients arc.labels (drop_all ps' t) ≡ some rest
         → back_by c.tapes e arcs text s ≡ some (shift arc.labels t)
-    arc-back ps' rest pos' m q =
-        let (pos, sp, room, short) = arc-spotted in
+    arc_back ps' rest pos' m q =
+        let (pos, sp, room, short) = arc_spotted in
         let z : 0 + shift (labelled c.tapes (labels_start (arc_size * e)) arcs) t ≡ shift arc.labels t
-        = zero-add (shift (labelled c.tapes (labels_start (arc_size * e)) arcs) t) ∙ ap (λ (ls : List (List ℕ)). shift ls t) arc-labels in
+        = zero-add (shift (labelled c.tapes (labels_start (arc_size * e)) arcs) t) ∙ ap (λ (ls : List (List ℕ)). shift ls t) arc_labels in
         moves_complete c.tapes 0 (labels_start (arc_size * e)) 0 arcs text s ps t tapes-are pos sp room short ps' rest pos'
-        (ap (moved ps') arc-labels ∙ m) (ap (λ (ls : List (List ℕ)). left_quotients ls (drop_all ps' t)) arc-labels ∙ q) ∙ ap some z
+        (ap (moved ps') arc_labels ∙ m) (ap (λ (ls : List (List ℕ)). left_quotients ls (drop_all ps' t)) arc_labels ∙ q) ∙ ap some z
 
     module _ (k : ℕ) (b : Before arc.labels t ps k) where
       -- so far back is the earlier one
-      number-back : s.number ≡ place b.earlier t + k
-      number-back =
+      number_back : s.number ≡ place b.earlier t + k
+      number_back =
           let m : place (moved b.earlier arc.labels) t ≡ place ps t = ap (λ (z : List ℕ). place z t) b.leads in
           omega (arith, m, place-moved b.earlier arc.labels t b.positions, b.by_is, spot.number_is)
 
-      cell-back : cell_back s (source_of arcs e) k ≡ cell (source_of arcs e) b.earlier t
-      cell-back =
-          let z : s.number - k ≡ place b.earlier t = omega (arith, number-back) in
+      cell_back_lem : cell_back s (source_of arcs e) k ≡ cell (source_of arcs e) b.earlier t
+      cell_back_lem =
+          let z : s.number - k ≡ place b.earlier t = omega (arith, number_back) in
           ap₂ (λ (x y : ℕ). source_of arcs e * x + y) spot.all_is z
 
-    cell-here : (q : ℕ) → cell_at s q ≡ cell q ps t
-    cell-here q = ap₂ (λ (x y : ℕ). q * x + y) spot.all_is spot.number_is
+    cell_here : (q : ℕ) → cell_at s q ≡ cell q ps t
+    cell_here q = ap₂ (λ (x y : ℕ). q * x + y) spot.all_is spot.number_is
 
-    arc-passable : Passable c.tapes c.states e arcs text s
+    arc_passable : Passable c.tapes c.states e arcs text s
     unfolding arc_at content_at
-    arc-passable = record {
-      labelled = arc-labelled;
-      source = arc-source (lent c states arcs) sound e lt;
+    arc_passable = record {
+      labelled = arc_labelled;
+      source = arc_source (lent c states arcs) sound e lt;
       target = arc_target (lent c states arcs) sound e lt;
-      light = (weights_bounded table (sound_well_formed (lent c states arcs) sound)).weights e arc arc-at;
-      leads = λ k f. omega (arith, number-back k (arc-before k f));
+      light = (weights_bounded table (sound_well_formed (lent c states arcs) sound)).weights e arc arc_at_lem;
+      leads = λ k f. omega (arith, number_back k (arc_before k f));
     }
 
     -- the numbers after it
@@ -142,23 +142,23 @@ module _ (c : Counts) (states arcs text : List ℕ) (sound : Sound (lent c state
     unfolding pushed arc_at content_at
     pushed-through xs k f b =
         ap (λ (o : Option ℕ). passed o (source_of arcs e) (target_of arcs e) (arc_weight arcs e) s xs) f
-        ∙ ap₂ (λ (i j : ℕ). lowered i (arc_weight arcs e + get_or xs j 0) xs) (cell-back k b)
-        (cell-here (target_of arcs e) ∙ ap (λ (z : List ℕ). cell (target_of arcs e) z t) (sym b.leads))
+        ∙ ap₂ (λ (i j : ℕ). lowered i (arc_weight arcs e + get_or xs j 0) xs) (cell_back_lem k b)
+        (cell_here (target_of arcs e) ∙ ap (λ (z : List ℕ). cell (target_of arcs e) z t) (sym b.leads))
 
-    pushed-not : (xs : List ℕ) → back_by c.tapes e arcs text s ≡ none → pushed c.tapes e arcs text s xs ≡ xs
+    pushed_not : (xs : List ℕ) → back_by c.tapes e arcs text s ≡ none → pushed c.tapes e arcs text s xs ≡ xs
     unfolding pushed
-    pushed-not xs f = ap (λ (o : Option ℕ). passed o (source_of arcs e) (target_of arcs e) (arc_weight arcs e) s xs) f
+    pushed_not xs f = ap (λ (o : Option ℕ). passed o (source_of arcs e) (target_of arcs e) (arc_weight arcs e) s xs) f
 
     -- it can lower nothing
-    still-means : (xs : List ℕ) → Still c.tapes e arcs text s xs → (ps' : List ℕ) (rest : Tuple) → Positions ps' t → moved ps' arc.labels ≡ ps
+    still_means : (xs : List ℕ) → Still c.tapes e arcs text s xs → (ps' : List ℕ) (rest : Tuple) → Positions ps' t → moved ps' arc.labels ≡ ps
         → left_quotients arc.labels (drop_all ps' t) ≡ some rest → val table t xs arc.source ps' ≤ arc.weight + val table t xs arc.target ps
     unfolding arc_at content_at
-    still-means xs h ps' rest pos' m q =
+    still_means xs h ps' rest pos' m q =
         let k : ℕ = shift arc.labels t in
         let f : place (moved ps' arc.labels) t ≡ place ps t = ap (λ (z : List ℕ). place z t) m in
         let z : s.number - k ≡ place ps' t = omega (arith, f, place-moved ps' arc.labels t pos', spot.number_is) in
         let i : cell_back s (source_of arcs e) k ≡ cell (source_of arcs e) ps' t = ap₂ (λ (x y : ℕ). source_of arcs e * x + y) spot.all_is z in
-        omega (arith, h k (arc-back ps' rest pos' m q), ap (λ (j : ℕ). get_or xs j 0) i, ap (λ (j : ℕ). get_or xs j 0) (cell-here (target_of arcs e)))
+        omega (arith, h k (arc_back ps' rest pos' m q), ap (λ (j : ℕ). get_or xs j 0) i, ap (λ (j : ℕ). get_or xs j 0) (cell_here (target_of arcs e)))
 
   pub ready : Ready c arcs text s
   ready = record {
@@ -166,7 +166,7 @@ module _ (c : Counts) (states arcs text : List ℕ) (sound : Sound (lent c state
     lent = arcs_lent_lem (lent c states arcs) sound;
     few_arcs = few_arcs (lent c states arcs) sound;
     few_states = few_states (lent c states arcs) sound;
-    each = arc-passable;
+    each = arc_passable;
   }
 
   -- ---- arcs, one after the other
@@ -180,12 +180,12 @@ module _ (c : Counts) (states arcs text : List ℕ) (sound : Sound (lent c state
   pushed_keeps e lt xs (room, d) = (omega (arith, room, pushed_length c.tapes e arcs text s xs), go (back_by c.tapes e arcs text s) refl)
     where
       go : (o : Option ℕ) → back_by c.tapes e arcs text s ≡ o → Distances table t (pushed c.tapes e arcs text s xs) (suc (place ps t))
-      go none f = subst (λ (ys : List ℕ). Distances table t ys (suc (place ps t))) (sym (pushed-not e lt xs f)) d
+      go none f = subst (λ (ys : List ℕ). Distances table t ys (suc (place ps t))) (sym (pushed_not e lt xs f)) d
       go (some k) f =
-          let b = arc-before e lt k f in
+          let b = arc_before e lt k f in
           let m : place (moved b.earlier (arc e lt).labels) t ≡ place ps t = ap (λ (z : List ℕ). place z t) b.leads in
           subst (λ (ys : List ℕ). Distances table t ys (suc (place ps t))) (sym (pushed-through e lt xs k f b))
-          (arc_keeps table table-within t b.earlier b.positions xs room (suc (place ps t)) d e (arc e lt) (arc-at e lt) (drop_all ps t) b.quotient (omega (arith, m)))
+          (arc_keeps table table-within t b.earlier b.positions xs room (suc (place ps t)) d e (arc e lt) (arc_at_lem e lt) (drop_all ps t) b.quotient (omega (arith, m)))
 
   reach_keeps : (xs ys : List ℕ) → Pushed c arcs text s xs ys → Kept xs → Kept ys
   reach_keeps xs ys start k = k
@@ -203,8 +203,8 @@ module _ (c : Counts) (states arcs text : List ℕ) (sound : Sound (lent c state
           → val table t (cells_of u) a.source ps₂ ≤ a.weight + val table t (cells_of u) a.target ps
       each e a at ps₂ pos₂ m rest g =
           let lt : e < c.arcs = omega (arith, place_bound table.arcs e at, (sound_holds (lent c states arcs) sound).arcs) in
-          let same : arc e lt ≡ a = some-injective (arc e lt) a (sym (arc-at e lt) ∙ at) in
+          let same : arc e lt ≡ a = some-injective (arc e lt) a (sym (arc_at_lem e lt) ∙ at) in
           subst (λ (z : Arc ℕ). val table t (cells_of u) z.source ps₂ ≤ z.weight + val table t (cells_of u) z.target ps) same
-          (still-means e lt (cells_of u) (st.still e lt) ps₂ rest pos₂
+          (still_means e lt (cells_of u) (st.still e lt) ps₂ rest pos₂
           (subst (λ (z : Arc ℕ). moved ps₂ z.labels ≡ ps) (sym same) m)
           (subst (λ (z : Arc ℕ). left_quotients z.labels (drop_all ps₂ t) ≡ some rest) (sym same) g))

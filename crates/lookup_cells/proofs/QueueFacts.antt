@@ -58,8 +58,8 @@ module _ (p : ℕ) (m : List ℕ) (g : Queue m) (lt : p < 1024) where
   enqueues_none there = record { queue = g; same_length = refl; own = omega (arith, there); keeps = λ q l h. h; at_most = omega arith }
 
   module _ (out : get_or m p 0 ≡ 0) where
-    pub queue-room : count_of m < 1024
-    queue-room = omega (arith, marked-room 1024 p m g.one lt out, g.few)
+    pub queue_room : count_of m < 1024
+    queue_room = omega (arith, marked-room 1024 p m g.one lt out, g.few)
 
     abbrev at : ℕ
     at = place_of m (count_of m)
@@ -82,21 +82,21 @@ module _ (p : ℕ) (m : List ℕ) (g : Queue m) (lt : p < 1024) where
     other : (j : ℕ) → j ≢ at → j ≢ p → j ≢ 2049 → get_or n j 0 ≡ get_or m j 0
     other j a b c = get_or-set_other n₂ 2049 j (count_of m + 1) 0 c ∙ get_or-set_other n₁ p j 1 0 b ∙ get_or-set_other m at j p 0 a
 
-    begin-is : begin_of n ≡ begin_of m
-    begin-is = other 2048 (λ same. omega (arith, same)) (λ same. omega (arith, same)) (λ same. omega (arith, same))
+    begin_is : begin_of n ≡ begin_of m
+    begin_is = other 2048 (λ same. omega (arith, same)) (λ same. omega (arith, same)) (λ same. omega (arith, same))
 
-    count-is : count_of n ≡ count_of m + 1
+    count_is : count_of n ≡ count_of m + 1
     count_is = get_or-set_same n₂ 2049 (count_of m + 1) 0 (omega (arith, size₂))
 
     own_is : get_or n p 0 ≡ 1
     own_is = get_or-set_other n₂ 2049 p (count_of m + 1) 0 (λ same. omega (arith, same)) ∙ get_or-set_same n₁ p 1 0 (omega (arith, size₁))
 
-    last-is : get_or n at 0 ≡ p
-    last-is = get_or-set_other n₂ 2049 at (count_of m + 1) 0 (λ same. omega (arith, same)) ∙ get_or-set_other n₁ p at 1 0 (λ same. omega (arith, same))
+    last_is : get_or n at 0 ≡ p
+    last_is = get_or-set_other n₂ 2049 at (count_of m + 1) 0 (λ same. omega (arith, same)) ∙ get_or-set_other n₁ p at 1 0 (λ same. omega (arith, same))
         ∙ get_or-set_same m at p 0 (omega (arith, g.size_is))
 
-    mark-other : (q : ℕ) → q < 1024 → q ≢ p → get_or n q 0 ≡ get_or m q 0
-    mark-other q l ne = other q (λ same. omega (arith, same)) ne (λ same. omega (arith, same))
+    mark_other : (q : ℕ) → q < 1024 → q ≢ p → get_or n q 0 ≡ get_or m q 0
+    mark_other q l ne = other q (λ same. omega (arith, same)) ne (λ same. omega (arith, same))
 
     marked_more : marked 1024 n ≡ marked 1024 m + 1
     marked_more = omega (
@@ -109,48 +109,48 @@ module _ (p : ℕ) (m : List ℕ) (g : Queue m) (lt : p < 1024) where
     )
 
     place_same : (i : ℕ) → place_of n i ≡ place_of m i
-    place_same i = ap (λ (b : ℕ). 1024 + (b + i) % 1024) begin-is
+    place_same i = ap (λ (b : ℕ). 1024 + (b + i) % 1024) begin_is
 
-    waits-more : (q : ℕ) → q < 1024 → 0 < get_or n q 0 → Dec (q ≡ p) → Waits n q
-    waits-more q l h (yes same) = record {
+    waits_more : (q : ℕ) → q < 1024 → 0 < get_or n q 0 → Dec (q ≡ p) → Waits n q
+    waits_more q l h (yes same) = record {
       turn = count_of m;
-      within = omega (arith, count-is);
-      there = ap (λ (j : ℕ). get_or n j 0) (place_same (count_of m)) ∙ last-is ∙ sym same;
+      within = omega (arith, count_is);
+      there = ap (λ (j : ℕ). get_or n j 0) (place_same (count_of m)) ∙ last_is ∙ sym same;
     }
-    waits-more q l h (no ne) =
-        let w = g.waits q l (omega (arith, h, mark-other q l ne)) in record {
+    waits_more q l h (no ne) =
+        let w = g.waits q l (omega (arith, h, mark_other q l ne)) in record {
           turn = w.turn;
-          within = omega (arith, w.within, count-is);
+          within = omega (arith, w.within, count_is);
           there = ap (λ (j : ℕ). get_or n j 0) (place_same w.turn)
-              ∙ other (place_of m w.turn) (λ same. omega (arith, same, w.within, queue-room)) (λ same. omega (arith, same)) (λ same. omega (arith, same)) ∙ w.there;
+              ∙ other (place_of m w.turn) (λ same. omega (arith, same, w.within, queue_room)) (λ same. omega (arith, same)) (λ same. omega (arith, same)) ∙ w.there;
         }
 
     one_each : (q : ℕ) → q < 1024 → Dec (q ≡ p) → get_or n q 0 ≤ 1
     one_each q l (yes same) = omega (arith, ap (λ (j : ℕ). get_or n j 0) same, own_is)
-    one_each q l (no ne) = omega (arith, mark-other q l ne, g.one q l)
+    one_each q l (no ne) = omega (arith, mark_other q l ne, g.one q l)
 
-    states-each : (i : ℕ) → i < 1024 → Dec (1024 + i ≡ at) → get_or n (1024 + i) 0 < 1024
-    states-each i l (yes same) = omega (arith, ap (λ (j : ℕ). get_or n j 0) same, last-is)
-    states-each i l (no ne) = omega (arith, other (1024 + i) ne (λ same. omega (arith, same)) (λ same. omega (arith, same)), g.states i l)
+    states_each : (i : ℕ) → i < 1024 → Dec (1024 + i ≡ at) → get_or n (1024 + i) 0 < 1024
+    states_each i l (yes same) = omega (arith, ap (λ (j : ℕ). get_or n j 0) same, last_is)
+    states_each i l (no ne) = omega (arith, other (1024 + i) ne (λ same. omega (arith, same)) (λ same. omega (arith, same)), g.states i l)
 
-    keeps-each : (q : ℕ) → q < 1024 → 0 < get_or m q 0 → Dec (q ≡ p) → 0 < get_or n q 0
-    keeps-each q l h (yes same) = omega (arith, ap (λ (j : ℕ). get_or n j 0) same, own_is)
-    keeps-each q l h (no ne) = omega (arith, h, mark-other q l ne)
+    keeps_each : (q : ℕ) → q < 1024 → 0 < get_or m q 0 → Dec (q ≡ p) → 0 < get_or n q 0
+    keeps_each q l h (yes same) = omega (arith, ap (λ (j : ℕ). get_or n j 0) same, own_is)
+    keeps_each q l h (no ne) = omega (arith, h, mark_other q l ne)
 
-    pub enqueues-appended : (z : List ℕ) → z ≡ appended p m → Enqueues p z m
-    enqueues-appended z i = subst (λ (y : List ℕ). Enqueues p y m) (sym i) (record {
+    pub enqueues_appended : (z : List ℕ) → z ≡ appended p m → Enqueues p z m
+    enqueues_appended z i = subst (λ (y : List ℕ). Enqueues p y m) (sym i) (record {
       queue = record {
         size_is = length-set n₂ 2049 (count_of m + 1) ∙ size₂;
-        begins = omega (arith, begin-is, g.begins);
+        begins = omega (arith, begin_is, g.begins);
         one = λ q l. one_each q l (ℕ_discrete q p);
-        few = omega (arith, count-is, marked_more, g.few);
-        states = λ i l. states-each i l (ℕ_discrete (1024 + i) at);
-        waits = λ q l h. waits-more q l h (ℕ_discrete q p);
+        few = omega (arith, count_is, marked_more, g.few);
+        states = λ i l. states_each i l (ℕ_discrete (1024 + i) at);
+        waits = λ q l h. waits_more q l h (ℕ_discrete q p);
       };
       same_length = length-set n₂ 2049 (count_of m + 1) ∙ size₂ ∙ sym g.size_is;
       own = omega (arith, own_is);
-      keeps = λ q l h. keeps-each q l h (ℕ_discrete q p);
-      at_most = omega (arith, count-is);
+      keeps = λ q l h. keeps_each q l h (ℕ_discrete q p);
+      at_most = omega (arith, count_is);
     })
 
 -- ---- none
@@ -167,13 +167,13 @@ pub queue_none : (m : List ℕ) → m ≡ replicate 2050 0 → Queue m
 queue_none m e = subst Queue (sym e) (record {
   size_is = refl;
   begins = omega arith;
-  one = λ q l. omega (arith, zero-at 2050 q);
+  one = λ q l. omega (arith, zero_at 2050 q);
   few = omega arith;
-  states = λ i l. omega (arith, zero-at 2050 (1024 + i));
-  waits = λ q l h. absurd (omega (arith, h, zero-at 2050 q));
+  states = λ i l. omega (arith, zero_at 2050 (1024 + i));
+  waits = λ q l h. absurd (omega (arith, h, zero_at 2050 q));
 })
   where
-    zero-at : (k q : ℕ) → get_or (replicate {A = ℕ} k 0) q 0 ≡ 0
-    zero-at zero q = refl
-    zero-at (suc k) zero = refl
-    zero-at (suc k) (suc q) = zero-at k q
+    zero_at : (k q : ℕ) → get_or (replicate {A = ℕ} k 0) q 0 ≡ 0
+    zero_at zero q = refl
+    zero_at (suc k) zero = refl
+    zero_at (suc k) (suc q) = zero_at k q

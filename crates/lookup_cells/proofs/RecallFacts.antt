@@ -77,49 +77,49 @@ module _ (number n : ℕ) (back : ℕ → Option ℕ) (numbers memo : List ℕ) 
 
   -- an answer that is kept
   module _ (x : ℕ) (found : x ≡ back_number (back e)) (alike : (f : ℕ) → f < n → get_or numbers f 0 ≡ k → back f ≡ back e) where
-    with-answer : List ℕ
-    with-answer = set memo (1024 + k) x
+    with_answer : List ℕ
+    with_answer = set memo (1024 + k) x
 
-    answer-size : length with-answer ≡ 2048
-    unfolding with-answer
-    answer-size = length-set memo (1024 + k) x ∙ h.fresh.size_is
+    answer_size : length with_answer ≡ 2048
+    unfolding with_answer
+    answer_size = length-set memo (1024 + k) x ∙ h.fresh.size_is
 
     kept : List ℕ
-    kept = set with-answer k number
+    kept = set with_answer k number
 
-    asked-own : get_or kept k 0 ≡ number
+    asked_own : get_or kept k 0 ≡ number
     unfolding kept
-    asked-own = get_or-set_same with-answer k number 0 (omega (arith, answer-size, small))
+    asked_own = get_or-set_same with_answer k number 0 (omega (arith, answer_size, small))
 
-    asked-other : (j : ℕ) → j < 1024 → j ≢ k → get_or kept j 0 ≡ get_or memo j 0
-    unfolding kept with-answer
-    asked-other j lt ne =
-        get_or-set_other with-answer k j number 0 ne ∙ get_or-set_other memo (1024 + k) j x 0 (λ same. omega (arith, same, lt))
+    asked_other : (j : ℕ) → j < 1024 → j ≢ k → get_or kept j 0 ≡ get_or memo j 0
+    unfolding kept with_answer
+    asked_other j lt ne =
+        get_or-set_other with_answer k j number 0 ne ∙ get_or-set_other memo (1024 + k) j x 0 (λ same. omega (arith, same, lt))
 
-    answer-own : get_or kept (1024 + k) 0 ≡ x
-    unfolding kept with-answer
-    answer-own = get_or-set_other with-answer k (1024 + k) number 0 (λ same. omega (arith, same))
+    answer_own : get_or kept (1024 + k) 0 ≡ x
+    unfolding kept with_answer
+    answer_own = get_or-set_other with_answer k (1024 + k) number 0 (λ same. omega (arith, same))
         ∙ get_or-set_same memo (1024 + k) x 0 (omega (arith, h.fresh.size_is, small))
 
-    answer-other : (j : ℕ) → j < 1024 → j ≢ k → get_or kept (1024 + j) 0 ≡ get_or memo (1024 + j) 0
-    unfolding kept with-answer
-    answer-other j lt ne = get_or-set_other with-answer k (1024 + j) number 0 (λ same. omega (arith, same, small))
+    answer_other : (j : ℕ) → j < 1024 → j ≢ k → get_or kept (1024 + j) 0 ≡ get_or memo (1024 + j) 0
+    unfolding kept with_answer
+    answer_other j lt ne = get_or-set_other with_answer k (1024 + j) number 0 (λ same. omega (arith, same, small))
         ∙ get_or-set_other memo (1024 + k) (1024 + j) x 0 (λ same. ne (omega (arith, same)))
 
-    kept-asked : (j : ℕ) → j < 1024 → Dec (j ≡ k) → number ≤ get_or kept j 0
-    kept-asked j lt (yes same) = omega (arith, ap (λ (i : ℕ). get_or kept i 0) same, asked-own)
-    kept-asked j lt (no ne) = omega (arith, asked-other j lt ne, h.fresh.asked j lt)
+    kept_asked : (j : ℕ) → j < 1024 → Dec (j ≡ k) → number ≤ get_or kept j 0
+    kept_asked j lt (yes same) = omega (arith, ap (λ (i : ℕ). get_or kept i 0) same, asked_own)
+    kept_asked j lt (no ne) = omega (arith, asked_other j lt ne, h.fresh.asked j lt)
 
-    kept-each : (f : ℕ) → f < n → get_or numbers f 0 < 1024 → get_or kept (get_or numbers f 0) 0 ≡ number → Dec (get_or numbers f 0 ≡ k)
+    kept_each : (f : ℕ) → f < n → get_or numbers f 0 < 1024 → get_or kept (get_or numbers f 0) 0 ≡ number → Dec (get_or numbers f 0 ≡ k)
         → get_or kept (1024 + get_or numbers f 0) 0 ≡ back_number (back f)
-    kept-each f lt fits known (yes same) = ap (λ (i : ℕ). get_or kept (1024 + i) 0) same ∙ answer-own ∙ found ∙ sym (ap back_number (alike f lt same))
-    kept-each f lt fits known (no ne) = answer-other (get_or numbers f 0) fits ne ∙ h.each f lt fits (sym (asked-other (get_or numbers f 0) fits ne) ∙ known)
+    kept_each f lt fits known (yes same) = ap (λ (i : ℕ). get_or kept (1024 + i) 0) same ∙ answer_own ∙ found ∙ sym (ap back_number (alike f lt same))
+    kept_each f lt fits known (no ne) = answer_other (get_or numbers f 0) fits ne ∙ h.each f lt fits (sym (asked_other (get_or numbers f 0) fits ne) ∙ known)
 
-    pub recall-kept : Recalls number n back numbers (set (set memo (1024 + k) x) k number)
-    unfolding kept with-answer
-    recall-kept = record {
-      fresh = record { size_is = length-set with-answer k number ∙ answer-size; asked = λ j lt. kept-asked j lt (ℕ_discrete j k) };
-      each = λ f lt fits known. kept-each f lt fits known (ℕ_discrete (get_or numbers f 0) k);
+    pub recall_kept : Recalls number n back numbers (set (set memo (1024 + k) x) k number)
+    unfolding kept with_answer
+    recall_kept = record {
+      fresh = record { size_is = length-set with_answer k number ∙ answer_size; asked = λ j lt. kept_asked j lt (ℕ_discrete j k) };
+      each = λ f lt fits known. kept_each f lt fits known (ℕ_discrete (get_or numbers f 0) k);
     }
 
 -- arcs with the same labels lead alike

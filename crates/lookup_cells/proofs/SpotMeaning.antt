@@ -122,24 +122,24 @@ module _ (text : List ℕ) (t : Tuple) (s : Strings) (st : Stands text t s) (spa
       go (no l) = omega (arith, sp.each h (omega arith), span_drop (suc h) s.lengths, all_small)
 
   module _ (b : ℕ) (small : b < combinations t) where
-    digit-is : (j : ℕ) → j < length t → digit s spans b j ≡ get_or (digits b t) j 0
-    digit-is j lt =
+    digit_is : (j : ℕ) → j < length t → digit s spans b j ≡ get_or (digits b t) j 0
+    digit_is j lt =
         let z : get_or s.lengths j 0 + 1 ≡ suc (length (get_or t j [])) = omega (arith, st.length_is j lt) in
         ap₂ (λ (x y : ℕ). b / x % y) (span_at j (omega (arith, st.few))) z ∙ sym (get_d_digits b t j lt)
 
     start_is : (j : ℕ) → j < length t → get_or (spot_of s spans b).starts j 0 ≡ get_or s.starts j 0 + get_or (digits b t) j 0
     unfolding spot_of
     start_is j lt =
-        eight_at (λ h. get_or s.starts h 0 + digit s spans b h) j (omega (arith, st.few)) ∙ ap (λ (x : ℕ). get_or s.starts j 0 + x) (digit-is j lt)
+        eight_at (λ h. get_or s.starts h 0 + digit s spans b h) j (omega (arith, st.few)) ∙ ap (λ (x : ℕ). get_or s.starts j 0 + x) (digit_is j lt)
 
     position_is : (j : ℕ) → j < length t → get_or (spot_of s spans b).positions j 0 ≡ get_or (digits b t) j 0
     unfolding spot_of
-    position_is j lt = eight_at (λ h. digit s spans b h) j (omega (arith, st.few)) ∙ digit-is j lt
+    position_is j lt = eight_at (λ h. digit s spans b h) j (omega (arith, st.few)) ∙ digit_is j lt
 
     -- the symbols before the position
-    before-is : (j : ℕ) → j < length t → (n : ℕ) → n ≤ get_or (digits b t) j 0
+    before_is : (j : ℕ) → j < length t → (n : ℕ) → n ≤ get_or (digits b t) j 0
         → part (get_or (spot_of s spans b).starts j 0 - n) n text ≡ part (get_or (digits b t) j 0 - n) n (get_or t j [])
-    before-is j lt n le =
+    before_is j lt n le =
         let p : ℕ = get_or (digits b t) j 0 in
         let a : ℕ = get_or s.starts j 0 in
         let z : get_or (spot_of s spans b).starts j 0 - n ≡ a + (p - n) = omega (arith, start_is j lt, le) in
@@ -147,16 +147,16 @@ module _ (text : List ℕ) (t : Tuple) (s : Strings) (st : Stands text t s) (spa
         ∙ sym (part-part (p - n) n a (get_or s.lengths j 0) text (omega (arith, le, digits_le b t j lt, st.length_is j lt)))
         ∙ ap (part (p - n) n) (st.string_is j lt)
 
-    pub at-spot : AtSpot text t (spot_of s spans b) (digits b t)
+    pub at_spot : AtSpot text t (spot_of s spans b) (digits b t)
     unfolding spot_of
-    at-spot = record {
+    at_spot = record {
       positions = positions_digits b t;
       number_is = sym (place_digits b t small);
       all_is = all_at;
       spotted = record {
         span_is = λ j lt. ap (λ (i : ℕ). get_or spans.spans i 0) (add j) ∙ span_at j (omega (arith, st.few));
         position_is = λ j lt. ap (λ (i : ℕ). get_or (spot_of s spans b).positions i 0) (add j) ∙ position_is j lt;
-        before_is = λ j lt n le. ap (λ (i : ℕ). part (get_or (spot_of s spans b).starts i 0 - n) n text) (add j) ∙ before-is j lt n le;
+        before_is = λ j lt n le. ap (λ (i : ℕ). part (get_or (spot_of s spans b).starts i 0 - n) n text) (add j) ∙ before_is j lt n le;
       };
       laid = record {
         few = st.few;

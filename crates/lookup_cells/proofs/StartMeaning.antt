@@ -32,7 +32,7 @@ use Rattle.table.specs.declared.answer.Counts.{Counts}
 use Rattle.table.specs.declared.record.Weight.{Weight}
 use Rattle.table.specs.declared.record.Weight.TheVariants.{Absent, Present}
 use Rattle.table.proofs.PartFacts.{length_part, get_d_part}
-use Rattle.table.proofs.SoundFacts.{state-loaded}
+use Rattle.table.proofs.SoundFacts.{state_loaded}
 use Rattle.lookup_moves.specs.Distances.{far, cells_of, lowered, far_byte}
 use Rattle.lookup_cells.specs.Ends.{ended_by, started, started_from}
 use Rattle.lookup_moves.proofs.CellFacts.{cells_get, length_cells}
@@ -123,15 +123,15 @@ module _ (c : Counts) (states arcs : List ℕ) (sound : Sound (lent c states arc
       }
 
   module _ (q : ℕ) (lt : q < c.states) (xs : List ℕ) (b : Begun q xs) where
-    final-is : final_of table q ≡ option_of (state_at (state_size * q) states).last
-    final-is = ap (λ o. bind o (λ s. s.final)) (state-loaded (lent c states arcs) sound q lt)
+    final_is : final_of table q ≡ option_of (state_at (state_size * q) states).last
+    final_is = ap (λ o. bind o (λ s. s.final)) (state_loaded (lent c states arcs) sound q lt)
 
     in_table : q < size table
     in_table = omega (arith, (sound_holds (lent c states arcs) sound).states)
 
     -- no final weight
-    begun-none : final_of table q ≡ none → Begun (suc q) xs
-    begun-none e = record {
+    begun_none : final_of table q ≡ none → Begun (suc q) xs
+    begun_none e = record {
       room = b.room;
       below = b.below;
       attained = b.attained;
@@ -147,8 +147,8 @@ module _ (c : Counts) (states arcs : List ℕ) (sound : Sound (lent c states arc
       after : List ℕ
       after = lowered (q * combinations t + (combinations t - 1)) w xs
 
-      in-room : q * combinations t + (combinations t - 1) < length xs
-      in-room =
+      in_room : q * combinations t + (combinations t - 1) < length xs
+      in_room =
           let l : combinations t - 1 < combinations t = omega (arith, combinations_positive t) in
           omega (arith, b.room, digits_lt {q = q} {m = size table} {r = combinations t - 1} {c = combinations t} in_table l)
 
@@ -159,10 +159,10 @@ module _ (c : Counts) (states arcs : List ℕ) (sound : Sound (lent c states arc
           let (i, j) = digits-≡ (combinations t) p (place ps t) q (combinations t - 1) (place_lt ps t h) (omega (arith, d)) same in
           (i, last_empty ps t h (omega (arith, j, d)))
 
-      begun-attained : (p : ℕ) (ps : List ℕ) → p < size table → Positions ps t → val table t after p ps < far
+      begun_attained : (p : ℕ) (ps : List ℕ) → p < size table → Positions ps t → val table t after p ps < far
           → (k : ℕ) × Onward ℕ_sum table k p (drop_all ps t) (val table t after p ps)
       unfolding after
-      begun-attained p ps lt' h = go (ℕ_discrete (cell p ps t) (q * combinations t + (combinations t - 1))) (dec_le (val table t xs p ps) w)
+      begun_attained p ps lt' h = go (ℕ_discrete (cell p ps t) (q * combinations t + (combinations t - 1))) (dec_le (val table t xs p ps) w)
         where
           Shown : ℕ → Type 0
           Shown x = x < far → (k : ℕ) × Onward ℕ_sum table k p (drop_all ps t) x
@@ -177,7 +177,7 @@ module _ (c : Counts) (states arcs : List ℕ) (sound : Sound (lent c states arc
               = omega (
                 arith,
                 l,
-                lowered_same (q * combinations t + (combinations t - 1)) w xs in-room,
+                lowered_same (q * combinations t + (combinations t - 1)) w xs in_room,
                 ap (λ (i : ℕ). get_or after i 0) same,
                 ap (λ (i : ℕ). get_or xs i 0) same,
               ) in
@@ -188,24 +188,24 @@ module _ (c : Counts) (states arcs : List ℕ) (sound : Sound (lent c states arc
               = omega (
                 arith,
                 l,
-                lowered_same (q * combinations t + (combinations t - 1)) w xs in-room,
+                lowered_same (q * combinations t + (combinations t - 1)) w xs in_room,
                 ap (λ (i : ℕ). get_or after i 0) same,
                 ap (λ (i : ℕ). get_or xs i 0) same,
               ) in
               subst Shown f (λ small.
               (0, onward_of ℕ_sum table 0 (drop_all ps t) stop (ap (final_of table) i ∙ e) (all_empty_spells ℕ (drop_all ps t) j) (omega arith)))
 
-      begun-some : Begun (suc q) after
+      begun_some : Begun (suc q) after
       unfolding after
-      begun-some = record {
-        room = omega (arith, b.room, length-lowered);
+      begun_some = record {
+        room = omega (arith, b.room, length_lowered);
         below = λ k. omega (arith, b.below k, lowered-le (q * combinations t + (combinations t - 1)) w xs k);
-        attained = begun-attained;
+        attained = begun_attained;
         ends = λ p ps f lt' h s g. go p ps f lt' h s g (ℕ_discrete p q);
       }
         where
-          length-lowered : length after ≡ length xs
-          length-lowered = lowered_length (q * combinations t + (combinations t - 1)) w xs
+          length_lowered : length after ≡ length xs
+          length_lowered = lowered_length (q * combinations t + (combinations t - 1)) w xs
 
           go : (p : ℕ) (ps : List ℕ) (f : ℕ) → p < suc q → Positions ps t → Spells {W = ℕ} [] (drop_all ps t) → final_of table p ≡ some f → Dec (p ≡ q)
               → val table t after p ps ≤ f
@@ -216,22 +216,22 @@ module _ (c : Counts) (states arcs : List ℕ) (sound : Sound (lent c states arc
               let m = empty-last ps t h (spells_all_empty ℕ (drop_all ps t) s) in
               let i : p * combinations t ≡ q * combinations t = ap (λ (k : ℕ). k * combinations t) same in
               let j : cell p ps t ≡ q * combinations t + (combinations t - 1) = omega (arith, m, i) in
-              omega (arith, z, lowered_same (q * combinations t + (combinations t - 1)) w xs in-room, ap (λ (k : ℕ). get_or after k 0) j)
+              omega (arith, z, lowered_same (q * combinations t + (combinations t - 1)) w xs in_room, ap (λ (k : ℕ). get_or after k 0) j)
 
-    pub begun-next : (all : ℕ) → all ≡ combinations t → Begun (suc q) (started states all q xs)
+    pub begun_next : (all : ℕ) → all ≡ combinations t → Begun (suc q) (started states all q xs)
     unfolding started after
-    begun-next all a = go (state_at (state_size * q) states).last refl
+    begun_next all a = go (state_at (state_size * q) states).last refl
       where
         go : (x : Weight) → (state_at (state_size * q) states).last ≡ x → Begun (suc q) (ended_by x (q * all + (all - 1)) xs)
-        go Absent f = begun-none (final-is ∙ ap option_of f)
-        go (Present w) f = subst (λ (k : ℕ). Begun (suc q) (lowered (q * k + (k - 1)) w xs)) (sym a) (begun-some w (final-is ∙ ap option_of f))
+        go Absent f = begun_none (final_is ∙ ap option_of f)
+        go (Present w) f = subst (λ (k : ℕ). Begun (suc q) (lowered (q * k + (k - 1)) w xs)) (sym a) (begun_some w (final_is ∙ ap option_of f))
 
   begun_all : (n q : ℕ) (all : ℕ) → all ≡ combinations t → q + n ≡ c.states → (xs : List ℕ) → Begun q xs → Begun c.states (started_from n q states all xs)
   unfolding started_from
   begun_all zero q all a e xs b = let z : q ≡ c.states = omega (arith, e) in subst (λ (k : ℕ). Begun k xs) z b
   begun_all (suc n) q all a e xs b =
       let z : suc q ≡ q + 1 = omega arith in
-      begun_all n (q + 1) all a (omega (arith, e)) (started states all q xs) (subst (λ (k : ℕ). Begun k (started states all q xs)) z (begun-next q (omega (arith, e)) xs b all a))
+      begun_all n (q + 1) all a (omega (arith, e)) (started states all q xs) (subst (λ (k : ℕ). Begun k (started states all q xs)) z (begun_next q (omega (arith, e)) xs b all a))
 
   -- Before any combination is worked off the cells are as they should be.
   pub begun_distances : (n all : ℕ) → all ≡ combinations t → 8 * (size table * combinations t) ≤ n
@@ -251,9 +251,9 @@ unfolding started_from started
 started_rest zero q states all pos xs j out = refl
 started_rest (suc n) q states all pos xs j out =
     let e : q + suc n ≡ q + 1 + n = omega arith in
-    started_rest n (q + 1) states all pos (started states all q xs) j (subst (λ (k : ℕ). k * all ≤ j) e out) ∙ ended-rest (state_at (state_size * q) states).last
+    started_rest n (q + 1) states all pos (started states all q xs) j (subst (λ (k : ℕ). k * all ≤ j) e out) ∙ ended_rest (state_at (state_size * q) states).last
   where
-    ended-rest : (w : Weight) → get_or (ended_by w (q * all + (all - 1)) xs) j 0 ≡ get_or xs j 0
-    ended-rest Absent = refl
-    ended-rest (Present w) = lowered_other (q * all + (all - 1)) w xs j
+    ended_rest : (w : Weight) → get_or (ended_by w (q * all + (all - 1)) xs) j 0 ≡ get_or xs j 0
+    ended_rest Absent = refl
+    ended_rest (Present w) = lowered_other (q * all + (all - 1)) w xs j
         (λ same. omega (arith, same, out, digits_lt {q = q} {m = q + suc n} {r = all - 1} {c = all} (omega arith) (omega arith)))

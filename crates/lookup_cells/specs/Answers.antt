@@ -5,6 +5,6 @@ use Rattle.lookup_cells.specs.declared.answer.Weight64.{Weight64}
 use Rattle.lookup_cells.specs.declared.answer.Weight64.TheVariants.{Sum, Nothing}
 
 -- the weight, or none
-abbrev pub optionAs : Weight64 → Option ℕ
-optionAs (Sum n) = some n
-optionAs Nothing = none
+abbrev pub option_as : Weight64 → Option ℕ
+option_as (Sum n) = some n
+option_as Nothing = none

@@ -1,7 +1,7 @@
 // The cells of final states at the last combination of positions, and the least weight from the initial states at the
 // first.
 ghost use Rattle.std.specs.Prelude.{◌≡◌, ◌+◌, ◌*◌, ◌≤◌, ◌<◌, min, length, get_or};
-ghost use Rattle.lookup_cells.specs.Answers.{optionAs};
+ghost use Rattle.lookup_cells.specs.Answers.{option_as};
 ghost use Rattle.lookup_moves.specs.Distances.{far, weight_of, cells_of};
 ghost use Rattle.lookup_cells.specs.Ends.{Starts, StartsAll, Stated, from_state, least_up_to};
 ghost use Rattle.automata.specs.Layout.{state_size};
@@ -68,7 +68,7 @@ fn lesser(x: u64, y: u64) -> u64
 // The least over so many states, or none.
 pub fn least_from(states: &[u8], count: usize, all: usize, work: &[u8]) -> Weight64
     requires { Stated states.now count all work.now × ((k : _) → get_or (cells_of work.now) k 0 ≤ far) }
-    ensures { optionAs result ≡ weight_of (least_up_to count states.now all (cells_of work.now)) }
+    ensures { option_as result ≡ weight_of (least_up_to count states.now all (cells_of work.now)) }
 {
     let mut least: u64 = FAR;
     let mut q: usize = 0;

@@ -8,7 +8,7 @@ ghost use Rattle.automata.specs.Lookup.{lookup};
 ghost use Rattle.automata.specs.Memory.{table_of};
 ghost use Rattle.table.specs.Answers.{lent};
 ghost use Rattle.lookup_tuple.specs.Strings.{Stands};
-ghost use Rattle.lookup_cells.specs.Answers.{optionAs};
+ghost use Rattle.lookup_cells.specs.Answers.{option_as};
 ghost use Rattle.lookup_cells.specs.Pushes.{Marking};
 ghost use Rattle.lookup_cells.specs.Fillable.{Fillable, CellsFilled};
 ghost use Rattle.lookup_cells.specs.Recall.{Fresh};
@@ -90,7 +90,7 @@ pub fn least_weight(
     work: &mut [u8],
 ) -> Weight64
     requires { Fillable (lent counts states.now arcs.now) text.now strings (length work.old) }
-    ensures { (t : Tuple) → Stands text.now t strings → length t ≡ counts.tapes → optionAs result
+    ensures { (t : Tuple) → Stands text.now t strings → length t ≡ counts.tapes → option_as result
         ≡ lookup ℕ-sum (table_of (lent counts states.now arcs.now)) t }
 {
     fill_cells(counts, states, arcs, text, strings, work);

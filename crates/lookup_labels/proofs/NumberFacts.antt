@@ -60,50 +60,50 @@ module _ (arcs : List ℕ) (words : ℕ) where
     owner = get_or a t.bucket 0
 
     -- the owner of the bucket, and of another one
-    own-bucket : get_or b t.bucket 0 ≡ min owner e
+    own_bucket : get_or b t.bucket 0 ≡ min owner e
     unfolding owner
-    own-bucket = ap (λ (zs : List ℕ). get_or zs t.bucket 0) t.owners_are
+    own_bucket = ap (λ (zs : List ℕ). get_or zs t.bucket 0) t.owners_are
         ∙ get_or-set_same a t.bucket (min (get_or a t.bucket 0) e) 0 (omega (arith, t.bucket_fits, h.owners_size))
 
-    other-bucket : (k : ℕ) → k ≢ t.bucket → get_or b k 0 ≡ get_or a k 0
-    other-bucket k ne = ap (λ (zs : List ℕ). get_or zs k 0) t.owners_are ∙ get_or-set_other a t.bucket k (min (get_or a t.bucket 0) e) 0 ne
+    other_bucket : (k : ℕ) → k ≢ t.bucket → get_or b k 0 ≡ get_or a k 0
+    other_bucket k ne = ap (λ (zs : List ℕ). get_or zs k 0) t.owners_are ∙ get_or-set_other a t.bucket k (min (get_or a t.bucket 0) e) 0 ne
 
     -- the number of the arc, and of another one
     own-number : get_or ys e 0 ≡ t.number
     own-number = ap (λ (zs : List ℕ). get_or zs e 0) t.numbers_are ∙ get_or-set_same xs e t.number 0 (omega (arith, few, h.numbers_size))
 
-    other-number : (f : ℕ) → f ≢ e → get_or ys f 0 ≡ get_or xs f 0
-    other-number f ne = ap (λ (zs : List ℕ). get_or zs f 0) t.numbers_are ∙ get_or-set_other xs e f t.number 0 ne
+    other_number : (f : ℕ) → f ≢ e → get_or ys f 0 ≡ get_or xs f 0
+    other_number f ne = ap (λ (zs : List ℕ). get_or zs f 0) t.numbers_are ∙ get_or-set_other xs e f t.number 0 ne
 
     -- what is asked of an arc with the number k
     abbrev Owned : ℕ → ℕ → Type 0
     Owned f k = (get_or b k 0 < e + 1) × (words_at words arcs (get_or b k 0) ≡ words_at words arcs f)
 
     -- the arc itself
-    owned-self : t.number < 1024 → Owned e t.bucket
+    owned_self : t.number < 1024 → Owned e t.bucket
     unfolding owner
-    owned-self small = go (dec_le e owner)
+    owned_self small = go (dec_le e owner)
       where
         go : Dec (e ≤ owner) → Owned e t.bucket
-        go (yes at_most) = let z : get_or b t.bucket 0 ≡ e = omega (arith, own-bucket, at_most) in (omega (arith, z), ap (words_at words arcs) z)
+        go (yes at_most) = let z : get_or b t.bucket 0 ≡ e = omega (arith, own_bucket, at_most) in (omega (arith, z), ap (words_at words arcs) z)
         go (no gt) =
-            let z : get_or b t.bucket 0 ≡ owner = omega (arith, own-bucket, gt) in
+            let z : get_or b t.bucket 0 ≡ owner = omega (arith, own_bucket, gt) in
             (omega (arith, z, gt), ap (words_at words arcs) z ∙ (t.same small).1 (omega (arith, gt)))
 
     -- one before it
-    owned-before : (f k : ℕ) → (get_or a k 0 < e) × (words_at words arcs (get_or a k 0) ≡ words_at words arcs f) → Owned f k
+    owned_before : (f k : ℕ) → (get_or a k 0 < e) × (words_at words arcs (get_or a k 0) ≡ words_at words arcs f) → Owned f k
     unfolding owner
-    owned-before f k (lt, same) = go (ℕ_discrete k t.bucket)
+    owned_before f k (lt, same) = go (ℕ_discrete k t.bucket)
       where
         go : Dec (k ≡ t.bucket) → Owned f k
-        go (no ne) = let z = other-bucket k ne in (omega (arith, z, lt), ap (words_at words arcs) z ∙ same)
+        go (no ne) = let z = other_bucket k ne in (omega (arith, z, lt), ap (words_at words arcs) z ∙ same)
         go (yes own) =
             let y : get_or a k 0 ≡ owner = ap (λ (i : ℕ). get_or a i 0) own in
-            let z : get_or b k 0 ≡ get_or a k 0 = omega (arith, ap (λ (i : ℕ). get_or b i 0) own, own-bucket, y, lt) in
+            let z : get_or b k 0 ≡ get_or a k 0 = omega (arith, ap (λ (i : ℕ). get_or b i 0) own, own_bucket, y, lt) in
             (omega (arith, z, lt), ap (words_at words arcs) z ∙ same)
 
-    pub numbering-turn : Numbering arcs words (e + 1) b ys
-    numbering-turn = record {
+    pub numbering_turn : Numbering arcs words (e + 1) b ys
+    numbering_turn = record {
       owners_size = ap length t.owners_are ∙ length-set a t.bucket (min (get_or a t.bucket 0) e) ∙ h.owners_size;
       numbers_size = ap length t.numbers_are ∙ length-set xs e t.number ∙ h.numbers_size;
       each = λ f lt small. go f lt small (ℕ_discrete f e);
@@ -113,10 +113,10 @@ module _ (arcs : List ℕ) (words : ℕ) where
         go f lt small (yes own) =
             let n : get_or ys f 0 ≡ t.number = ap (λ (i : ℕ). get_or ys i 0) own ∙ own-number in
             let m = (t.same (omega (arith, n, small))).0 in
-            subst (λ (k : ℕ). Owned f k) (sym (n ∙ m)) (subst (λ (g : ℕ). Owned g t.bucket) (sym own) (owned-self (omega (arith, n, small))))
+            subst (λ (k : ℕ). Owned f k) (sym (n ∙ m)) (subst (λ (g : ℕ). Owned g t.bucket) (sym own) (owned_self (omega (arith, n, small))))
         go f lt small (no ne) =
-            let n = other-number f ne in
-            subst (λ (k : ℕ). Owned f k) (sym n) (owned-before f (get_or xs f 0) (h.each f (omega (arith, ne)) (omega (arith, n, small))))
+            let n = other_number f ne in
+            subst (λ (k : ℕ). Owned f k) (sym n) (owned_before f (get_or xs f 0) (h.each f (omega (arith, ne)) (omega (arith, n, small))))
 
   -- the labels are the front of their words
   pub numbering_end : (tapes n e : ℕ) (owners numbers : List ℕ) → label_size * tapes ≤ 8 * words → n ≤ e → Numbering arcs words e owners numbers → Numbered tapes n arcs numbers

@@ -39,9 +39,9 @@ module _ (arcs : List ℕ) (at : ℕ) (text : List ℕ) (start size span : ℕ) 
   move_long h = rw (lt-ltb size (get_or arcs at 0) h)
 
   module _ (h : get_or arcs at 0 ≤ size) (b : Bool) (e : b ≡ same_list (part (at + 1) (get_or arcs at 0) arcs) (part (start - get_or arcs at 0) (get_or arcs at 0) text)) where
-    pub move-differs : not b ≡ true → none ≡ tape_move arcs at text start size span
+    pub move_differs : not b ≡ true → none ≡ tape_move arcs at text start size span
     unfolding tape_move
-    move-differs n = rw (le-ltb size (get_or arcs at 0) h, ← e, not-true b n)
+    move_differs n = rw (le-ltb size (get_or arcs at 0) h, ← e, not-true b n)
 
     pub move_same : not b ≡ false → some (get_or arcs at 0 * span) ≡ tape_move arcs at text start size span
     unfolding tape_move

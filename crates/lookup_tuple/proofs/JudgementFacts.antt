@@ -19,7 +19,7 @@ use Rattle.lookup_tuple.specs.Lines.{counted, every}
 use Rattle.table.specs.declared.answer.Refusal.{Refusal}
 use Rattle.table.specs.declared.answer.Judged.{Judged}
 use Rattle.table.specs.declared.answer.Judged.TheVariants.{Fine, Refused}
-use Rattle.table.specs.Answers.{judgedAs}
+use Rattle.table.specs.Answers.{judged_as}
 use Rattle.lookup_tuple.specs.declared.Strings.{Strings}
 use Rattle.lookup_tuple.specs.Judgement.{tuple_tests, tuple_answer, Placeable, Placed, JudgedTuple}
 
@@ -48,18 +48,18 @@ module _ (a : Answer Tuple) (tapes : ℕ) where
         let k : 0 + length b.0 ≡ n = ok_injective (0 + length b.0) n b.2 in
         (b.0, b.1, omega (arith, k))
 
-    tested-closed : forget a ≡ ok tt
-    tested-closed = ap forget tested-tuple.1
+    tested_closed : forget a ≡ ok tt
+    tested_closed = ap forget tested-tuple.1
 
     -- every string of it passes a test, or not
     tested-all : (p : List ℕ → Bool) (b : Bool) → ok b ≡ every p a → all p tested-tuple.0 ≡ b
     tested-all p b f = sym (ok_injective b (all p tested-tuple.0) (f ∙ ap (every p) tested-tuple.1))
 
     -- by the results of the tests
-    tested-by : (x y z : Bool) → eqb (length tested-tuple.0) tapes ≡ x → all fits tested-tuple.0 ≡ y → all symbols tested-tuple.0 ≡ z
+    tested_by : (x y z : Bool) → eqb (length tested-tuple.0) tapes ≡ x → all fits tested-tuple.0 ≡ y → all symbols tested-tuple.0 ≡ z
         → judge x 5 (judge y 3 (require z 2)) ≡ (a >>= λ t. tuple_tests tapes t)
     unfolding tuple_tests
-    tested-by x y z f g h = sym (ap (λ (a : Answer Tuple). a >>= λ t. tuple_tests tapes t) tested-tuple.1 ∙ (rw (f, g, h)))
+    tested_by x y z f g h = sym (ap (λ (a : Answer Tuple). a >>= λ t. tuple_tests tapes t) tested-tuple.1 ∙ (rw (f, g, h)))
 
 -- ---- the same of a text
 module _ (text : List ℕ) (tapes : ℕ) where
@@ -70,32 +70,32 @@ module _ (text : List ℕ) (tapes : ℕ) where
 
   module _ (n : ℕ) (e : ok n ≡ counted (lines text) 0) where
     -- no text is left
-    pub judged-closed : forget (lines text) ≡ ok tt
-    judged-closed = tested-closed (lines text) tapes n e
+    pub judged_closed : forget (lines text) ≡ ok tt
+    judged_closed = tested_closed (lines text) tapes n e
 
     -- another number of strings than of tapes
-    pub judged-tape : (n ≡ tapes → ⊥) → refused 5 ≡ tuple_answer text tapes
+    pub judged_tape : (n ≡ tapes → ⊥) → refused 5 ≡ tuple_answer text tapes
     unfolding tuple_answer
-    judged-tape f =
+    judged_tape f =
         let t = tested-tuple (lines text) tapes n e in
-        tested-by (lines text) tapes n e false (all fits t.0) (all symbols t.0) (ne_eqb (length t.0) tapes (λ g. f (sym t.2 ∙ g))) refl refl
+        tested_by (lines text) tapes n e false (all fits t.0) (all symbols t.0) (ne_eqb (length t.0) tapes (λ g. f (sym t.2 ∙ g))) refl refl
 
     module _ (f : n ≡ tapes) where
       -- as many
-      count-passes : eqb (length (tested-tuple (lines text) tapes n e).0) tapes ≡ true
-      count-passes = eq-eqb (length (tested-tuple (lines text) tapes n e).0) tapes ((tested-tuple (lines text) tapes n e).2 ∙ f)
+      count_passes : eqb (length (tested-tuple (lines text) tapes n e).0) tapes ≡ true
+      count_passes = eq-eqb (length (tested-tuple (lines text) tapes n e).0) tapes ((tested-tuple (lines text) tapes n e).2 ∙ f)
 
       -- a string that is too long
-      pub judged-size : ok false ≡ every fits (lines text) → refused 3 ≡ tuple_answer text tapes
+      pub judged_size : ok false ≡ every fits (lines text) → refused 3 ≡ tuple_answer text tapes
       unfolding tuple_answer
-      judged-size g =
-          tested-by (lines text) tapes n e true false (all symbols (tested-tuple (lines text) tapes n e).0) count-passes (tested-all (lines text) tapes n e fits false g) refl
+      judged_size g =
+          tested_by (lines text) tapes n e true false (all symbols (tested-tuple (lines text) tapes n e).0) count_passes (tested-all (lines text) tapes n e fits false g) refl
 
       -- none too long: the bytes
-      pub judged-bytes : ok true ≡ every fits (lines text) → (b : Bool) → ok b ≡ every symbols (lines text) → require b 2 ≡ tuple_answer text tapes
+      pub judged_bytes : ok true ≡ every fits (lines text) → (b : Bool) → ok b ≡ every symbols (lines text) → require b 2 ≡ tuple_answer text tapes
       unfolding tuple_answer
-      judged-bytes g b h =
-          tested-by (lines text) tapes n e true true b count-passes (tested-all (lines text) tapes n e fits true g) (tested-all (lines text) tapes n e symbols b h)
+      judged_bytes g b h =
+          tested_by (lines text) tapes n e true true b count_passes (tested-all (lines text) tapes n e fits true g) (tested-all (lines text) tapes n e symbols b h)
 
   -- where nothing is refused the strings can be placed
   pub judged_placeable : tapes ≤ 8 → ok tt ≡ tuple_answer text tapes → Placeable text tapes
@@ -113,10 +113,10 @@ module _ (text : List ℕ) (tapes : ℕ) where
       }
 
 -- ---- the whole judgement
-module _ (text : List ℕ) (tapes : ℕ) (j : Judged) (s : Strings) (e : judgedAs j ≡ tuple_answer text tapes) where
+module _ (text : List ℕ) (tapes : ℕ) (j : Judged) (s : Strings) (e : judged_as j ≡ tuple_answer text tapes) where
   -- a refusal
   pub tuple-refused : (k : Refusal) → j ≡ Refused k → JudgedTuple text tapes (record { judged = j; strings = s })
-  tuple-refused k f = record { answer = e; stands = λ few g. absurd (refused≢ok (ap judgedAs (sym f ∙ g))) }
+  tuple-refused k f = record { answer = e; stands = λ few g. absurd (refused≢ok (ap judged_as (sym f ∙ g))) }
 
   -- more tapes than a table has
   pub tuple-wide : 8 < tapes → JudgedTuple text tapes (record { judged = j; strings = s })
@@ -125,5 +125,5 @@ module _ (text : List ℕ) (tapes : ℕ) (j : Judged) (s : Strings) (e : judgedA
   -- the strings by their places
   pub tuple-placed : j ≡ Fine → tapes ≤ 8 → Placed text s → JudgedTuple text tapes (record { judged = j; strings = s })
   tuple-placed f few p =
-      let q = judged_placeable text tapes few (sym (ap judgedAs f) ∙ e) in
+      let q = judged_placeable text tapes few (sym (ap judged_as f) ∙ e) in
       record { answer = e; stands = λ few g. record { tuple = q.tuple; lines_are = q.lines_are; stands = p.stands q.tuple q.lines_are; tapes_are = q.count_is } }

@@ -126,8 +126,8 @@ module _ (a b : Answer Tuple) (s : List ℕ) (e : a ≡ (b >>= λ t. ok (s ∷ t
         go (refused k) = refl
 
     -- one that fails
-    every-fails : p s ≡ false → forget a ≡ ok tt → ok false ≡ every p a
-    every-fails f g = go b (ap forget (sym e) ∙ g) ∙ ap (every p) (sym e)
+    every_fails : p s ≡ false → forget a ≡ ok tt → ok false ≡ every p a
+    every_fails f g = go b (ap forget (sym e) ∙ g) ∙ ap (every p) (sym e)
       where
         go : (b : Answer Tuple) → forget (b >>= λ t. ok (s ∷ t)) ≡ ok tt → ok false ≡ every p (b >>= λ t. ok (s ∷ t))
         go (ok t) g = ap (λ (x : Bool). ok (and x (all p t))) (sym f)
@@ -142,16 +142,16 @@ module _ (text : List ℕ) (at r : ℕ) (e : LineEnd text at r) where
 
   module _ (h : at < length text) (f : forget (lines_at at text) ≡ ok tt) where
     -- what follows is not refused either
-    pub closed-turn : forget (lines_at (r + 1) text) ≡ ok tt
-    closed-turn = closed_more (lines_at at text) (lines_at (r + 1) text) (part at (r - at) text) (line-next text at r e (line_closed text at r e h f)) f
+    pub closed_turn : forget (lines_at (r + 1) text) ≡ ok tt
+    closed_turn = closed_more (lines_at at text) (lines_at (r + 1) text) (part at (r - at) text) (line-next text at r e (line_closed text at r e h f)) f
 
     -- a string that passes a test
-    pub every-turn : (p : List ℕ → Bool) → p (part at (r - at) text) ≡ true → every p (lines_at (r + 1) text) ≡ every p (lines_at at text)
-    every-turn p g = every_more (lines_at at text) (lines_at (r + 1) text) (part at (r - at) text) (line-next text at r e (line_closed text at r e h f)) p g
+    pub every_turn : (p : List ℕ → Bool) → p (part at (r - at) text) ≡ true → every p (lines_at (r + 1) text) ≡ every p (lines_at at text)
+    every_turn p g = every_more (lines_at at text) (lines_at (r + 1) text) (part at (r - at) text) (line-next text at r e (line_closed text at r e h f)) p g
 
     -- one that fails it
     pub every-stop : (p : List ℕ → Bool) → p (part at (r - at) text) ≡ false → ok false ≡ every p (lines_at at text)
-    every-stop p g = every-fails (lines_at at text) (lines_at (r + 1) text) (part at (r - at) text) (line-next text at r e (line_closed text at r e h f)) p g f
+    every-stop p g = every_fails (lines_at at text) (lines_at (r + 1) text) (part at (r - at) text) (line-next text at r e (line_closed text at r e h f)) p g f
 
 -- ---- the start and the end of a loop over lines
 

@@ -74,7 +74,7 @@ module _ (text : List ℕ) (t : Tuple) where
       next-ends = line_closed text at r e next-begins (ap forget rest)
 
       -- its string, and what follows
-      next-is : (part at (r - at) text ≡ get_or t i []) × (lines_at (r + 1) text ≡ ok (drop (i + 1) t))
+      next_is : (part at (r - at) text ≡ get_or t i []) × (lines_at (r + 1) text ≡ ok (drop (i + 1) t))
       next_is =
           let b = bind_ok (lines_at (r + 1) text) (λ u. ok (part at (r - at) text ∷ u)) (get_or t i [] ∷ drop (suc i) t)
           (sym (line-next text at r e next-ends) ∙ rest ∙ ap ok (drop-cons t i [] few)) in
@@ -83,15 +83,15 @@ module _ (text : List ℕ) (t : Tuple) where
           let u : b.0 ≡ drop (suc i) t = cc in
           (s, b.1 ∙ ap ok (u ∙ ap (λ (n : ℕ). drop n t) (sym (add-one i))))
 
-      pub next-rest : lines_at (r + 1) text ≡ ok (drop (i + 1) t)
-      next-rest = next-is.1
+      pub next_rest : lines_at (r + 1) text ≡ ok (drop (i + 1) t)
+      next_rest = next_is.1
 
       -- the place of its string
       next_place : PlacedAt i at (r - at)
       next_place = record {
-        length_is = sym (length_part at (r - at) text (omega (arith, e.starts, e.within))) ∙ ap (λ (s : List ℕ). length s) next-is.0;
+        length_is = sym (length_part at (r - at) text (omega (arith, e.starts, e.within))) ∙ ap (λ (s : List ℕ). length s) next_is.0;
         within = omega (arith, e.starts, e.within);
-        string_is = next-is.0;
+        string_is = next_is.0;
       }
 
       -- one string more
@@ -111,10 +111,10 @@ module _ (text : List ℕ) (t : Tuple) where
               (subst (λ (y : ℕ). PlacedAt h at y) (sym b) (subst (λ (j : ℕ). PlacedAt j at (r - at)) (sym q) next_place))
           one h k (no q) =
               subst (λ (x : ℕ). PlacedAt h x (get_or (set lengths i (r - at)) h 0)) (sym (get_or-set_other starts i h at 0 q))
-              (subst (λ (y : ℕ). PlacedAt h (get_or starts h 0) y) (sym (get_or-set_other lengths i h (r - at) 0 q)) (p.placed h (ne-lt h i k q)))
+              (subst (λ (y : ℕ). PlacedAt h (get_or starts h 0) y) (sym (get_or-set_other lengths i h (r - at) 0 q)) (p.placed h (ne_lt h i k q)))
             where
-              ne-lt : (h i : ℕ) → h < i + 1 → h ≢ i → h < i
-              ne-lt h i k q = omega (arith, k, q)
+              ne_lt : (h i : ℕ) → h < i + 1 → h ≢ i → h < i
+              ne_lt h i k q = omega (arith, k, q)
 
   -- all of them, none too long
   pub placed-all : (count : ℕ) (starts lengths : List ℕ) → length t ≡ count → count ≤ 8 → all (λ s. leb (length s) max_string) t ≡ true → PlacedTo count starts lengths

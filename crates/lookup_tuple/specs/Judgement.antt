@@ -8,7 +8,7 @@ use Rattle.automata.specs.Automaton.{Tuple}
 use Rattle.automata.specs.Symbols.{is_symbol}
 use Rattle.automata.specs.Calls.Lookup.{lines}
 use Rattle.table.specs.declared.answer.Judged.TheVariants.{Fine}
-use Rattle.table.specs.Answers.{judgedAs}
+use Rattle.table.specs.Answers.{judged_as}
 use Rattle.lookup_tuple.specs.declared.Strings.{Strings}
 use Rattle.lookup_tuple.specs.declared.judge.TupleJudged.{TupleJudged}
 use Rattle.lookup_tuple.specs.Strings.{Stands}
@@ -44,5 +44,5 @@ pub record Tupled (text : List ℕ) (tapes : ℕ) (s : Strings) : Type 0 where
 
 -- A text judged for a table with so many tapes: its first refusal, and where there is none its strings by their places.
 pub record JudgedTuple (text : List ℕ) (tapes : ℕ) (r : TupleJudged) : Type 0 where
-  pub answer : judgedAs r.judged ≡ tuple_answer text tapes
+  pub answer : judged_as r.judged ≡ tuple_answer text tapes
   pub stands : tapes ≤ 8 → r.judged ≡ Fine → Tupled text tapes r.strings

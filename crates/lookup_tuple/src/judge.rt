@@ -1,6 +1,6 @@
 // The judgement of a tuple's text, and its strings by their places.
 ghost use Rattle.std.specs.Prelude.{◌≡◌};
-ghost use Rattle.table.specs.Answers.{judgedAs};
+ghost use Rattle.table.specs.Answers.{judged_as};
 ghost use Rattle.lookup_tuple.specs.Judgement.{tuple_answer, Placeable, Placed, JudgedTuple};
 
 use crate::Strings;
@@ -17,7 +17,7 @@ pub struct TupleJudged {
 // The first refusal: text after the last byte 10 (1), another number of strings than of tapes (5), a string that is too
 // long (3), a byte that is no symbol (2).
 fn judge_text(text: &[u8], tapes: usize) -> Judged
-    ensures { judgedAs result ≡ tuple_answer text.now tapes }
+    ensures { judged_as result ≡ tuple_answer text.now tapes }
 {
     let LineCount::Lines(count) = count_lines(text) else {
         return Judged::Refused(Refusal::Short);

@@ -18,7 +18,7 @@ use Rattle.automata.specs.Join.{within}
 use Rattle.automata.proofs.TestFacts.{and_true}
 use Rattle.table.specs.declared.pair.Pair.{Pair}
 use Rattle.table.specs.declared.pair.PairList.{PairList}
-use Rattle.table.specs.Answers.{judgedAs}
+use Rattle.table.specs.Answers.{judged_as}
 use Rattle.table.specs.Pairs.{pair_as, pairs_as, no_pair}
 use Rattle.pairs.specs.declared.PairsJudged.{PairsJudged}
 use Rattle.pairs.specs.PairTests.{tests, sides_once}
@@ -50,8 +50,8 @@ module _ (u : ℕ) (l : List Pair) (i : ℕ) where
         ap (λ (ps : List Pair). automata.limits_fit (map pair_as ps)) (drop-cons (take u l) i no_pair (omega (arith, n)))
         ∙ rw (get_or-take u l i no_pair h, add-one i)
 
-    pub fit-not : max_delay < (get_or l i no_pair).limit → left u l i ≡ false
-    fit-not e = here ∙ rw (lt-leb (get_or l i no_pair).limit max_delay e)
+    pub fit_not : max_delay < (get_or l i no_pair).limit → left u l i ≡ false
+    fit_not e = here ∙ rw (lt-leb (get_or l i no_pair).limit max_delay e)
 
     pub fit_next : (get_or l i no_pair).limit ≤ max_delay → left u l (i + 1) ≡ left u l i
     fit_next e = sym (here ∙ rw (le-leb (get_or l i no_pair).limit max_delay e))
@@ -94,7 +94,7 @@ module _ (list : PairList) (ps : List automata.TapePair) (is : FirstFour ps list
     whole : (fits : Bool) → (pairs_as list ≡ ps → fit ≡ fits) → Decided ps inside once fits r
     whole fits h = record {
       answer = s.answer ∙ tests_fit inside once fit fits (λ t. h (every t));
-      pairs = λ f. s.pairs f ∙ every (tests_once inside once fit (sym (ap judgedAs f) ∙ s.answer));
+      pairs = λ f. s.pairs f ∙ every (tests_once inside once fit (sym (ap judged_as f) ∙ s.answer));
       used_fit = s.used_fit;
       four = s.four;
       all_inside = s.all_inside;

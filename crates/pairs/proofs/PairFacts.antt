@@ -69,8 +69,8 @@ module _ (n m : ℕ) (bs : List ℕ) (at : ℕ) where
     pub within_first : is_tape n (get_or bs at 0) ≡ false → within n m (tapes_of (pairs_of (drop at bs))) ≡ false
     within_first e = here ∙ rw e
 
-    pub within-second : is_tape n (get_or bs at 0) ≡ true → is_tape m (get_or bs (at + 1) 0) ≡ false → within n m (tapes_of (pairs_of (drop at bs))) ≡ false
-    within-second e f = here ∙ rw (e, f)
+    pub within_second : is_tape n (get_or bs at 0) ≡ true → is_tape m (get_or bs (at + 1) 0) ≡ false → within n m (tapes_of (pairs_of (drop at bs))) ≡ false
+    within_second e f = here ∙ rw (e, f)
 
     pub within-next : is_tape n (get_or bs at 0) ≡ true → is_tape m (get_or bs (at + 1) 0) ≡ true
         → within n m (tapes_of (pairs_of (drop (at + 3) bs))) ≡ within n m (tapes_of (pairs_of (drop at bs)))

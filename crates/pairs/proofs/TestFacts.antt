@@ -20,7 +20,7 @@ use Rattle.table.specs.declared.answer.Refusal.{Refusal}
 use Rattle.table.specs.declared.answer.Refusal.TheVariants.{Tape, Pairs, Limit}
 use Rattle.table.specs.declared.answer.Judged.{Judged}
 use Rattle.table.specs.declared.answer.Judged.TheVariants.{Fine, Refused}
-use Rattle.table.specs.Answers.{judgedAs, refusalNumber}
+use Rattle.table.specs.Answers.{judged_as, refusal_number}
 use Rattle.table.specs.Pairs.{pairs_as}
 use Rattle.pairs.specs.declared.PairsJudged.{PairsJudged}
 use Rattle.pairs.specs.PairTests.{tests, sides_once, pairs_answer, join_pairs_answer, tapes_answer}
@@ -60,10 +60,10 @@ refused_not_fine : {A : Type 0} (j : Judged) (why : Refusal) → j ≡ Refused w
 refused_not_fine j why e f = let z : ◌≡◌ {A = ℕ} 0 1 = cc in absurd (omega arith)
 
 module _ (ps : List TapePair) (inside once fit : Bool) (r : PairsJudged) where
-  decided_refused : (why : Refusal) → r.judged ≡ Refused why → tests inside once fit ≡ refused (refusalNumber why) → Decided ps inside once fit r
+  decided_refused : (why : Refusal) → r.judged ≡ Refused why → tests inside once fit ≡ refused (refusal_number why) → Decided ps inside once fit r
   decided_refused why e t =
       record {
-        answer = ap judgedAs e ∙ sym t;
+        answer = ap judged_as e ∙ sym t;
         pairs = λ f. refused_not_fine r.judged why e f;
         used_fit = λ f. refused_not_fine r.judged why e f;
         four = λ f. refused_not_fine r.judged why e f;
@@ -83,7 +83,7 @@ module _ (ps : List TapePair) (inside once fit : Bool) (r : PairsJudged) where
       → Decided ps inside once fit r
   decided_fine i o l e p u f =
       record {
-        answer = ap judgedAs e ∙ sym (rw (i, o, l) refl);
+        answer = ap judged_as e ∙ sym (rw (i, o, l) refl);
         pairs = λ g. p;
         used_fit = λ g. u;
         four = λ g. f;
@@ -139,8 +139,8 @@ tests_limits inside once fit e =
 pub keep_limits : (ps : List TapePair) (tapes : ℕ) (r : PairsJudged) → KeepJudged ps tapes r → r.judged ≡ Fine → limits_fit ps ≡ true
 unfolding pairs_answer
 keep_limits ps tapes r j f =
-    tests_limits (all (is_tape tapes) (named (tapes_of ps))) (and (leb (length ps) max_pairs) (distinct (named (tapes_of ps)))) (limits_fit ps) (sym j.answer ∙ ap judgedAs f)
+    tests_limits (all (is_tape tapes) (named (tapes_of ps))) (and (leb (length ps) max_pairs) (distinct (named (tapes_of ps)))) (limits_fit ps) (sym j.answer ∙ ap judged_as f)
 
 pub join_limits : (ps : List TapePair) (n m : ℕ) (r : PairsJudged) → JoinJudged ps n m r → r.judged ≡ Fine → limits_fit ps ≡ true
 unfolding join_pairs_answer
-join_limits ps n m r j f = tests_limits (within n m (tapes_of ps)) (separate (tapes_of ps)) (limits_fit ps) (sym j.answer ∙ ap judgedAs f)
+join_limits ps n m r j f = tests_limits (within n m (tapes_of ps)) (separate (tapes_of ps)) (limits_fit ps) (sym j.answer ∙ ap judged_as f)

@@ -9,7 +9,7 @@ use Rattle.automata.specs.Memory.{Memory, decode_table}
 use Rattle.automata.proofs.AnswerFacts.{refused≢ok}
 use Rattle.table.specs.declared.answer.Judged.{Judged}
 use Rattle.table.specs.declared.answer.Judged.TheVariants.{Fine, Refused}
-use Rattle.table.specs.Answers.{judgedAs}
+use Rattle.table.specs.Answers.{judged_as}
 use Rattle.pairs.specs.PairTests.{in_turn}
 
 -- the tests before an answer, and the answer
@@ -20,7 +20,7 @@ turn_then (ok u) true n rest = refl
 turn_then (ok u) false n rest = refl
 
 -- a judgement that is no refusal
-pub judged_fine : (j : Judged) (u : Unit {0}) → judgedAs j ≡ ok u → j ≡ Fine
+pub judged_fine : (j : Judged) (u : Unit {0}) → judged_as j ≡ ok u → j ≡ Fine
 judged_fine Fine u e = refl
 judged_fine (Refused why) u e = absurd (refused≢ok e)
 
@@ -30,7 +30,7 @@ require_true true n u e = refl
 require_true false n u e = absurd (refused≢ok e)
 
 -- work space that is too short
-pub turn_short : (t p : Judged) (b : Bool) → t ≡ Fine → p ≡ Fine → b ≡ false → refused refusal.space ≡ in_turn (judgedAs t) (judgedAs p) b
+pub turn_short : (t p : Judged) (b : Bool) → t ≡ Fine → p ≡ Fine → b ≡ false → refused refusal.space ≡ in_turn (judged_as t) (judged_as p) b
 turn_short t p b e f g = rw (e, f, g)
 
 -- A call that judges its table, then the pairs and the space, and then goes on is its judgements in turn, and then the

@@ -7,7 +7,7 @@ use Rattle.automata.specs.Join.{within}
 use Rattle.table.specs.declared.answer.Judged.TheVariants.{Fine}
 use Rattle.table.specs.declared.pair.Pair.{Pair}
 use Rattle.table.specs.declared.pair.PairList.{PairList}
-use Rattle.table.specs.Answers.{judgedAs}
+use Rattle.table.specs.Answers.{judged_as}
 use Rattle.table.specs.Pairs.{pairs_as, no_pair, Named}
 use Rattle.pairs.specs.declared.PairsJudged.{PairsJudged}
 use Rattle.pairs.specs.PairTests.{tests, pairs_answer, join_pairs_answer, tapes_answer}
@@ -31,7 +31,7 @@ pub record FirstFour (ps : List automata.TapePair) (l : PairList) : Type 0 where
 
 -- The tests decided in their order, and where none fails the pairs by value.
 pub record Decided (ps : List automata.TapePair) (inside once fit : Bool) (r : PairsJudged) : Type 0 where
-  pub answer : judgedAs r.judged ≡ tests inside once fit
+  pub answer : judged_as r.judged ≡ tests inside once fit
   pub pairs : r.judged ≡ Fine → pairs_as r.pairs ≡ ps
   pub used_fit : r.judged ≡ Fine → r.pairs.used ≤ 4
   pub four : r.judged ≡ Fine → length r.pairs.pairs ≡ 4
@@ -40,7 +40,7 @@ pub record Decided (ps : List automata.TapePair) (inside once fit : Bool) (r : P
 -- A list of pairs judged: the answer that is called for, and where there is no refusal the pairs by value, as they are
 -- read here, and what holds of their tapes.
 pub record ListJudged {X : Type 0} (read : PairList → X) (list : X) (expected : Answer (Unit {0})) (Tapes : PairList → Type 0) (r : PairsJudged) : Type 0 where
-  pub answer : judgedAs r.judged ≡ expected
+  pub answer : judged_as r.judged ≡ expected
   pub pairs : r.judged ≡ Fine → read r.pairs ≡ list
   pub four : r.judged ≡ Fine → length r.pairs.pairs ≡ 4
   pub tapes_named : r.judged ≡ Fine → Tapes r.pairs

@@ -8,7 +8,7 @@ ghost use Rattle.automata.specs.IntersectCall.{distinct, named};
 ghost use Rattle.automata.specs.Projection.{is_tape};
 ghost use Rattle.automata.specs.Join.{within};
 ghost use Rattle.table.specs.declared.answer.Judged.TheVariants as judged;
-ghost use Rattle.table.specs.Answers.{judgedAs};
+ghost use Rattle.table.specs.Answers.{judged_as};
 ghost use Rattle.table.specs.Pairs.{pairs_as};
 ghost use Rattle.pairs.specs.PairTests.{in_turn, sides_once};
 ghost use Rattle.pairs.specs.PairBytes.{pairs_of, pair_at};
@@ -301,7 +301,7 @@ pub fn judge_tapes(bytes: &[u8], tapes: usize) -> PairsJudged
 
 // The first refusal of a table, of the pairs and their limits, or of the work space.
 pub fn in_turn(table: Judged, pairs: Judged, enough: bool) -> Judged
-    ensures { judgedAs result ≡ in_turn (judgedAs table) (judgedAs pairs) enough }
+    ensures { judged_as result ≡ in_turn (judged_as table) (judged_as pairs) enough }
 {
     let Judged::Fine = table else {
         return table;

@@ -3,7 +3,7 @@ ghost use Rattle.std.specs.Prelude.{◌≡◌, map};
 ghost use Rattle.automata.specs.Calls.Outcome.{built_of, joined_of, slices_of};
 ghost use Rattle.automata.specs.Calls.Intersect.{intersect_outcome};
 ghost use Rattle.automata.specs.Calls.Join.{join_outcome};
-ghost use Rattle.table.specs.Answers.{lent, tableAs};
+ghost use Rattle.table.specs.Answers.{lent, table_as};
 ghost use Rattle.table.specs.Pairs.{pair_as};
 
 use intersect::call::intersect_judged;
@@ -23,7 +23,7 @@ pub fn intersect(
     out_arcs: &mut [u8],
     work: &mut [u8],
 ) -> TableAnswer
-    ensures { built_of (tableAs result)
+    ensures { built_of (table_as result)
         out_states.new out_arcs.new work.new ≡ intersect_outcome
         (lent counts states.now arcs.now) (map pair_as pairs.now)
         (slices_of out_states.old out_arcs.old) work.old }
@@ -50,7 +50,7 @@ pub fn join(
     out_arcs: &mut [u8],
     work: &mut [u8],
 ) -> TableAnswer
-    ensures { joined_of (tableAs result) out_states.new out_arcs.new
+    ensures { joined_of (table_as result) out_states.new out_arcs.new
         product_states.new product_arcs.new work.new
         ≡ join_outcome (lent first first_states.now first_arcs.now)
         (lent second second_states.now

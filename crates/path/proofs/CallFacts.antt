@@ -19,7 +19,7 @@ use Rattle.automata.specs.LeastPathCall.{listed, least_path_call}
 use Rattle.automata.specs.Calls.Work.{combinations, path_work, enough}
 use Rattle.automata.specs.Calls.LeastPath.{places_in, path_answer, Told, told_answer, path_in, PathFound, path_found_of, list_path, path_outcome}
 use Rattle.automata.proofs.TestFacts.{and_true}
-use Rattle.table.specs.Answers.{judgedAs, refusalNumber}
+use Rattle.table.specs.Answers.{judged_as, refusal_number}
 use Rattle.table.specs.declared.answer.Refusal.{Refusal}
 use Rattle.table.specs.declared.answer.Judged.{Judged}
 use Rattle.table.specs.declared.answer.Judged.TheVariants.{Refused}
@@ -28,9 +28,9 @@ use Rattle.lookup_tuple.specs.declared.judge.TupleJudged.{TupleJudged}
 use Rattle.lookup_tuple.specs.Strings.{Stands}
 use Rattle.lookup_tuple.specs.Positions.{positions}
 use Rattle.lookup.specs.Judgement.{answer_by, Called, JudgedCall}
-use Rattle.lookup.proofs.JudgeFacts.{judged_refused, called-answer, called-size, cells_are, answers_by, tests-first}
+use Rattle.lookup.proofs.JudgeFacts.{judged_refused, called_answer, called_size, cells_are, answers_by, tests-first}
 use Rattle.path_search.specs.Traced.{Traceable}
-use Rattle.path.specs.Answers.{noPathAfter}
+use Rattle.path.specs.Answers.{no_path_after}
 
 -- a number of cells fits where its bytes do
 pub cells_fit : (cells work : ℕ) → leb cells (work / 24) ≡ leb (24 * cells) work
@@ -64,24 +64,24 @@ module _ (m : Memory) (text : List ℕ) (room : Bool) (list work : List ℕ) whe
 
   -- a table or a tuple that is refused
   pub call_refused : (r : TupleJudged) (why : Refusal) (a : Answer (Option Told)) → JudgedCall m text r → r.judged ≡ Refused why
-      → a ≡ noPathAfter (judgedAs r.judged) → Tells a list
+      → a ≡ no_path_after (judged_as r.judged) → Tells a list
   call_refused r why a j f g =
-      let t = refuses (refusalNumber why) (answer_is ∙ judged_refused m text r j why f found) in
-      (g ∙ ap (λ (x : Judged). noPathAfter (judgedAs x)) f ∙ t.0, t.1)
+      let t = refuses (refusal_number why) (answer_is ∙ judged_refused m text r j why f found) in
+      (g ∙ ap (λ (x : Judged). no_path_after (judged_as x)) f ∙ t.0, t.1)
 
   module _ (s : Strings) (k : Called m text s) (n : ℕ) (e : n ≡ m.states * positions s.lengths) (b : Bool) (h : b ≡ and room (leb (24 * n) (length work))) where
     -- the answer, once the tuple is judged
-    call-passed : answer ≡ judge b 13 (listed (places_in list) (least_path ℕ_sum (table_of m) k.tuple))
+    call_passed : answer ≡ judge b 13 (listed (places_in list) (least_path ℕ_sum (table_of m) k.tuple))
     unfolding path_work
-    call-passed =
-        answer_is ∙ called-answer m text s k found
-        ∙ ap (λ (q : ℕ). judge (and room (leb (24 * (q * combinations k.tuple)) (length work))) 13 (listed (places_in list) (least_path ℕ_sum (table_of m) k.tuple))) (called-size m text s k)
+    call_passed =
+        answer_is ∙ called_answer m text s k found
+        ∙ ap (λ (q : ℕ). judge (and room (leb (24 * (q * combinations k.tuple)) (length work))) 13 (listed (places_in list) (least_path ℕ_sum (table_of m) k.tuple))) (called_size m text s k)
         ∙ ap (λ (q : ℕ). judge (and room (leb (24 * q) (length work))) 13 (listed (places_in list) (least_path ℕ_sum (table_of m) k.tuple))) (sym (cells_are m text s k n e))
         ∙ ap (λ (x : Bool). judge x 13 (listed (places_in list) (least_path ℕ_sum (table_of m) k.tuple))) (sym h)
 
     -- too little space
     pub space-short : not b ≡ true → Tells (refused 13) list
-    space-short f = refuses 13 (call-passed ∙ ap (λ (x : Bool). judge x 13 (listed (places_in list) (least_path ℕ_sum (table_of m) k.tuple))) (not-true b f))
+    space-short f = refuses 13 (call_passed ∙ ap (λ (x : Bool). judge x 13 (listed (places_in list) (least_path ℕ_sum (table_of m) k.tuple))) (not-true b f))
 
     -- enough: the path can be searched
     pub space-enough : not b ≡ false → Traceable m text s (length work)
@@ -95,13 +95,13 @@ module _ (m : Memory) (text : List ℕ) (room : Bool) (list work : List ℕ) whe
     }
 
     -- and what is found is the answer
-    pub path-found : not b ≡ false → (a : Answer (Option Told)) (left : List ℕ)
+    pub path_found : not b ≡ false → (a : Answer (Option Told)) (left : List ℕ)
         → ((t : Tuple) → Stands text t s → length t ≡ m.tapes
         → (a ≡ told_answer (listed (places_in list) (least_path ℕ_sum (table_of m) t))) × (left ≡ path_in (listed (places_in list) (least_path ℕ_sum (table_of m) t)) list))
         → Tells a left
-    path-found f a left g =
+    path_found f a left g =
         let t = g k.tuple k.stands k.tapes_are in
-        let same = call-passed ∙ ap (λ (x : Bool). judge x 13 (listed (places_in list) (least_path ℕ_sum (table_of m) k.tuple))) (not-false b f) in
+        let same = call_passed ∙ ap (λ (x : Bool). judge x 13 (listed (places_in list) (least_path ℕ_sum (table_of m) k.tuple))) (not-false b f) in
         (t.0 ∙ sym (ap told_answer same), t.1 ∙ sym (ap (λ (x : Answer (Option (Account ℕ))). path_in x list) same))
 
 -- Work space is zero afterwards.

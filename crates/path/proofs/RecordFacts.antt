@@ -17,7 +17,7 @@ use Rattle.laws.proofs.CallPath.{path_calls_lem}
 use Rattle.path_search.specs.declared.answer.PathTold.{PathTold}
 use Rattle.path_search.specs.declared.answer.PathAnswer.{PathAnswer}
 use Rattle.path_search.specs.declared.answer.PathAnswer.TheVariants.{Path}
-use Rattle.path_search.specs.Answers.{toldAs, pathAs}
+use Rattle.path_search.specs.Answers.{told_as, path_as}
 use Rattle.path.specs.Answers.{Fitting, Recordable}
 
 -- four numbers one behind the other
@@ -30,13 +30,13 @@ told_stored x v₀ v₁ v₂ v₃ v₄ l e₁ e₂ e₃ e₄ =
     splice-behind 0 20 (w ++ to_le 8 0 ++ to_le 4 x.start) (to_le 4 x.arcs) v₀ v₃ v₄ f₃ e₄ refl (omega arith) ∙ splice_front (told_bytes x) v₀
 
 -- a path that is told has its room
-pub path_room : (a : PathAnswer) (x : PathTold) (n : ℕ) → Recordable (pathAs a) n → a ≡ Path x → Fitting (toldAs x) × (told_size ≤ n)
-path_room a x n r e = subst (λ (b : PathAnswer). Recordable (pathAs b) n) e r
+pub path_room : (a : PathAnswer) (x : PathTold) (n : ℕ) → Recordable (path_as a) n → a ≡ Path x → Fitting (told_as x) × (told_size ≤ n)
+path_room a x n r e = subst (λ (b : PathAnswer). Recordable (path_as b) n) e r
 
 -- and stands over the front of the result space
-pub path-recorded : (a : PathAnswer) (x : PathTold) (result left : List ℕ) → a ≡ Path x → left ≡ overwrite (told_bytes (toldAs x)) result
-    → left ≡ record_told (pathAs a) result
-path-recorded a x result left e f = f ∙ sym (ap (λ (b : PathAnswer). record_told (pathAs b) result) e)
+pub path-recorded : (a : PathAnswer) (x : PathTold) (result left : List ℕ) → a ≡ Path x → left ≡ overwrite (told_bytes (told_as x)) result
+    → left ≡ record_told (path_as a) result
+path-recorded a x result left e f = f ∙ sym (ap (λ (b : PathAnswer). record_told (path_as b) result) e)
 
 module _ (m : Memory) (text result list work : List ℕ) where
   -- what the call without the result space answers and leaves

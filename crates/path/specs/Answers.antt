@@ -5,8 +5,8 @@ use Rattle.automata.specs.Answer.{◌>>=◌, Answer, ok, refused}
 use Rattle.automata.specs.Calls.LeastPath.{Told, told_size}
 
 -- the refusal of a judgement, and none where it has none
-abbrev pub noPathAfter : Answer (Unit {0}) → Answer (Option Told)
-noPathAfter a = a >>= λ u. ok none
+abbrev pub no_path_after : Answer (Unit {0}) → Answer (Option Told)
+no_path_after a = a >>= λ u. ok none
 
 -- the starting state and the number of arcs fit four bytes each
 pub record Fitting (x : Told) : Type 0 where

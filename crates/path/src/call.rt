@@ -3,9 +3,9 @@
 ghost use Rattle.std.specs.Prelude.{◌≡◌, ◌*◌, leb};
 ghost use Rattle.automata.specs.Lists.{and};
 ghost use Rattle.automata.specs.Calls.LeastPath.{path_answer, told_answer, path_in, path_found_of, list_path, path_outcome};
-ghost use Rattle.table.specs.Answers.{judgedAs, lent};
-ghost use Rattle.path_search.specs.Answers.{pathAs};
-ghost use Rattle.path.specs.Answers.{noPathAfter};
+ghost use Rattle.table.specs.Answers.{judged_as, lent};
+ghost use Rattle.path_search.specs.Answers.{path_as};
+ghost use Rattle.path.specs.Answers.{no_path_after};
 
 use lookup::judge::{cell_count, judge_call};
 use path_search::answer::PathAnswer;
@@ -18,7 +18,7 @@ const CELL: usize = 24;
 
 // A refusal of the table or of the tuple.
 fn refused_by(judged: Judged) -> PathAnswer
-    ensures { pathAs result ≡ noPathAfter (judgedAs judged) }
+    ensures { path_as result ≡ no_path_after (judged_as judged) }
 {
     match judged {
         Judged::Fine => PathAnswer::Nothing,
@@ -46,7 +46,7 @@ fn find(
     list: &mut [u8],
     work: &mut [u8],
 ) -> PathAnswer
-    ensures { (pathAs result ≡ told_answer (path_answer (lent counts states.now arcs.now)
+    ensures { (path_as result ≡ told_answer (path_answer (lent counts states.now arcs.now)
         tuple.now room list.old work.old))
         × (list.new ≡ path_in (path_answer (lent counts states.now arcs.now)
         tuple.now room list.old work.old) list.old) }
@@ -75,7 +75,7 @@ pub fn find_cleared(
     list: &mut [u8],
     work: &mut [u8],
 ) -> PathAnswer
-    ensures { path_found_of (pathAs result) list.new work.new
+    ensures { path_found_of (path_as result) list.new work.new
         ≡ list_path (path_answer (lent counts states.now arcs.now) tuple.now room
         list.old work.old) list.old work.old }
 {
@@ -94,7 +94,7 @@ pub fn path(
     list: &mut [u8],
     work: &mut [u8],
 ) -> PathAnswer
-    ensures { path_found_of (pathAs result) list.new work.new ≡ path_outcome
+    ensures { path_found_of (path_as result) list.new work.new ≡ path_outcome
         (lent counts states.now arcs.now) tuple.now list.old
         work.old }
 {

@@ -3,7 +3,7 @@ ghost use Rattle.std.specs.Prelude.{◌≡◌, ◌≤◌, length};
 ghost use Rattle.automata.specs.Calls.LeastPath.{told_size, told_bytes, record_told, path_recorded_of, path_recorded};
 ghost use Rattle.automata.specs.Calls.Outcome.{overwrite};
 ghost use Rattle.table.specs.Answers.{lent};
-ghost use Rattle.path_search.specs.Answers.{toldAs, pathAs};
+ghost use Rattle.path_search.specs.Answers.{told_as, path_as};
 ghost use Rattle.path.specs.Answers.{Fitting, Recordable};
 
 use crate::call::find_cleared;
@@ -17,8 +17,8 @@ pub const TOLD: usize = 24;
 // What is told of a path, over the front of the result space: weight, 0 for a second part of it, starting state, number
 // of arcs.
 fn put_told(told: PathTold, res: &mut [u8])
-    requires { Fitting (toldAs told) × (told_size ≤ length res.old) }
-    ensures { res.new ≡ overwrite (told_bytes (toldAs told)) res.old }
+    requires { Fitting (told_as told) × (told_size ≤ length res.old) }
+    ensures { res.new ≡ overwrite (told_bytes (told_as told)) res.old }
 {
     put64(res, 0, told.weight);
     put64(res, 8, 0);
@@ -28,8 +28,8 @@ fn put_told(told: PathTold, res: &mut [u8])
 
 // The same of an answer, where a path is told.
 fn record_told(answer: PathAnswer, res: &mut [u8])
-    requires { Recordable (pathAs answer) (length res.old) }
-    ensures { res.new ≡ record_told (pathAs answer) res.old }
+    requires { Recordable (path_as answer) (length res.old) }
+    ensures { res.new ≡ record_told (path_as answer) res.old }
 {
     match answer {
         PathAnswer::Path(told) => put_told(told, res),
@@ -48,7 +48,7 @@ pub fn path_into(
     list: &mut [u8],
     work: &mut [u8],
 ) -> PathAnswer
-    ensures { path_recorded_of (pathAs result) res.new list.new work.new
+    ensures { path_recorded_of (path_as result) res.new list.new work.new
         ≡ path_recorded (lent counts states.now arcs.now) tuple.now
         res.old list.old work.old }
 {

@@ -25,8 +25,8 @@ use Rattle.lookup_moves.specs.Spots.{Spanned, spot_of}
 use Rattle.table.specs.Arcs.{target_of, labels_start}
 use Rattle.lookup_cells.specs.Pushes.{back_by}
 use Rattle.lookup_cells.proofs.MoveMeaning.{combinations_positive, label_length, first_short, next-short, labelled, shift, place-moved}
-use Rattle.lookup_cells.proofs.PushMeaning.{AtSpot, ready, arc-labels, arc-before, arc-back}
-use Rattle.lookup_cells.proofs.SpotMeaning.{digits, place_digits, span_at, all_at, at-spot}
+use Rattle.lookup_cells.proofs.PushMeaning.{AtSpot, ready, arc_labels, arc_before, arc_back}
+use Rattle.lookup_cells.proofs.SpotMeaning.{digits, place_digits, span_at, all_at, at_spot}
 use Rattle.path_search.specs.Tight.{shift_by, shift_of, end_there}
 use Rattle.path_search.proofs.TightArcFacts.{ends_there, number_to, TightArc}
 
@@ -69,7 +69,7 @@ module _ (c : Counts) (states arcs text : List ℕ) (sound : Sound (lent c state
     (tapes-are : length t ≡ c.tapes) (spans : Spans) (spanned : Spanned s.lengths spans) where
   -- the combination with number b
   spot : (b : ℕ) → b < combinations t → AtSpot text t (spot_of s spans b) (digits b t)
-  spot = at-spot text t s stands spans spanned
+  spot = at_spot text t s stands spans spanned
 
   module _ (e : ℕ) (lt : e < c.arcs) where
     -- the labels of an arc move the number of a combination by as much as is computed
@@ -81,7 +81,7 @@ module _ (c : Counts) (states arcs text : List ℕ) (sound : Sound (lent c state
         shift_means c.tapes 0 (labels_start (arc_size * e)) arcs spans.spans t tapes-are
         (λ j h. ap (λ (k : ℕ). get_or spans.spans k 0) (zero-add j) ∙ span_at text t s stands spans spanned j (omega (arith, few)))
         (omega (arith, ls.lent, few)) (λ i h. ls.short i (omega (arith, few)))
-        ∙ ap (λ (l : List (List ℕ)). shift l t) (arc-labels c states arcs text sound t tapes-are (spot_of s spans 0) (digits 0 t) at e lt)
+        ∙ ap (λ (l : List (List ℕ)). shift l t) (arc_labels c states arcs text sound t tapes-are (spot_of s spans 0) (digits 0 t) at e lt)
 
     -- so they lead from positions to those behind them
     number-to : (q : ℕ) (ps : List ℕ) → Positions ps t → number_to c arcs spans (cell q ps t) e ≡ place (moved ps (table_arc c arcs e).labels) t
@@ -89,15 +89,15 @@ module _ (c : Counts) (states arcs text : List ℕ) (sound : Sound (lent c state
 
   module _ (ws : List ℕ) (q : ℕ) (ps : List ℕ) (pos : Positions ps t) (e d : ℕ) where
     -- a tight arc is an arc of the table that leads from one cell to the other
-    pub tight-arc : TightArc c arcs text s spans ws (cell q ps t) e d → ArcFrom t ws q ps (table_arc c arcs e) d
+    pub tight_arc : TightArc c arcs text s spans ws (cell q ps t) e d → ArcFrom t ws q ps (table_arc c arcs e) d
     unfolding arc_at content_at
-    tight-arc x =
+    tight_arc x =
         let n : ℕ = number_to c arcs spans (cell q ps t) e in
         let ls : List (List ℕ) = (table_arc c arcs e).labels in
         let small : n < combinations t = omega (arith, x.fits, all_at text t s stands spans spanned) in
         let at = spot n small in
         let (k, f) = ends_there (back_by c.tapes e arcs text (spot_of s spans n)) x.spells in
-        let b = arc-before c states arcs text sound t tapes-are (spot_of s spans n) (digits n t) at e x.in_table k f in
+        let b = arc_before c states arcs text sound t tapes-are (spot_of s spans n) (digits n t) at e x.in_table k f in
         let led : place (moved b.earlier ls) t ≡ place (digits n t) t = ap (λ (z : List ℕ). place z t) b.leads in
         let same : place b.earlier t ≡ place ps t
         = omega (arith, led, place_digits n t small, place-moved b.earlier ls t b.positions, number-to e x.in_table q ps pos, place-moved ps ls t pos) in
@@ -111,15 +111,15 @@ module _ (c : Counts) (states arcs text : List ℕ) (sound : Sound (lent c state
         }
 
     -- and the other way round
-    pub arc-tight : e < c.arcs → ArcFrom t ws q ps (table_arc c arcs e) d → TightArc c arcs text s spans ws (cell q ps t) e d
+    pub arc_tight : e < c.arcs → ArcFrom t ws q ps (table_arc c arcs e) d → TightArc c arcs text s spans ws (cell q ps t) e d
     unfolding arc_at content_at
-    arc-tight lt x =
+    arc_tight lt x =
         let n : ℕ = number_to c arcs spans (cell q ps t) e in
         let ls : List (List ℕ) = (table_arc c arcs e).labels in
         let to = number-to e lt q ps pos in
         let small : n < combinations t = omega (arith, to, place_lt (moved ps ls) t x.positions) in
         let there : moved ps ls ≡ digits n t = place_inj (moved ps ls) (digits n t) t x.positions (spot n small).positions (sym to ∙ sym (place_digits n t small)) in
-        let back = arc-back c states arcs text sound t tapes-are (spot_of s spans n) (digits n t) (spot n small) e lt ps (drop_all (moved ps ls) t) pos there x.left in record {
+        let back = arc_back c states arcs text sound t tapes-are (spot_of s spans n) (digits n t) (spot n small) e lt ps (drop_all (moved ps ls) t) pos there x.left in record {
           in_table = lt;
           from = x.from ∙ sym (cell-state text t s stands spans spanned q ps pos);
           fits = omega (arith, small, all_at text t s stands spans spanned);

@@ -14,9 +14,9 @@ use Rattle.table.specs.declared.answer.Counts.{Counts}
 use Rattle.lookup_tuple.specs.declared.Strings.{Strings}
 use Rattle.lookup_moves.specs.declared.spot.Spans.{Spans}
 use Rattle.lookup_moves.specs.Distances.{cells_of}
-use Rattle.path_search.specs.Search.{Search, search_of, order_at, enter_starts, followArcs, search_from}
+use Rattle.path_search.specs.Search.{Search, search_of, order_at, enter_starts, follow_arcs, search_from}
 use Rattle.path_search.specs.FirstPath.{Kept}
-use Rattle.path_search.proofs.FollowFacts.{starts-front, starts-kept, follow-arcs-kept}
+use Rattle.path_search.proofs.FollowFacts.{starts_front, starts_kept, follow_arcs_kept}
 use Rattle.path_search.specs.Tight.{next_cell, start_cell, end_cell}
 use Rattle.path_search.proofs.TightArcFacts.{next_lt, start_lt}
 use Rattle.path_search.proofs.KeptFacts.{next_kept, end_kept}
@@ -40,14 +40,14 @@ module _ (cells : ℕ) (next other : ℕ → ℕ → Option ℕ) (arcs : ℕ) (e
 
       go : (b : Bool) → ltb head s.tail ≡ b
           → ((x : Search) → Kept cells x → search_from cells next arcs end k (head + 1) x ≡ search_from cells other arcs stop k (head + 1) x)
-          → if b (if (end here) (some here, s) (search_from cells next arcs end k (head + 1) (followArcs cells next arcs here 0 s))) (none, s)
-          ≡ if b (if (stop here) (some here, s) (search_from cells other arcs stop k (head + 1) (followArcs cells other arcs here 0 s))) (none, s)
+          → if b (if (end here) (some here, s) (search_from cells next arcs end k (head + 1) (follow_arcs cells next arcs here 0 s))) (none, s)
+          ≡ if b (if (stop here) (some here, s) (search_from cells other arcs stop k (head + 1) (follow_arcs cells other arcs here 0 s))) (none, s)
       go false e ih = refl
       go true e ih =
           let lt : here < cells = kept.cell head (ltb-true head s.tail e) in
           ap₂ (λ (b : Bool) (x : Option ℕ × Search). if b (some here, s) x) (ends here lt)
           (ap (search_from cells next arcs end k (head + 1)) (follow_arcs_same cells next other here (λ a. same here a lt) arcs 0 s)
-          ∙ ih (followArcs cells other arcs here 0 s) (follow-arcs-kept cells other other-lt few arcs here 0 s kept))
+          ∙ ih (follow_arcs cells other arcs here 0 s) (follow_arcs_kept cells other other-lt few arcs here 0 s kept))
 
 -- ---- the starts, then the search
 
@@ -64,11 +64,11 @@ module _ (c : Counts) (states arcs text : List ℕ) (s : Strings) (spans : Spans
 
   -- the weights are as before
   front : take cells (cells_of w) ≡ take cells (cells_of v)
-  front = ap (λ (x : Search). take cells x.numbers) e ∙ starts-front cells start c.states 0 (search_of (cells_of v) 0)
+  front = ap (λ (x : Search). take cells x.numbers) e ∙ starts_front cells start c.states 0 (search_of (cells_of v) 0)
 
   pub started_kept : Kept cells (search_of (cells_of w) n)
   started_kept = subst (Kept cells) (sym e)
-      (starts-kept cells start (start_lt c.states states spans.all h.some_combination (cells_of v) least) c.states 0 (search_of (cells_of v) 0) kept)
+      (starts_kept cells start (start_lt c.states states spans.all h.some_combination (cells_of v) least) c.states 0 (search_of (cells_of v) 0) kept)
 
   pub started_weights : length w ≡ length v → Weights cells v → Weights cells w
   started_weights l = weights_kept c.states spans.all w v l front

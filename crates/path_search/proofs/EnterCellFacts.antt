@@ -18,15 +18,15 @@ module _ (cells cell found : ℕ) (w : List ℕ) (h : Kept cells (search_of (cel
 
   module _ (mark : ℕ) (e : mark ≡ get_or (cells_of w) (cells + cell) 0) where
     -- where a cell is not found, so does the place behind the cells found
-    pub order-room : far ≤ mark → 8 * (2 * cells + found) + 8 ≤ length w
-    order-room out =
+    pub order_room : far ≤ mark → 8 * (2 * cells + found) + 8 ≤ length w
+    order_room out =
         let room = enter-room cells cell (search_of (cells_of w) found) h lt (omega (arith, e, out)) in
         omega (arith, h.room, length_cells w, room)
 
     -- a cell that is found changes nothing
-    pub stays-found : (arc : ℕ) → mark < far → search_of (cells_of w) found ≡ enter cells arc cell (search_of (cells_of w) found)
+    pub stays_found : (arc : ℕ) → mark < far → search_of (cells_of w) found ≡ enter cells arc cell (search_of (cells_of w) found)
     unfolding enter
-    stays-found arc in_order = rw (← e, lt-ltb mark far in_order)
+    stays_found arc in_order = rw (← e, lt-ltb mark far in_order)
 
     -- one that is not is found when its mark is stored, and its number behind the cells found
     pub is_found : (arc : ℕ) (u v : List ℕ) → far ≤ mark → cells_of u ≡ set (cells_of w) (cells + cell) arc

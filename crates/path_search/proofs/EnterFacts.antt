@@ -78,21 +78,21 @@ module _ (cells : ℕ) where
       at : ℕ → ℕ
       at i = if (ltb i s.tail) (order_at cells s.numbers i) c
 
-      at-found : (i : ℕ) → i < s.tail → at i ≡ order_at cells s.numbers i
-      at-found i l = ap (λ (b : Bool). if b (order_at cells s.numbers i) c) (ltb_of_lt l)
+      at_found : (i : ℕ) → i < s.tail → at i ≡ order_at cells s.numbers i
+      at_found i l = ap (λ (b : Bool). if b (order_at cells s.numbers i) c) (ltb_of_lt l)
 
       at_last : (i : ℕ) → s.tail ≤ i → at i ≡ c
       at_last i l = ap (λ (b : Bool). if b (order_at cells s.numbers i) c) (ltb_of_le l)
 
       small : (i : ℕ) → Dec (i < s.tail) → at i < cells
-      small i (yes l) = omega (arith, at-found i l, k.cell i l)
+      small i (yes l) = omega (arith, at_found i l, k.cell i l)
       small i (no l) = omega (arith, at_last i (omega arith))
 
       differ : (i j : ℕ) → i < j → i < s.tail → j ≤ cells → cells ≤ s.tail → at i ≡ at j → Dec (j < s.tail) → ⊥
       differ i j l in-i le full same (yes in-j) =
-          omega (arith, k.once i j in-i in-j (sym (at-found i in-i) ∙ same ∙ at-found j in-j))
+          omega (arith, k.once i j in-i in-j (sym (at_found i in-i) ∙ same ∙ at_found j in-j))
       differ i j l in-i le full same (no out-j) =
-          let e : order_at cells s.numbers i ≡ c = sym (at-found i in-i) ∙ same ∙ at_last j (omega arith) in
+          let e : order_at cells s.numbers i ≡ c = sym (at_found i in-i) ∙ same ∙ at_last j (omega arith) in
           omega (arith, out, ap (mark_at cells s.numbers) e, k.found i in-i)
 
       go : Dec (s.tail < cells) → s.tail < cells
@@ -112,8 +112,8 @@ module _ (cells : ℕ) where
 
   module _ (e c : ℕ) (s : Search) (k : Kept cells s) (lt : c < cells) where
     -- so it is with the cell behind the others
-    entered-is : far ≤ mark_at cells s.numbers c → Entered e c s (entered e c s)
-    entered-is out =
+    entered_is : far ≤ mark_at cells s.numbers c → Entered e c s (entered e c s)
+    entered_is out =
         let room : s.tail < cells = enter-room c s k lt out in record {
           unfound = out;
           more = refl;
@@ -141,7 +141,7 @@ module _ (cells : ℕ) where
         go : Dec (mark_at cells s.numbers c < far)
             → ((mark_at cells s.numbers c < far) × (enter cells e c s ≡ s)) ⊎ Entered e c s (enter cells e c s)
         go (yes h) = inl (h, enter_found e c s h)
-        go (no h) = inr (subst (Entered e c s) (sym (enter_unfound e c s (omega arith))) (entered-is (omega arith)))
+        go (no h) = inr (subst (Entered e c s) (sym (enter_unfound e c s (omega arith))) (entered_is (omega arith)))
 
   -- the numbers still hang together where the cell is put behind the others
   entered_kept : (e c : ℕ) (s t : Search) → Kept cells s → c < cells → e < far → length t.numbers ≡ length s.numbers
@@ -149,10 +149,10 @@ module _ (cells : ℕ) where
   entered_kept e c s t k lt small size h = record {
     room = omega (arith, size, k.room);
     few = omega (arith, h.more, enter-room c s k lt h.unfound);
-    cell = λ i l. cell-of i (below_suc (omega (arith, l, h.more)));
-    found = λ i l. found_of i (below_suc (omega (arith, l, h.more)));
+    cell = λ i l. cell_of i (below_suc (omega (arith, l, h.more)));
+    found = λ i l. found_of_lem i (below_suc (omega (arith, l, h.more)));
     place = λ b l m. place_of b l m (ℕ_discrete b c);
-    once = λ i j l m. once-of i j (below_suc (omega (arith, l, h.more))) (below_suc (omega (arith, m, h.more)));
+    once = λ i j l m. once_of i j (below_suc (omega (arith, l, h.more))) (below_suc (omega (arith, m, h.more)));
   }
     where
       order : ℕ → ℕ
@@ -174,14 +174,14 @@ module _ (cells : ℕ) where
       another : (i : ℕ) → i < s.tail → order i ≢ c
       another i l p = omega (arith, h.unfound, ap mark p, k.found i l)
 
-      cell-of : (i : ℕ) → (i < s.tail) ⊎ (i ≡ s.tail) → order' i < cells
-      cell-of i (inl l) = omega (arith, h.earlier i l, k.cell i l)
-      cell-of i (inr p) = omega (arith, at_last i p)
+      cell_of : (i : ℕ) → (i < s.tail) ⊎ (i ≡ s.tail) → order' i < cells
+      cell_of i (inl l) = omega (arith, h.earlier i l, k.cell i l)
+      cell_of i (inr p) = omega (arith, at_last i p)
 
-      found_of : (i : ℕ) → (i < s.tail) ⊎ (i ≡ s.tail) → mark' (order' i) < far
-      found_of i (inl l) =
+      found_of_lem : (i : ℕ) → (i < s.tail) ⊎ (i ≡ s.tail) → mark' (order' i) < far
+      found_of_lem i (inl l) =
           omega (arith, ap mark' (h.earlier i l), h.others (order i) (k.cell i l) (another i l), k.found i l)
-      found_of i (inr p) = omega (arith, ap mark' (at_last i p), h.own)
+      found_of_lem i (inr p) = omega (arith, ap mark' (at_last i p), h.own)
 
       place_of : (b : ℕ) → b < cells → mark' b < far → Dec (b ≡ c) → (i : ℕ) × (i < t.tail) × (order' i ≡ b)
       place_of b l m (yes p) = (s.tail, omega (arith, h.more), h.last ∙ sym p)
@@ -189,11 +189,11 @@ module _ (cells : ℕ) where
           let (i, in-s, p) = k.place b l (omega (arith, m, h.others b l ne)) in
           (i, omega (arith, in-s, h.more), h.earlier i in-s ∙ p)
 
-      once-of : (i j : ℕ) → (i < s.tail) ⊎ (i ≡ s.tail) → (j < s.tail) ⊎ (j ≡ s.tail) → order' i ≡ order' j → i ≡ j
-      once-of i j (inl l) (inl m) p = k.once i j l m (sym (h.earlier i l) ∙ p ∙ h.earlier j m)
-      once-of i j (inl l) (inr q) p = absurd (another i l (sym (h.earlier i l) ∙ p ∙ at_last j q))
-      once-of i j (inr q) (inl m) p = absurd (another j m (sym (h.earlier j m) ∙ sym p ∙ at_last i q))
-      once-of i j (inr q) (inr r) p = q ∙ sym r
+      once_of : (i j : ℕ) → (i < s.tail) ⊎ (i ≡ s.tail) → (j < s.tail) ⊎ (j ≡ s.tail) → order' i ≡ order' j → i ≡ j
+      once_of i j (inl l) (inl m) p = k.once i j l m (sym (h.earlier i l) ∙ p ∙ h.earlier j m)
+      once_of i j (inl l) (inr q) p = absurd (another i l (sym (h.earlier i l) ∙ p ∙ at_last j q))
+      once_of i j (inr q) (inl m) p = absurd (another j m (sym (h.earlier j m) ∙ sym p ∙ at_last i q))
+      once_of i j (inr q) (inr r) p = q ∙ sym r
 
   -- the numbers still hang together when a cell is found
   pub enter_kept : (e c : ℕ) (s : Search) → Kept cells s → c < cells → e < far → Kept cells (enter cells e c s)

@@ -7,7 +7,7 @@ use native.Mathlib.Omega.{arith}
 use Rattle.automata.specs.Paths.{Trace}
 use Rattle.lookup_moves.specs.Distances.{far}
 use Rattle.path_search.specs.Search.{mark_at}
-use Rattle.path_search.specs.FirstPath.{Follows, stop, step, Reaches, Back, at-start, behind}
+use Rattle.path_search.specs.FirstPath.{Follows, stop, step, Reaches, Back, at_start, behind}
 use Rattle.path_search.proofs.TraceFacts.{trace_of, onward, and_arc}
 
 -- the marks of cells found are the same in ys as in xs
@@ -47,8 +47,8 @@ module _ (next : ℕ → ℕ → Option ℕ) (start : ℕ → Option ℕ) where
   pub back_stays : (cells arcs states : ℕ) → ((c e d : ℕ) → next c e ≡ some d → (e < arcs) × (d < cells))
       → ((q c : ℕ) → start q ≡ some c → (q < states) × (c < cells)) → arcs ≤ 65535 → (xs ys : List ℕ) → MarksStay cells xs ys
       → (q c : ℕ) (r : List ℕ) → Back next start cells xs q r c → Back next start cells ys q r c
-  back_stays cells arcs states next-lt start-lt few xs ys stay q c r (at-start e m) =
-      at-start e (stay c (start-lt q c e).1 (omega arith) ∙ m)
+  back_stays cells arcs states next-lt start-lt few xs ys stay q c r (at_start e m) =
+      at_start e (stay c (start-lt q c e).1 (omega arith) ∙ m)
   back_stays cells arcs states next-lt start-lt few xs ys stay q c r' (behind {r = r} {b = b} e h n m) =
       let (l, k) = next-lt b e c n in
       behind e (back_stays cells arcs states next-lt start-lt few xs ys stay q b r h) n (stay c k (omega arith) ∙ m)

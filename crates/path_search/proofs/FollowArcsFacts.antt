@@ -18,14 +18,14 @@ use Rattle.lookup_moves.specs.Distances.{cells_of}
 use Rattle.lookup_moves.specs.Moves.{Labelled}
 use Rattle.table_adjacency.specs.Chains.{Chained}
 use Rattle.table_adjacency.proofs.ChainFacts.{First, first-arc, next-arc}
-use Rattle.path_search.specs.Search.{Search, search_of, enter, entered, follow, followArcs}
+use Rattle.path_search.specs.Search.{Search, search_of, enter, entered, follow, follow_arcs}
 use Rattle.path_search.specs.FirstPath.{Kept}
-use Rattle.path_search.proofs.FollowFacts.{follow-front, follow-kept}
+use Rattle.path_search.proofs.FollowFacts.{follow_front, follow_kept}
 use Rattle.table.specs.Arcs.{source_of, labels_start}
 use Rattle.path_search.specs.Tight.{shift_by, shift_of, tight_to, next_cell}
 use Rattle.path_search.specs.declared.answer.Reached.{Reached}
 use Rattle.path_search.specs.declared.answer.Reached.TheVariants.{Cell, Nowhere}
-use Rattle.path_search.specs.Answers.{reachedAs}
+use Rattle.path_search.specs.Answers.{reached_as}
 use Rattle.path_search.specs.Searchable.{Spannable, Searchable}
 use Rattle.path_search.proofs.TightArcFacts.{next_lt}
 use Rattle.path_search.proofs.KeptFacts.{next_kept}
@@ -56,36 +56,36 @@ module _ (cells : ℕ) (next : ℕ → ℕ → Option ℕ) where
 
   -- arcs that lead nowhere are passed over
   skip : (here n k i : ℕ) (s : Search) → k + i ≤ n → ((j : ℕ) → k ≤ j → j < k + i → next here j ≡ none)
-      → followArcs cells next (n - k) here k s ≡ followArcs cells next (n - (k + i)) here (k + i) s
-  unfolding followArcs
+      → follow_arcs cells next (n - k) here k s ≡ follow_arcs cells next (n - (k + i)) here (k + i) s
+  unfolding follow_arcs
   skip here n k zero s le z = let e : k + 0 ≡ k = omega arith in rw e
   skip here n k (suc i) s le z =
       let a : n - k ≡ suc (n - (k + 1)) = omega arith in
       let b : k + suc i ≡ k + 1 + i = omega arith in
-      ap (λ (m : ℕ). followArcs cells next m here k s) a
-      ∙ ap (followArcs cells next (n - (k + 1)) here (k + 1)) (follow-none here k s (z k (omega arith) (omega arith)))
+      ap (λ (m : ℕ). follow_arcs cells next m here k s) a
+      ∙ ap (follow_arcs cells next (n - (k + 1)) here (k + 1)) (follow-none here k s (z k (omega arith) (omega arith)))
       ∙ skip here n (k + 1) i s (omega arith) (λ j l m. z j (omega arith) (omega arith))
-      ∙ ap (λ (m : ℕ). followArcs cells next (n - m) here m s) (sym b)
+      ∙ ap (λ (m : ℕ). follow_arcs cells next (n - m) here m s) (sym b)
 
   -- the same up to arc j
   skip_to : (here n k j : ℕ) (s : Search) → k ≤ j → j ≤ n → ((i : ℕ) → k ≤ i → i < j → next here i ≡ none)
-      → followArcs cells next (n - k) here k s ≡ followArcs cells next (n - j) here j s
+      → follow_arcs cells next (n - k) here k s ≡ follow_arcs cells next (n - j) here j s
   skip_to here n k j s le l z =
       let e : k + (j - k) ≡ j = omega arith in
       skip here n k (j - k) s (omega arith) (λ i a b. z i a (omega arith))
-      ∙ ap (λ (m : ℕ). followArcs cells next (n - m) here m s) e
+      ∙ ap (λ (m : ℕ). follow_arcs cells next (n - m) here m s) e
 
   -- one arc more is done
   follow-more : (here n e : ℕ) (s : Search) → e < n
-      → followArcs cells next (n - (e + 1)) here (e + 1) (follow cells next here e s) ≡ followArcs cells next (n - e) here e s
-  unfolding followArcs
+      → follow_arcs cells next (n - (e + 1)) here (e + 1) (follow cells next here e s) ≡ follow_arcs cells next (n - e) here e s
+  unfolding follow_arcs
   follow-more here n e s l =
-      let a : n - e ≡ suc (n - (e + 1)) = omega arith in sym (ap (λ (m : ℕ). followArcs cells next m here e s) a)
+      let a : n - e ≡ suc (n - (e + 1)) = omega arith in sym (ap (λ (m : ℕ). follow_arcs cells next m here e s) a)
 
   -- no arc is left
-  follow_end : (here n e : ℕ) (s : Search) → n ≤ e → followArcs cells next (n - e) here e s ≡ s
-  unfolding followArcs
-  follow_end here n e s l = let a : n - e ≡ 0 = omega arith in ap (λ (m : ℕ). followArcs cells next m here e s) a
+  follow_end : (here n e : ℕ) (s : Search) → n ≤ e → follow_arcs cells next (n - e) here e s ≡ s
+  unfolding follow_arcs
+  follow_end here n e s l = let a : n - e ≡ 0 = omega arith in ap (λ (m : ℕ). follow_arcs cells next m here e s) a
 
 module _ (cells : ℕ) (next other : ℕ → ℕ → Option ℕ) where
   -- an arc that leads to the same cell finds it
@@ -95,18 +95,18 @@ module _ (cells : ℕ) (next other : ℕ → ℕ → Option ℕ) where
 
   -- and so do all arcs of a cell
   pub follow_arcs_same : (here : ℕ) → ((e : ℕ) → next here e ≡ other here e) → (k e : ℕ) (s : Search)
-      → followArcs cells next k here e s ≡ followArcs cells other k here e s
-  unfolding followArcs
+      → follow_arcs cells next k here e s ≡ follow_arcs cells other k here e s
+  unfolding follow_arcs
   follow_arcs_same here p zero e s = refl
   follow_arcs_same here p (suc k) e s =
-      ap (followArcs cells next k here (e + 1)) (follow_same here e s (p e)) ∙ follow_arcs_same here p k (e + 1) (follow cells other here e s)
+      ap (follow_arcs cells next k here (e + 1)) (follow_same here e s (p e)) ∙ follow_arcs_same here p k (e + 1) (follow cells other here e s)
 
 -- Arcs before e took the work space from v to w, from `found` cells to `count`; e leaves the state of the cell, or no
 -- arc is left.
 pub record Following (c : Counts) (arcs text : List ℕ) (strings : Strings) (spans : Spans) (here found : ℕ) (v : List ℕ)
     (e count : ℕ) (w : List ℕ) : Type 0 where
-  pub rest : followArcs (c.states * spans.all) (next_cell c arcs text strings spans (cells_of v)) (c.arcs - e) here e (search_of (cells_of w) count)
-      ≡ followArcs (c.states * spans.all) (next_cell c arcs text strings spans (cells_of v)) c.arcs here 0 (search_of (cells_of v) found)
+  pub rest : follow_arcs (c.states * spans.all) (next_cell c arcs text strings spans (cells_of v)) (c.arcs - e) here e (search_of (cells_of w) count)
+      ≡ follow_arcs (c.states * spans.all) (next_cell c arcs text strings spans (cells_of v)) c.arcs here 0 (search_of (cells_of v) found)
   pub front : take (c.states * spans.all) (cells_of w) ≡ take (c.states * spans.all) (cells_of v)
   pub kept : Kept (c.states * spans.all) (search_of (cells_of w) count)
   pub same_length : length w ≡ length v
@@ -132,31 +132,31 @@ module _ (c : Counts) (arcs text : List ℕ) (strings : Strings) (spans : Spans)
   module _ (ws : List ℕ) (here e : ℕ) (l : e < c.arcs) (p : source_of arcs e ≡ here / spans.all)
       (x to : ℕ) (q : x ≡ shift_of c arcs spans.spans e) (t : to ≡ here % spans.all + x) where
     -- it leads from a cell of its source where it is tight
-    next-tight : next_cell c arcs text strings spans ws here e ≡ tight_to c arcs text strings spans ws to here e
+    next_tight : next_cell c arcs text strings spans ws here e ≡ tight_to c arcs text strings spans ws to here e
     unfolding next_cell
-    next-tight =
+    next_tight =
         let a : ltb e c.arcs ≡ true = lt-ltb e c.arcs l in
         let b : eqb (source_of arcs e) (here / spans.all) ≡ true = eq-eqb (source_of arcs e) (here / spans.all) p in
         let d : here % spans.all + shift_of c arcs spans.spans e ≡ to = ap (λ (k : ℕ). here % spans.all + k) (sym q) ∙ sym t in
         rw (a, b, d)
 
     -- nowhere: no cell is found
-    pub follow-nowhere : (cells : ℕ) (s : Search) (r : Reached) → reachedAs r ≡ tight_to c arcs text strings spans ws to here e → r ≡ Nowhere
+    pub follow_nowhere : (cells : ℕ) (s : Search) (r : Reached) → reached_as r ≡ tight_to c arcs text strings spans ws to here e → r ≡ Nowhere
         → s ≡ follow cells (next_cell c arcs text strings spans ws) here e s
-    follow-nowhere cells s r k n =
-        sym (follow-none cells (next_cell c arcs text strings spans ws) here e s (next-tight ∙ sym k ∙ ap reachedAs n))
+    follow_nowhere cells s r k n =
+        sym (follow-none cells (next_cell c arcs text strings spans ws) here e s (next_tight ∙ sym k ∙ ap reached_as n))
 
     -- to a cell, which is one of the cells
-    pub reached-lt : (r : Reached) (d : ℕ) → reachedAs r ≡ tight_to c arcs text strings spans ws to here e → r ≡ Cell d
+    pub reached_lt : (r : Reached) (d : ℕ) → reached_as r ≡ tight_to c arcs text strings spans ws to here e → r ≡ Cell d
         → d < c.states * spans.all
-    reached-lt r d k n = tight_lt c arcs text strings spans h ws to here e d l (sym k ∙ ap reachedAs n)
+    reached_lt r d k n = tight_lt c arcs text strings spans h ws to here e d l (sym k ∙ ap reached_as n)
 
     -- which is found
-    pub follow-there : (cells : ℕ) (s u : Search) (r : Reached) (d : ℕ) → reachedAs r ≡ tight_to c arcs text strings spans ws to here e → r ≡ Cell d
+    pub follow_there : (cells : ℕ) (s u : Search) (r : Reached) (d : ℕ) → reached_as r ≡ tight_to c arcs text strings spans ws to here e → r ≡ Cell d
         → u ≡ enter cells e d s → u ≡ follow cells (next_cell c arcs text strings spans ws) here e s
     unfolding follow
-    follow-there cells s u r d k n f =
-        f ∙ sym (ap (λ (o : Option ℕ). entered cells e o s) (next-tight ∙ sym k ∙ ap reachedAs n))
+    follow_there cells s u r d k n f =
+        f ∙ sym (ap (λ (o : Option ℕ). entered cells e o s) (next_tight ∙ sym k ∙ ap reached_as n))
 
   -- ---- the arcs that leave the state of a cell
 
@@ -176,16 +176,16 @@ module _ (c : Counts) (arcs text : List ℕ) (strings : Strings) (spans : Spans)
       (chained : Chained c.states c.arcs arcs firsts nexts) where
     -- the arcs between two that leave the state are passed over
     passed : (k j : ℕ) (s : Search) → First arcs (here / spans.all) c.arcs k j
-        → followArcs (c.states * spans.all) (next_cell c arcs text strings spans (cells_of v)) (c.arcs - j) here j s
-        ≡ followArcs (c.states * spans.all) (next_cell c arcs text strings spans (cells_of v)) (c.arcs - k) here k s
+        → follow_arcs (c.states * spans.all) (next_cell c arcs text strings spans (cells_of v)) (c.arcs - j) here j s
+        ≡ follow_arcs (c.states * spans.all) (next_cell c arcs text strings spans (cells_of v)) (c.arcs - k) here k s
     passed k j s f =
         sym (skip_to (c.states * spans.all) (next_cell c arcs text strings spans (cells_of v)) here c.arcs k j s f.behind f.within
         (λ i l m. next_away (cells_of v) here i (f.between i l m)))
 
     -- before the first arc
-    pub following-start : Kept (c.states * spans.all) (search_of (cells_of v) found) → (e : ℕ) → e ≡ get_or firsts (here / spans.all) 0
+    pub following_start : Kept (c.states * spans.all) (search_of (cells_of v) found) → (e : ℕ) → e ≡ get_or firsts (here / spans.all) 0
         → Following c arcs text strings spans here found v e found v
-    following-start k e p = record {
+    following_start k e p = record {
       rest = passed 0 e (search_of (cells_of v) found) first ∙ ap from_first all_left;
       front = refl;
       kept = k;
@@ -199,23 +199,23 @@ module _ (c : Counts) (arcs text : List ℕ) (strings : Strings) (spans : Spans)
             (state_lt c.states spans.all here h.some_combination lt))
 
         from_first : ℕ → Search
-        from_first n = followArcs (c.states * spans.all) (next_cell c arcs text strings spans (cells_of v)) n here 0 (search_of (cells_of v) found)
+        from_first n = follow_arcs (c.states * spans.all) (next_cell c arcs text strings spans (cells_of v)) n here 0 (search_of (cells_of v) found)
 
         all_left : c.arcs - 0 ≡ c.arcs
         all_left = omega arith
 
     module _ (e count : ℕ) (w : List ℕ) (i : Following c arcs text strings spans here found v e count w) where
       -- behind an arc
-      pub following-turn : e < c.arcs → (j r : ℕ) (u : List ℕ) → j ≡ get_or nexts e 0
+      pub following_turn : e < c.arcs → (j r : ℕ) (u : List ℕ) → j ≡ get_or nexts e 0
           → search_of (cells_of u) r ≡ follow (c.states * spans.all) (next_cell c arcs text strings spans (cells_of w)) here e (search_of (cells_of w) count)
           → length u ≡ length w → Following c arcs text strings spans here found v j r u
-      following-turn l j r u p g n = record {
+      following_turn l j r u p g n = record {
         rest = passed (e + 1) j (search_of (cells_of u) r) after
-            ∙ ap (followArcs cells next (c.arcs - (e + 1)) here (e + 1)) moved
+            ∙ ap (follow_arcs cells next (c.arcs - (e + 1)) here (e + 1)) moved
             ∙ follow-more cells next here c.arcs e s l
             ∙ i.rest;
-        front = ap (λ (x : Search). take cells x.numbers) moved ∙ follow-front cells next here e s ∙ i.front;
-        kept = subst (Kept cells) (sym moved) (follow-kept cells next (next_lt c arcs text (targets c arcs text strings spans h) strings spans (cells_of v)) (omega (arith, few)) here e s i.kept);
+        front = ap (λ (x : Search). take cells x.numbers) moved ∙ follow_front cells next here e s ∙ i.front;
+        kept = subst (Kept cells) (sym moved) (follow_kept cells next (next_lt c arcs text (targets c arcs text strings spans h) strings spans (cells_of v)) (omega (arith, few)) here e s i.kept);
         same_length = n ∙ i.same_length;
         leaves = after.leaves;
       }
@@ -241,14 +241,14 @@ module _ (c : Counts) (arcs text : List ℕ) (strings : Strings) (spans : Spans)
               (next_kept c arcs text (targets c arcs text strings spans h) strings spans (cells_of w) (cells_of v) i.front here e lt)
 
       -- the next arc comes behind
-      pub following-up : e < c.arcs → (j : ℕ) → j ≡ get_or nexts e 0 → e < j
-      following-up l j p =
+      pub following_up : e < c.arcs → (j : ℕ) → j ≡ get_or nexts e 0 → e < j
+      following_up l j p =
           omega (arith, p, (next-arc c.states c.arcs arcs firsts nexts chained (here / spans.all) e l (i.leaves l)).behind)
 
       -- no arc is left
-      pub following-end : c.arcs ≤ e
+      pub following_end : c.arcs ≤ e
           → search_of (cells_of w) count
-          ≡ followArcs (c.states * spans.all) (next_cell c arcs text strings spans (cells_of v)) c.arcs here 0 (search_of (cells_of v) found)
-      following-end l =
+          ≡ follow_arcs (c.states * spans.all) (next_cell c arcs text strings spans (cells_of v)) c.arcs here 0 (search_of (cells_of v) found)
+      following_end l =
           sym (follow_end (c.states * spans.all) (next_cell c arcs text strings spans (cells_of v)) here c.arcs e (search_of (cells_of w) count) l)
           ∙ i.rest

@@ -23,7 +23,7 @@ use Rattle.automata.proofs.LookupBounds.{lookup-le}
 use Rattle.automata.proofs.Cells.{beginnings, drop_all_beginnings, positions_beginnings}
 use Rattle.automata.proofs.CountedFacts.{Run}
 use Rattle.automata.proofs.LeastPathStarts.{Starts}
-use Rattle.automata.proofs.TightPaths.{some-start, least_start, first_is}
+use Rattle.automata.proofs.TightPaths.{some_start, least_start, first_is}
 use Rattle.automata.specs.Layout.{state_size}
 use Rattle.table.specs.Answers.{lent}
 use Rattle.table.specs.Records.{option_of, state_at}
@@ -45,7 +45,7 @@ use Rattle.lookup_cells.proofs.SpotMeaning.{all_at}
 use Rattle.path_search.specs.Tight.{next_cell, start_cell, end_cell}
 use Rattle.path_search.proofs.TightArcFacts.{start_says, says_start}
 use Rattle.path_search.proofs.TableFacts.{weight_present, table-within, table-size, initial_is, number_is}
-use Rattle.path_search.proofs.PathMeaning.{follows-run, run-follows}
+use Rattle.path_search.proofs.PathMeaning.{follows_run, run_follows}
 
 module _ (c : Counts) (states arcs text : List ℕ) (sound : Sound (lent c states arcs)) (t : Tuple) (s : Strings) (stands : Stands text t s)
     (tapes-are : length t ≡ c.tapes) (spans : Spans) (spanned : Spanned s.lengths spans) (ws : List ℕ)
@@ -116,7 +116,7 @@ module _ (c : Counts) (states arcs text : List ℕ) (sound : Sound (lent c state
         starts = starts;
         onwards = get_or ws r.first 0;
         run = subst (λ (z : Tuple). Run ℕ_sum table ρ.start z ρ.run (get_or ws r.first 0)) (drop_all_beginnings t)
-            (follows-run c states arcs text sound t s stands tapes-are spans spanned ws start r.follows h ρ.start (beginnings t) lt (positions_beginnings t)
+            (follows_run c states arcs text sound t s stands tapes-are spans spanned ws start r.follows h ρ.start (beginnings t) lt (positions_beginnings t)
             (same ∙ first_cell ρ.start));
         sum = sym sum ∙ ap (λ (k : ℕ). i + get_or ws k 0) (sym same);
       }
@@ -130,7 +130,7 @@ module _ (c : Counts) (states arcs text : List ℕ) (sound : Sound (lent c state
       let pos = positions_beginnings t in
       let onward : least_onward ℕ_sum table q (drop_all (beginnings t) t) ≡ some x.onwards
       = ap (least_onward ℕ_sum table q) all ∙ least_start ℕ_sum table within t least weighs x in
-      let (d, f, h) = run-follows c states arcs text sound t s stands tapes-are spans spanned ws start filled ρ.run q (beginnings t) x.onwards lt pos onward
+      let (d, f, h) = run_follows c states arcs text sound t s stands tapes-are spans spanned ws start filled ρ.run q (beginnings t) x.onwards lt pos onward
       (subst (λ (z : Tuple). Run ℕ_sum table q z ρ.run x.onwards) (sym all) x.run) in
       let number : get_or ws (q * spans.all + 0) 0 ≡ x.onwards
       = ap (λ (k : ℕ). get_or ws k 0) (first_cell q)
@@ -150,7 +150,7 @@ module _ (c : Counts) (states arcs text : List ℕ) (sound : Sound (lent c state
   -- Some path leads to an end.
   pub least_reaches : (ρ : Trace) × (d : ℕ) × Reaches next start ρ d × (end d ≡ true)
   least_reaches =
-      let (q, r, x) = some-start ℕ_sum table within t least weighs in
+      let (q, r, x) = some_start ℕ_sum table within t least weighs in
       let ρ : Trace = record { start = q; run = r } in
       let (d, p, h) = starts_reaches ρ x in
       (ρ, d, p, h)

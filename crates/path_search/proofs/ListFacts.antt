@@ -16,7 +16,7 @@ use Rattle.table.specs.declared.answer.Counts.{Counts}
 use Rattle.lookup_moves.specs.declared.spot.Spans.{Spans}
 use Rattle.path_search.specs.declared.answer.PathTold.{PathTold}
 use Rattle.path_search.specs.declared.answer.PathAnswer.TheVariants.{Path}
-use Rattle.path_search.specs.Answers.{pathAs}
+use Rattle.path_search.specs.Answers.{path_as}
 use Rattle.path_search.specs.Trail.{mark_of, found_from, count_back, run_back, CanWalk}
 use Rattle.path_search.specs.Traced.{traced}
 
@@ -38,20 +38,20 @@ module _ (c : Counts) (arcs : List ℕ) (spans : Spans) (xs : List ℕ) where
     account = traced c arcs spans xs weight found end
 
     -- it has n arcs
-    arcs-are : length account.path.run ≡ n
-    arcs-are = omega (arith, run_length (count_back c arcs spans xs found end) end [], n-is)
+    arcs_are : length account.path.run ≡ n
+    arcs_are = omega (arith, run_length (count_back c arcs spans xs found end) end [], n-is)
 
     -- the list is too short
     listed-short : places_in list < n → listed (places_in list) (some account) ≡ refused 14
-    listed-short h = ap (λ (b : Bool). judge b 14 (ok (some account))) (lt-leb (length account.path.run) (places_in list) (omega (arith, arcs-are, h)))
+    listed-short h = ap (λ (b : Bool). judge b 14 (ok (some account))) (lt-leb (length account.path.run) (places_in list) (omega (arith, arcs_are, h)))
 
     pub short-told : places_in list < n
         → (refused 14 ≡ told_answer (listed (places_in list) (some account))) × (list ≡ path_in (listed (places_in list) (some account)) list)
     short-told h = (sym (ap told_answer (listed-short h)), sym (ap (λ (a : Answer (Option (Account ℕ))). path_in a list) (listed-short h)))
 
     -- it is long enough
-    listed-long : n ≤ places_in list → listed (places_in list) (some account) ≡ ok (some account)
-    listed-long h = ap (λ (b : Bool). judge b 14 (ok (some account))) (le-leb (length account.path.run) (places_in list) (omega (arith, arcs-are, h)))
+    listed_long : n ≤ places_in list → listed (places_in list) (some account) ≡ ok (some account)
+    listed_long h = ap (λ (b : Bool). judge b 14 (ok (some account))) (le-leb (length account.path.run) (places_in list) (omega (arith, arcs_are, h)))
 
     module _ (first : ℕ) (left : List ℕ) (l : left ≡ overwrite (entries (run_back c arcs spans xs n end []).0) list)
         (f : first ≡ (run_back c arcs spans xs n end []).1) where
@@ -59,15 +59,15 @@ module _ (c : Counts) (arcs : List ℕ) (spans : Spans) (xs : List ℕ) where
       told = record { weight = weight; start = first / spans.all; arcs = n }
 
       pub path-told : n ≤ places_in list
-          → (pathAs (Path told) ≡ told_answer (listed (places_in list) (some account))) × (left ≡ path_in (listed (places_in list) (some account)) list)
+          → (path_as (Path told) ≡ told_answer (listed (places_in list) (some account))) × (left ≡ path_in (listed (places_in list) (some account)) list)
       path-told h = (
-        ap {B = Answer (Option Told)} (λ (x : Told). ok (some x)) same ∙ sym (ap told_answer (listed-long h)),
+        ap {B = Answer (Option Told)} (λ (x : Told). ok (some x)) same ∙ sym (ap told_answer (listed_long h)),
         l ∙ ap (λ (k : ℕ). overwrite (entries (run_back c arcs spans xs k end []).0) list) n-is
-            ∙ sym (ap (λ (a : Answer (Option (Account ℕ))). path_in a list) (listed-long h)),
+            ∙ sym (ap (λ (a : Answer (Option (Account ℕ))). path_in a list) (listed_long h)),
       )
         where
           state : first / spans.all ≡ account.path.start
           state = ap (λ (k : ℕ). k / spans.all) (f ∙ ap (λ (k : ℕ). (run_back c arcs spans xs k end []).1) n-is)
 
           same : record { weight = weight; start = first / spans.all; arcs = n } ≡ told_of account
-          same i = record { weight = weight; start = state i; arcs = sym arcs-are i }
+          same i = record { weight = weight; start = state i; arcs = sym arcs_are i }

@@ -23,7 +23,7 @@ use Rattle.table_adjacency.specs.Chains.{Chainable}
 use Rattle.table.specs.Answers.{lent}
 use Rattle.table.specs.Records.{arc_at}
 use Rattle.table.specs.declared.answer.Counts.{Counts}
-use Rattle.table.proofs.SoundFacts.{few_tapes, few_states, few_arcs, states_lent_lem, arcs_lent_lem, arc-source, arc_target}
+use Rattle.table.proofs.SoundFacts.{few_tapes, few_states, few_arcs, states_lent_lem, arcs_lent_lem, arc_source, arc_target}
 use Rattle.lookup_tuple.specs.declared.Strings.{Strings}
 use Rattle.lookup_tuple.specs.Strings.{Stands}
 use Rattle.lookup_moves.specs.declared.spot.Spans.{Spans}
@@ -33,11 +33,11 @@ use Rattle.lookup_moves.proofs.CellFacts.{length_cells}
 use Rattle.path_search.specs.Search.{Search, search_of, enter_starts, search_from}
 use Rattle.path_search.specs.FirstPath.{FirstTo, Kept}
 use Rattle.path_search.proofs.EnterFacts.{none_found}
-use Rattle.path_search.proofs.SearchFacts.{search-first, search-none}
+use Rattle.path_search.proofs.SearchFacts.{search_first, search_none}
 use Rattle.table.specs.Arcs.{target_of}
 use Rattle.lookup_cells.specs.Pushes.{Ready}
 use Rattle.lookup_cells.proofs.PushMeaning.{ready}
-use Rattle.lookup_cells.proofs.SpotMeaning.{digits, all_at, spans_positive, at-spot}
+use Rattle.lookup_cells.proofs.SpotMeaning.{digits, all_at, spans_positive, at_spot}
 use Rattle.lookup_cells.specs.Fillable.{Fillable, CellsFilled}
 use Rattle.path_search.specs.Tight.{next_cell, start_cell, end_cell}
 use Rattle.path_search.proofs.TightArcFacts.{all_positive, start_lt, start-state, next_lt, before_is, shift_fits}
@@ -68,7 +68,7 @@ module _ (c : Counts) (states arcs text : List ℕ) (s : Strings) (size : ℕ) (
   ready_at : (n : ℕ) → n < spans.all → Ready c arcs text (spot_of s spans n)
   ready_at n lt =
       let small : n < combinations f.tuple = omega (arith, lt, all_at text f.tuple s f.stands spans spanned) in
-      ready c states arcs text f.sound f.tuple f.tapes_are (spot_of s spans n) (digits n f.tuple) (at-spot text f.tuple s f.stands spans spanned n small)
+      ready c states arcs text f.sound f.tuple f.tapes_are (spot_of s spans n) (digits n f.tuple) (at_spot text f.tuple s f.stands spans spanned n small)
 
   spannable : Spannable spans
   unfolding spot_of
@@ -91,7 +91,7 @@ module _ (c : Counts) (states arcs text : List ℕ) (s : Strings) (size : ℕ) (
   chainable = record {
     whole = arcs_lent_lem (lent c states arcs) f.sound;
     few = few_arcs (lent c states arcs) f.sound;
-    sources = arc-source (lent c states arcs) f.sound;
+    sources = arc_source (lent c states arcs) f.sound;
     states_fit = few_states (lent c states arcs) f.sound;
     arcs_fit = few_arcs (lent c states arcs) f.sound;
   }
@@ -119,8 +119,8 @@ module _ (c : Counts) (states arcs text : List ℕ) (s : Strings) (size : ℕ) (
         = subst (λ (n : ℕ). c.states * n ≤ cells + k) (all_at text f.tuple s f.stands spans spanned) (omega arith) in
         omega (arith, g.rest f.tuple f.stands (cells + k) out (omega (arith, lt, three_numbers, l)))
 
-    pub nothing-found : Kept cells (search_of (cells_of w) 0)
-    nothing-found = none_found cells (cells_of w) room clear
+    pub nothing_found : Kept cells (search_of (cells_of w) 0)
+    nothing_found = none_found cells (cells_of w) room clear
 
     -- what the way back asks
     pub retraceable : length w < 18446744073709551616 → Retraceable c arcs spans
@@ -132,7 +132,7 @@ module _ (c : Counts) (states arcs text : List ℕ) (s : Strings) (size : ℕ) (
       few_arcs = few_arcs (lent c states arcs) f.sound;
       lent = arcs_lent_lem (lent c states arcs) f.sound;
       labelled = λ e lt. ((ready_at 0 positive).each e lt).labelled;
-      source = arc-source (lent c states arcs) f.sound;
+      source = arc_source (lent c states arcs) f.sound;
       fits = omega (arith, three_numbers, l, small);
     }
 
@@ -154,58 +154,58 @@ module _ (c : Counts) (states arcs text : List ℕ) (s : Strings) (size : ℕ) (
       abbrev found : Option ℕ × Search
       found = search_from cells next c.arcs end cells 0 (enter_starts cells start c.states 0 (search_of (cells_of w) 0))
 
-      next-in : (b e d : ℕ) → next b e ≡ some d → (e < c.arcs) × (d < cells)
-      next-in = next_lt c arcs text targets s spans (cells_of w)
+      next_in : (b e d : ℕ) → next b e ≡ some d → (e < c.arcs) × (d < cells)
+      next_in = next_lt c arcs text targets s spans (cells_of w)
 
-      start-in : (q d : ℕ) → start q ≡ some d → (q < c.states) × (d < cells)
-      start-in = start_lt c.states states spans.all positive (cells_of w) least
+      start_in : (q d : ℕ) → start q ≡ some d → (q < c.states) × (d < cells)
+      start_in = start_lt c.states states spans.all positive (cells_of w) least
 
       few : c.arcs ≤ 65535
       few = omega (arith, few_arcs (lent c states arcs) f.sound)
 
       -- it finds an end
-      pub search-finds : (o : Option ℕ) (x : Search) → o ≡ none → (o, x) ≡ found → ⊥
-      search-finds o x n e =
+      pub search_finds : (o : Option ℕ) (x : Search) → o ≡ none → (o, x) ≡ found → ⊥
+      search_finds o x n e =
           let (ρ, d, r, k) = least_reaches c states arcs text f.sound t s stands tapes-are spans spanned (cells_of w) (g.filled t stands tapes-are) least weighs in
-          search-none next start end cells c.arcs c.states next-in start-in few (cells_of w) room clear x (sym e ∙ ap (λ (p : Option ℕ). (p, x)) n) ρ d r k
+          search_none next start end cells c.arcs c.states next_in start_in few (cells_of w) room clear x (sym e ∙ ap (λ (p : Option ℕ). (p, x)) n) ρ d r k
 
       module _ (o : Option ℕ) (x : Search) (d : ℕ) (at-end : o ≡ some d) (e : (o, x) ≡ found) where
         -- the first of the paths that lead to an end
         first : FirstTo next start end cells x d
-        first = search-first next start end cells c.arcs c.states next-in start-in few (cells_of w) room clear d x (sym e ∙ ap (λ (p : Option ℕ). (p, x)) at-end)
+        first = search_first next start end cells c.arcs c.states next_in start_in few (cells_of w) room clear d x (sym e ∙ ap (λ (p : Option ℕ). (p, x)) at-end)
 
         abbrev run : List ℕ
         run = first.path.run
 
-        count-is : count_back c arcs spans x.numbers x.tail d ≡ length run
-        count_is = back_counts c arcs spans x.numbers next start next-in start-in (before_is c arcs text s spans (cells_of w)) (shift_fits c arcs text s spans (cells_of w))
+        count_is : count_back c arcs spans x.numbers x.tail d ≡ length run
+        count_is = back_counts c arcs spans x.numbers next start next_in start_in (before_is c arcs text s spans (cells_of w)) (shift_fits c arcs text s spans (cells_of w))
             (few_arcs (lent c states arcs) f.sound) first.back x.tail first.short
 
-        pub can-count-back : CanCount c arcs spans x.numbers x.tail d
-        can-count-back = can_count c arcs spans x.numbers next start next-in start-in (before_is c arcs text s spans (cells_of w)) (shift_fits c arcs text s spans (cells_of w))
+        pub can_count_back : CanCount c arcs spans x.numbers x.tail d
+        can_count_back = can_count c arcs spans x.numbers next start next_in start_in (before_is c arcs text s spans (cells_of w)) (shift_fits c arcs text s spans (cells_of w))
             (few_arcs (lent c states arcs) f.sound) first.back x.tail first.short
 
-        pub can-walk-back : CanWalk c arcs spans x.numbers (count_back c arcs spans x.numbers x.tail d) d
-        can-walk-back = subst (λ (n : ℕ). CanWalk c arcs spans x.numbers n d) (sym count-is)
-            (can_walk c arcs spans x.numbers next start next-in start-in (before_is c arcs text s spans (cells_of w)) (shift_fits c arcs text s spans (cells_of w))
+        pub can_walk_back : CanWalk c arcs spans x.numbers (count_back c arcs spans x.numbers x.tail d) d
+        can_walk_back = subst (λ (n : ℕ). CanWalk c arcs spans x.numbers n d) (sym count_is)
+            (can_walk c arcs spans x.numbers next start next_in start_in (before_is c arcs text s spans (cells_of w)) (shift_fits c arcs text s spans (cells_of w))
             (few_arcs (lent c states arcs) f.sound) first.back)
 
         -- the marks lead back along it
-        traced-is : traced c arcs spans x.numbers least x.tail d ≡ record { weight = least; path = first.path }
-        traced-is =
-            let (k, at, back) = back_runs c arcs spans x.numbers next start next-in start-in (before_is c arcs text s spans (cells_of w)) (shift_fits c arcs text s spans (cells_of w))
+        traced_is : traced c arcs spans x.numbers least x.tail d ≡ record { weight = least; path = first.path }
+        traced_is =
+            let (k, at, back) = back_runs c arcs spans x.numbers next start next_in start_in (before_is c arcs text s spans (cells_of w)) (shift_fits c arcs text s spans (cells_of w))
             (few_arcs (lent c states arcs) f.sound) first.back [] in
             let same : run_back c arcs spans x.numbers (count_back c arcs spans x.numbers x.tail d) d [] ≡ (run, k)
-            = ap (λ (n : ℕ). run_back c arcs spans x.numbers n d []) count-is ∙ back ∙ ap (λ (r : List ℕ). (r, k)) (append-nil run) in
+            = ap (λ (n : ℕ). run_back c arcs spans x.numbers n d []) count_is ∙ back ∙ ap (λ (r : List ℕ). (r, k)) (append-nil run) in
             let state : k / spans.all ≡ first.path.start = start-state c.states states spans.all positive (cells_of w) least first.path.start k at in
             ap (λ (b : List ℕ × ℕ). record { weight = least; path = record { start = b.1 / spans.all; run = b.0 } }) same
             ∙ ap (λ (q : ℕ). record { weight = least; path = record { start = q; run = run } }) state
 
         -- so it is the path behind the weight
-        pub least-traced : least_path ℕ_sum (table_of (lent c states arcs)) t ≡ some (traced c arcs spans x.numbers least x.tail d)
-        least-traced =
+        pub least_traced : least_path ℕ_sum (table_of (lent c states arcs)) t ≡ some (traced c arcs spans x.numbers least x.tail d)
+        least_traced =
             least_path_lem c states arcs text f.sound t s stands tapes-are spans spanned (cells_of w) (g.filled t stands tapes-are) least weighs x d first
-            ∙ ap some (sym traced-is)
+            ∙ ap some (sym traced_is)
 
 -- ---- what is told
 

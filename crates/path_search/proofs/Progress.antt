@@ -79,8 +79,8 @@ module _ (next : ℕ → ℕ → Option ℕ) (start : ℕ → Option ℕ) (cells
   -- Path π to cell d has been looked at: it has no arc and starts at a state below q, or it goes on from the path of a
   -- cell found by an arc that comes before arc e of the h-th.
   pub data Seen (q h e d : ℕ) (π : Trace) : Type 0 where
-    by-start : (p : ℕ) → p < q → start p ≡ some d → π ≡ trace_of p [] → Seen q h e d π
-    by-arc : (i a : ℕ) → Passed h e i a → next (order_at cells s.numbers i) a ≡ some d → π ≡ and_arc (paths i) a
+    by_start : (p : ℕ) → p < q → start p ≡ some d → π ≡ trace_of p [] → Seen q h e d π
+    by_arc : (i a : ℕ) → Passed h e i a → next (order_at cells s.numbers i) a ≡ some d → π ≡ and_arc (paths i) a
         → Seen q h e d π
 
   -- The search has come to state q and to arc e of the h-th cell: for each path looked at one is found that does not
@@ -109,33 +109,33 @@ module _ (next : ℕ → ℕ → Option ℕ) (start : ℕ → Option ℕ) (cells
 module _ (next : ℕ → ℕ → Option ℕ) (start : ℕ → Option ℕ) (cells : ℕ) (s : Search) (paths : ℕ → Trace) where
   -- what was looked at before state q was before the next
   pub seen_start-more : (q h e d : ℕ) (π : Trace) → Seen next start cells s paths q h e d π → Seen next start cells s paths (q + 1) h e d π
-  seen_start-more q h e d π (by-start p l k r) = by-start p (omega arith) k r
-  seen_start-more q h e d π (by-arc i a l k r) = by-arc i a l k r
+  seen_start-more q h e d π (by_start p l k r) = by_start p (omega arith) k r
+  seen_start-more q h e d π (by_arc i a l k r) = by_arc i a l k r
 
   -- what was looked at before arc e was before the next
   pub seen_arc-more : (q h e d : ℕ) (π : Trace) → Seen next start cells s paths q h e d π → Seen next start cells s paths q h (e + 1) d π
-  seen_arc-more q h e d π (by-start p l k r) = by-start p l k r
-  seen_arc-more q h e d π (by-arc i a l k r) = by-arc i a (passed-more h e i a l) k r
+  seen_arc-more q h e d π (by_start p l k r) = by_start p l k r
+  seen_arc-more q h e d π (by_arc i a l k r) = by_arc i a (passed-more h e i a l) k r
 
   -- besides, only the path of no arc that starts there is
   pub seen_start : (q h e d : ℕ) (π : Trace) → Seen next start cells s paths (q + 1) h e d π
       → Seen next start cells s paths q h e d π ⊎ ((start q ≡ some d) × (π ≡ trace_of q []))
-  seen_start q h e d π (by-start p l k r) = go (below_suc l)
+  seen_start q h e d π (by_start p l k r) = go (below_suc l)
     where
       go : (p < q) ⊎ (p ≡ q) → Seen next start cells s paths q h e d π ⊎ ((start q ≡ some d) × (π ≡ trace_of q []))
-      go (inl m) = inl (by-start p m k r)
+      go (inl m) = inl (by_start p m k r)
       go (inr m) = inr (rw m at k, rw m at r)
-  seen_start q h e d π (by-arc i a l k r) = inl (by-arc i a l k r)
+  seen_start q h e d π (by_arc i a l k r) = inl (by_arc i a l k r)
 
   -- besides, only the path of the h-th cell with the arc is
   pub seen_arc : (q h e d : ℕ) (π : Trace) → Seen next start cells s paths q h (e + 1) d π
       → Seen next start cells s paths q h e d π ⊎ ((next (order_at cells s.numbers h) e ≡ some d) × (π ≡ and_arc (paths h) e))
-  seen_arc q h e d π (by-start p l k r) = inl (by-start p l k r)
-  seen_arc q h e d π (by-arc i a l k r) = go (passed_suc h e i a l)
+  seen_arc q h e d π (by_start p l k r) = inl (by_start p l k r)
+  seen_arc q h e d π (by_arc i a l k r) = go (passed_suc h e i a l)
     where
       go : Passed h e i a ⊎ ((i ≡ h) × (a ≡ e))
           → Seen next start cells s paths q h e d π ⊎ ((next (order_at cells s.numbers h) e ≡ some d) × (π ≡ and_arc (paths h) e))
-      go (inl m) = inl (by-arc i a m k r)
+      go (inl m) = inl (by_arc i a m k r)
       go (inr (m, n)) = inr (rw (m, n) at k, rw (m, n) at r)
 
 module _ (next : ℕ → ℕ → Option ℕ) (start : ℕ → Option ℕ) (cells : ℕ) (end : ℕ → Bool) where
@@ -154,18 +154,18 @@ module _ (next : ℕ → ℕ → Option ℕ) (start : ℕ → Option ℕ) (cells
   module _ (q h e q' e' m c : ℕ) (s : Search) (paths : ℕ → Trace) (π : Trace) (g : Reached next start cells s paths end q h e)
       (n : Next next start cells s paths q h e q' e' m c π) where
     -- where the cell was found, nothing is new
-    next-found : mark_at cells s.numbers c < far → Reached next start cells s paths end q' h e'
-    next-found marked = record {
+    next_found : mark_at cells s.numbers c < far → Reached next start cells s paths end q' h e'
+    next_found marked = record {
       traced = g.traced;
-      early = λ d ρ u. early-of d ρ (n.only d ρ u);
+      early = λ d ρ u. early_of d ρ (n.only d ρ u);
       origin = λ i l. n.still (order_at cells s.numbers i) (paths i) (g.origin i l);
       no_end = g.no_end;
     }
       where
-        early-of : (d : ℕ) (ρ : Trace) → Seen next start cells s paths q h e d ρ ⊎ ((d ≡ c) × (ρ ≡ π))
+        early_of : (d : ℕ) (ρ : Trace) → Seen next start cells s paths q h e d ρ ⊎ ((d ≡ c) × (ρ ≡ π))
             → Early next start cells s paths d ρ
-        early-of d ρ (inl u) = g.early d ρ u
-        early-of d ρ (inr (p, r)) =
+        early_of d ρ (inl u) = g.early d ρ u
+        early_of d ρ (inr (p, r)) =
             let (i, l, there) = g.traced.kept.place c n.cell_lt marked in
             record { place = i; within = l; there = there ∙ sym p; not_after = inr (rw r (n.after i l)) }
 
@@ -175,8 +175,8 @@ module _ (next : ℕ → ℕ → Option ℕ) (start : ℕ → Option ℕ) (cells
         (back_on : (xs ys : List ℕ) → MarksStay cells xs ys → (p b : ℕ) (r : List ℕ) → Back next start cells xs p r b
         → Back next start cells ys p r b) where
       -- a place of t is one of s or the last
-      in-t : (i : ℕ) → i < t.tail → (i < s.tail) ⊎ (i ≡ s.tail)
-      in-t i l = below_suc (omega (arith, l, x.more))
+      in_t : (i : ℕ) → i < t.tail → (i < s.tail) ⊎ (i ≡ s.tail)
+      in_t i l = below_suc (omega (arith, l, x.more))
 
       -- the path at the last
       last-path : (i : ℕ) → i ≡ s.tail → paths' i ≡ π
@@ -194,74 +194,74 @@ module _ (next : ℕ → ℕ → Option ℕ) (start : ℕ → Option ℕ) (cells
       more-traced : Traced next start cells t paths'
       more-traced = record {
         kept = kept';
-        reaches = λ i l. reaches_of i (in-t i l);
-        back = λ i l. back-of i (in-t i l);
-        rising = λ i j l k. rising-of i j l (in-t j k);
-        short = λ i l. short-of i (in-t i l);
+        reaches = λ i l. reaches_of i (in_t i l);
+        back = λ i l. back_of i (in_t i l);
+        rising = λ i j l k. rising_of i j l (in_t j k);
+        short = λ i l. short_of i (in_t i l);
       }
         where
           reaches_of : (i : ℕ) → (i < s.tail) ⊎ (i ≡ s.tail) → Reaches next start (paths' i) (order_at cells t.numbers i)
           reaches_of i (inl l) = rw (same i l, x.earlier i l) (g.traced.reaches i l)
           reaches_of i (inr p) = rw (last-path i p, last-cell i p) n.leads
 
-          back-of : (i : ℕ) → (i < s.tail) ⊎ (i ≡ s.tail)
+          back_of : (i : ℕ) → (i < s.tail) ⊎ (i ≡ s.tail)
               → Back next start cells t.numbers (paths' i).start (paths' i).run (order_at cells t.numbers i)
-          back-of i (inl l) = rw (same i l, x.earlier i l) (back_on s.numbers t.numbers stays (paths i).start
+          back_of i (inl l) = rw (same i l, x.earlier i l) (back_on s.numbers t.numbers stays (paths i).start
               (order_at cells s.numbers i) (paths i).run (g.traced.back i l))
-          back-of i (inr p) = rw (last-path i p, last-cell i p) (n.leads_back t.numbers stays x.own)
+          back_of i (inr p) = rw (last-path i p, last-cell i p) (n.leads_back t.numbers stays x.own)
 
-          rising-of : (i j : ℕ) → i < j → (j < s.tail) ⊎ (j ≡ s.tail) → Before (paths' i) (paths' j)
-          rising-of i j l (inl k) = rw (same i (omega arith), same j k) (g.traced.rising i j l k)
-          rising-of i j l (inr p) = rw (same i (omega arith), last-path j p) (n.after i (omega arith))
+          rising_of : (i j : ℕ) → i < j → (j < s.tail) ⊎ (j ≡ s.tail) → Before (paths' i) (paths' j)
+          rising_of i j l (inl k) = rw (same i (omega arith), same j k) (g.traced.rising i j l k)
+          rising_of i j l (inr p) = rw (same i (omega arith), last-path j p) (n.after i (omega arith))
 
-          short-of : (i : ℕ) → (i < s.tail) ⊎ (i ≡ s.tail) → length (paths' i).run ≤ i
-          short-of i (inl l) = rw (same i l) (g.traced.short i l)
-          short-of i (inr p) = rw (last-path i p, p) n.shallow
+          short_of : (i : ℕ) → (i < s.tail) ⊎ (i ≡ s.tail) → length (paths' i).run ≤ i
+          short_of i (inl l) = rw (same i l) (g.traced.short i l)
+          short_of i (inr p) = rw (last-path i p, p) n.shallow
 
       -- what was looked at in s was looked at in t
-      seen-to : (d : ℕ) (ρ : Trace) → Seen next start cells s paths q' h e' d ρ → Seen next start cells t paths' q' h e' d ρ
-      seen-to d ρ (by-start p l k r) = by-start p l k r
-      seen-to d ρ (by-arc i a l k r) =
+      seen_to : (d : ℕ) (ρ : Trace) → Seen next start cells s paths q' h e' d ρ → Seen next start cells t paths' q' h e' d ρ
+      seen_to d ρ (by_start p l k r) = by_start p l k r
+      seen_to d ρ (by_arc i a l k r) =
           let b : i < s.tail = n.bounded i a l in
-          by-arc i a l (rw (x.earlier i b) k) (rw (same i b) r)
+          by_arc i a l (rw (x.earlier i b) k) (rw (same i b) r)
 
       -- and the other way round
-      seen-from : (d : ℕ) (ρ : Trace) → Seen next start cells t paths' q' h e' d ρ → Seen next start cells s paths q' h e' d ρ
-      seen-from d ρ (by-start p l k r) = by-start p l k r
-      seen-from d ρ (by-arc i a l k r) =
+      seen_from : (d : ℕ) (ρ : Trace) → Seen next start cells t paths' q' h e' d ρ → Seen next start cells s paths q' h e' d ρ
+      seen_from d ρ (by_start p l k r) = by_start p l k r
+      seen_from d ρ (by_arc i a l k r) =
           let b : i < s.tail = n.bounded i a l in
-          by-arc i a l (rw (x.earlier i b) at k) (rw (same i b) at r)
+          by_arc i a l (rw (x.earlier i b) at k) (rw (same i b) at r)
 
       -- so the search has come on
-      next-unfound : Reached next start cells t paths' end q' h e'
-      next-unfound = record {
+      next_unfound : Reached next start cells t paths' end q' h e'
+      next_unfound = record {
         traced = more-traced;
-        early = λ d ρ u. early-of d ρ (n.only d ρ (seen-from d ρ u));
-        origin = λ i l. origin-of i (in-t i l);
+        early = λ d ρ u. early_of d ρ (n.only d ρ (seen_from d ρ u));
+        origin = λ i l. origin_of i (in_t i l);
         no_end = λ i l. rw (x.earlier i (n.bounded i 0 (inl l))) (g.no_end i l);
       }
         where
-          early-of : (d : ℕ) (ρ : Trace) → Seen next start cells s paths q h e d ρ ⊎ ((d ≡ c) × (ρ ≡ π))
+          early_of : (d : ℕ) (ρ : Trace) → Seen next start cells s paths q h e d ρ ⊎ ((d ≡ c) × (ρ ≡ π))
               → Early next start cells t paths' d ρ
-          early-of d ρ (inl u) =
+          early_of d ρ (inl u) =
               let y = g.early d ρ u in record {
                 place = y.place;
                 within = omega (arith, y.within, x.more);
                 there = x.earlier y.place y.within ∙ y.there;
                 not_after = rw (same y.place y.within) y.not_after;
               }
-          early-of d ρ (inr (p, r)) = record {
+          early_of d ρ (inr (p, r)) = record {
             place = s.tail;
             within = omega (arith, x.more);
             there = x.last ∙ sym p;
             not_after = inl (last ∙ sym r);
           }
 
-          origin-of : (i : ℕ) → (i < s.tail) ⊎ (i ≡ s.tail)
+          origin_of : (i : ℕ) → (i < s.tail) ⊎ (i ≡ s.tail)
               → Seen next start cells t paths' q' h e' (order_at cells t.numbers i) (paths' i)
-          origin-of i (inl l) = rw (same i l, x.earlier i l) (seen-to (order_at cells s.numbers i) (paths i)
+          origin_of i (inl l) = rw (same i l, x.earlier i l) (seen_to (order_at cells s.numbers i) (paths i)
               (n.still (order_at cells s.numbers i) (paths i) (g.origin i l)))
-          origin-of i (inr p) = rw (last-path i p, last-cell i p) (seen-to c π n.seen)
+          origin_of i (inr p) = rw (last-path i p, last-cell i p) (seen_to c π n.seen)
 
     -- the search has come on behind the path
     pub next-reached : ((xs ys : List ℕ) → MarksStay cells xs ys → (p b : ℕ) (r : List ℕ) → Back next start cells xs p r b
@@ -271,9 +271,9 @@ module _ (next : ℕ → ℕ → Option ℕ) (start : ℕ → Option ℕ) (cells
       where
         go : ((mark_at cells s.numbers c < far) × (enter cells m c s ≡ s)) ⊎ Entered cells m c s (enter cells m c s)
             → (paths' : ℕ → Trace) × Reached next start cells (enter cells m c s) paths' end q' h e'
-        go (inl (marked, same)) = (paths, rw same (next-found marked))
+        go (inl (marked, same)) = (paths, rw same (next_found marked))
         go (inr x) = (
           with_last paths s.tail π,
-          next-unfound (enter cells m c s) (enter_kept cells m c s g.traced.kept n.cell_lt n.arc_lt) x
+          next_unfound (enter cells m c s) (enter_kept cells m c s g.traced.kept n.cell_lt n.arc_lt) x
               (with_last paths s.tail π) (with_earlier paths s.tail π) (with_last_lem paths s.tail π) back_on,
         )

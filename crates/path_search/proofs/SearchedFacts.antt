@@ -20,9 +20,9 @@ use Rattle.table.proofs.RowFacts.{mul_step}
 use Rattle.lookup_tuple.specs.declared.Strings.{Strings}
 use Rattle.lookup_moves.specs.declared.spot.Spans.{Spans}
 use Rattle.lookup_moves.specs.Distances.{far, cells_of}
-use Rattle.path_search.specs.Search.{Search, no_arc, search_of, order_at, enter, entered, enter_starts, followArcs, search_from}
+use Rattle.path_search.specs.Search.{Search, no_arc, search_of, order_at, enter, entered, enter_starts, follow_arcs, search_from}
 use Rattle.path_search.specs.FirstPath.{Kept}
-use Rattle.path_search.proofs.FollowFacts.{starts-front, starts-kept, follow-arcs-front, follow-arcs-kept}
+use Rattle.path_search.proofs.FollowFacts.{starts_front, starts_kept, follow_arcs_front, follow_arcs_kept}
 use Rattle.lookup_cells.specs.Ends.{from_state}
 use Rattle.path_search.specs.Tight.{next_cell, start_cell, ends_by, end_cell}
 use Rattle.path_search.specs.Searchable.{Searchable, Weights}
@@ -79,21 +79,21 @@ module _ (n all : ℕ) (states : List ℕ) (least : ℕ) (v : List ℕ) where
 
   module _ (q found : ℕ) (w : List ℕ) (i : Starting n all states least v q found w) where
     -- behind a state
-    pub starting-turn : 0 < all → q < n → (r : ℕ) (u : List ℕ)
+    pub starting_turn : 0 < all → q < n → (r : ℕ) (u : List ℕ)
         → search_of (cells_of u) r ≡ entered (n * all) no_arc (start_cell n states all (cells_of w) least q) (search_of (cells_of w) found)
         → length u ≡ length w → Starting n all states least v (q + 1) r u
     unfolding enter_starts
-    starting-turn p l r u g m =
+    starting_turn p l r u g m =
         let a : n - q ≡ suc (n - (q + 1)) = omega arith in
         record {
           rest = ap (enter_starts (n * all) start (n - (q + 1)) (q + 1)) moved
               ∙ ap (λ (k : ℕ). enter_starts (n * all) start k q (search_of (cells_of w) found)) (sym a)
               ∙ i.rest;
           front = ap (λ (s : Search). take (n * all) s.numbers) moved
-              ∙ starts-front (n * all) start (suc zero) q (search_of (cells_of w) found)
+              ∙ starts_front (n * all) start (suc zero) q (search_of (cells_of w) found)
               ∙ i.front;
           kept = subst (Kept (n * all)) (sym moved)
-              (starts-kept (n * all) start (start_lt n states all p (cells_of v) least) (suc zero) q (search_of (cells_of w) found) i.kept);
+              (starts_kept (n * all) start (start_lt n states all p (cells_of v) least) (suc zero) q (search_of (cells_of w) found) i.kept);
           same_length = m ∙ i.same_length;
         }
       where
@@ -105,10 +105,10 @@ module _ (n all : ℕ) (states : List ℕ) (least : ℕ) (v : List ℕ) where
             (start_kept n all (cells_of w) (cells_of v) i.front states p least q)
 
     -- no state is left
-    pub starting-end : n ≤ q
+    pub starting_end : n ≤ q
         → search_of (cells_of w) found ≡ enter_starts (n * all) (start_cell n states all (cells_of v) least) n 0 (search_of (cells_of v) 0)
     unfolding enter_starts
-    starting-end l =
+    starting_end l =
         let a : n - q ≡ 0 = omega arith in
         sym (ap (λ (k : ℕ). enter_starts (n * all) (start_cell n states all (cells_of v) least) k q (search_of (cells_of w) found)) a) ∙ i.rest
 
@@ -126,12 +126,12 @@ module _ (states : List ℕ) (all here : ℕ) (ws : List ℕ) (st : State) (e : 
 
   module _ (x : ℕ) (f : st.last ≡ Present x) where
     -- a combination that is not the last
-    pub end-early : (here % all + 1 ≡ all → ⊥) → false ≡ end_cell states all ws here
-    end-early k = sym (end_by (Present x) f ∙ ap (λ (b : Bool). and b (eqb x (get_or ws here 0))) (ne_eqb (here % all + 1) all k))
+    pub end_early : (here % all + 1 ≡ all → ⊥) → false ≡ end_cell states all ws here
+    end_early k = sym (end_by (Present x) f ∙ ap (λ (b : Bool). and b (eqb x (get_or ws here 0))) (ne_eqb (here % all + 1) all k))
 
     -- the last
-    pub end-last : (y : ℕ) → here % all + 1 ≡ all → y ≡ get_or ws here 0 → eqb x y ≡ end_cell states all ws here
-    end-last y k g =
+    pub end_last : (y : ℕ) → here % all + 1 ≡ all → y ≡ get_or ws here 0 → eqb x y ≡ end_cell states all ws here
+    end_last y k g =
         ap (eqb x) g ∙ sym (end_by (Present x) f ∙ ap (λ (b : Bool). and b (eqb x (get_or ws here 0))) (eq-eqb (here % all + 1) all k))
 
 -- ---- the cells in the order found
@@ -145,20 +145,20 @@ module _ (cells : ℕ) (next : ℕ → ℕ → Option ℕ) (arcs : ℕ) (end : �
 
   module _ (head : ℕ) (s : Search) (l : head < s.tail) (m : head < cells) where
     -- the next cell is an end
-    search-found : end (order_at cells s.numbers head) ≡ true
+    search_found : end (order_at cells s.numbers head) ≡ true
         → search_from cells next arcs end (cells - head) head s ≡ (some (order_at cells s.numbers head), s)
     unfolding search_from
-    search-found t =
+    search_found t =
         let a : cells - head ≡ suc (cells - (head + 1)) = omega arith in
         let b : ltb head s.tail ≡ true = lt-ltb head s.tail l in
         rw (a, b, t)
 
     -- it is none
-    search-more : end (order_at cells s.numbers head) ≡ false
+    search_more : end (order_at cells s.numbers head) ≡ false
         → search_from cells next arcs end (cells - head) head s
-        ≡ search_from cells next arcs end (cells - (head + 1)) (head + 1) (followArcs cells next arcs (order_at cells s.numbers head) 0 s)
+        ≡ search_from cells next arcs end (cells - (head + 1)) (head + 1) (follow_arcs cells next arcs (order_at cells s.numbers head) 0 s)
     unfolding search_from
-    search-more t =
+    search_more t =
         let a : cells - head ≡ suc (cells - (head + 1)) = omega arith in
         let b : ltb head s.tail ≡ true = lt-ltb head s.tail l in
         rw (a, b, t)
@@ -189,20 +189,20 @@ module _ (c : Counts) (states arcs text : List ℕ) (strings : Strings) (spans :
 
   module _ (head count : ℕ) (w : List ℕ) (i : Searching c states arcs text strings spans found v head count w) where
     -- no cell is left
-    pub searching-none : count ≤ head
+    pub searching_none : count ≤ head
         → (none, search_of (cells_of w) count)
         ≡ search_from (c.states * spans.all) (next_cell c arcs text strings spans (cells_of v)) c.arcs (end_cell states spans.all (cells_of v))
         (c.states * spans.all) 0 (search_of (cells_of v) found)
-    searching-none l =
+    searching_none l =
         sym (search_end (c.states * spans.all) (next_cell c arcs text strings spans (cells_of v)) c.arcs (end_cell states spans.all (cells_of v))
         (c.states * spans.all - head) head (search_of (cells_of w) count) l)
         ∙ i.rest
 
     -- where the numbers of the order lie
-    pub order-room : Weights (c.states * spans.all) v → head < count
+    pub order_room : Weights (c.states * spans.all) v → head < count
         → (24 * (c.states * spans.all) ≤ length w) × (head < c.states * spans.all)
         × (8 * (2 * (c.states * spans.all) + head) + 8 ≤ length w)
-    order-room h l =
+    order_room h l =
         let r : 24 * (c.states * spans.all) ≤ length w = omega (arith, h.room, i.same_length) in
         (r, omega (arith, i.kept.few), omega (arith, i.kept.few))
 
@@ -213,41 +213,41 @@ module _ (c : Counts) (states arcs text : List ℕ) (strings : Strings) (spans :
       here_lt = omega (arith, i.kept.cell head l)
 
       -- what the test for an end asks
-      pub end-requires : state_size * c.states ≤ length states → Weights (c.states * spans.all) v
+      pub end_requires : state_size * c.states ≤ length states → Weights (c.states * spans.all) v
           → (0 < spans.all) × (state_size * (here / spans.all) + state_size ≤ length states) × (8 * here + 8 ≤ length w)
-      end-requires r k =
+      end_requires r k =
           let q = state_lt c.states spans.all here h.some_combination here_lt in
           (h.some_combination, omega (arith, q), omega (arith, here_lt, k.room, i.same_length))
 
       -- what the test tells, by the weights at first
-      end-told : (b : Bool) → b ≡ end_cell states spans.all (cells_of w) here → (t : Bool) → b ≡ t
+      end_told : (b : Bool) → b ≡ end_cell states spans.all (cells_of w) here → (t : Bool) → b ≡ t
           → end_cell states spans.all (cells_of v) (order_at (c.states * spans.all) (cells_of w) head) ≡ t
-      end-told b e t k =
+      end_told b e t k =
           ap (end_cell states spans.all (cells_of v)) (sym p)
           ∙ sym (end_kept c.states spans.all (cells_of w) (cells_of v) i.front states here here_lt) ∙ sym e ∙ k
 
       -- it is an end
-      pub searching-found : (b : Bool) → b ≡ end_cell states spans.all (cells_of w) here → b ≡ true
+      pub searching_found : (b : Bool) → b ≡ end_cell states spans.all (cells_of w) here → b ≡ true
           → (some here, search_of (cells_of w) count)
           ≡ search_from (c.states * spans.all) (next_cell c arcs text strings spans (cells_of v)) c.arcs (end_cell states spans.all (cells_of v))
           (c.states * spans.all) 0 (search_of (cells_of v) found)
-      searching-found b e k =
+      searching_found b e k =
           ap (λ (d : ℕ). (some d, search_of (cells_of w) count)) p
-          ∙ sym (search-found (c.states * spans.all) (next_cell c arcs text strings spans (cells_of v)) c.arcs (end_cell states spans.all (cells_of v))
-          head (search_of (cells_of w) count) l (omega (arith, i.kept.few)) (end-told b e true k))
+          ∙ sym (search_found (c.states * spans.all) (next_cell c arcs text strings spans (cells_of v)) c.arcs (end_cell states spans.all (cells_of v))
+          head (search_of (cells_of w) count) l (omega (arith, i.kept.few)) (end_told b e true k))
           ∙ i.rest
 
       -- behind a cell that is none
-      pub searching-turn : (b : Bool) → b ≡ end_cell states spans.all (cells_of w) here → b ≡ false → (r : ℕ) (u : List ℕ)
-          → search_of (cells_of u) r ≡ followArcs (c.states * spans.all) (next_cell c arcs text strings spans (cells_of w)) c.arcs here 0 (search_of (cells_of w) count)
+      pub searching_turn : (b : Bool) → b ≡ end_cell states spans.all (cells_of w) here → b ≡ false → (r : ℕ) (u : List ℕ)
+          → search_of (cells_of u) r ≡ follow_arcs (c.states * spans.all) (next_cell c arcs text strings spans (cells_of w)) c.arcs here 0 (search_of (cells_of w) count)
           → length u ≡ length w → Searching c states arcs text strings spans found v (head + 1) r u
-      searching-turn b e k r u g m = record {
-        rest = ap (search_from cells next c.arcs end (cells - (head + 1)) (head + 1)) (moved ∙ ap (λ (d : ℕ). followArcs cells next c.arcs d 0 s) p)
-            ∙ sym (search-more cells next c.arcs end head s l (omega (arith, i.kept.few)) (end-told b e false k))
+      searching_turn b e k r u g m = record {
+        rest = ap (search_from cells next c.arcs end (cells - (head + 1)) (head + 1)) (moved ∙ ap (λ (d : ℕ). follow_arcs cells next c.arcs d 0 s) p)
+            ∙ sym (search_more cells next c.arcs end head s l (omega (arith, i.kept.few)) (end_told b e false k))
             ∙ i.rest;
-        front = ap (λ (x : Search). take cells x.numbers) moved ∙ follow-arcs-front cells next c.arcs here 0 s ∙ i.front;
+        front = ap (λ (x : Search). take cells x.numbers) moved ∙ follow_arcs_front cells next c.arcs here 0 s ∙ i.front;
         kept = subst (Kept cells) (sym moved)
-            (follow-arcs-kept cells next (next_lt c arcs text (targets c arcs text strings spans h) strings spans (cells_of v)) (omega (arith, few)) c.arcs here 0 s i.kept);
+            (follow_arcs_kept cells next (next_lt c arcs text (targets c arcs text strings spans h) strings spans (cells_of v)) (omega (arith, few)) c.arcs here 0 s i.kept);
         same_length = m ∙ i.same_length;
       }
         where
@@ -266,6 +266,6 @@ module _ (c : Counts) (states arcs text : List ℕ) (strings : Strings) (spans :
           few : c.arcs ≤ 8192
           few = (h.ready 0 h.some_combination).few_arcs
 
-          moved : search_of (cells_of u) r ≡ followArcs cells next c.arcs here 0 s
+          moved : search_of (cells_of u) r ≡ follow_arcs cells next c.arcs here 0 s
           moved = g ∙ follow_arcs_same cells (next_cell c arcs text strings spans (cells_of w)) next here
               (λ a. next_kept c arcs text (targets c arcs text strings spans h) strings spans (cells_of w) (cells_of v) i.front here a here_lt) c.arcs 0 s

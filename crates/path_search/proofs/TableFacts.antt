@@ -22,7 +22,7 @@ use Rattle.table.specs.Records.{option_of, state_at}
 use Rattle.table.specs.declared.answer.Counts.{Counts}
 use Rattle.table.specs.declared.record.Weight.{Weight}
 use Rattle.table.specs.declared.record.Weight.TheVariants.{Absent, Present}
-use Rattle.table.proofs.SoundFacts.{state-loaded}
+use Rattle.table.proofs.SoundFacts.{state_loaded}
 use Rattle.lookup_moves.specs.Distances.{far, weight_of}
 use Rattle.lookup_cells.specs.Filled.{Filled}
 use Rattle.path_search.proofs.TightArcFacts.{if_some}
@@ -51,11 +51,11 @@ module _ (c : Counts) (states arcs : List ℕ) (sound : Sound (lent c states arc
 
   -- their initial weights are those of the records
   pub initial_is : (q : ℕ) → q < c.states → initial_of table q ≡ option_of (state_at (state_size * q) states).initial
-  initial_is q lt = ap (λ o. bind o (λ x. x.initial)) (state-loaded (lent c states arcs) sound q lt)
+  initial_is q lt = ap (λ o. bind o (λ x. x.initial)) (state_loaded (lent c states arcs) sound q lt)
 
   -- and their final weights too
   pub final_is : (q : ℕ) → q < c.states → final_of table q ≡ option_of (state_at (state_size * q) states).last
-  final_is q lt = ap (λ o. bind o (λ x. x.final)) (state-loaded (lent c states arcs) sound q lt)
+  final_is q lt = ap (λ o. bind o (λ x. x.final)) (state_loaded (lent c states arcs) sound q lt)
 
   -- the number of a cell is the least weight from there on
   pub number_is : (t : Tuple) (ws : List ℕ) → Filled table t ws → (q : ℕ) (ps : List ℕ) (w : ℕ) → q < c.states → Positions ps t

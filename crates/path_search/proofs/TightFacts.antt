@@ -98,24 +98,24 @@ module _ (c : Counts) (arcs text : List ℕ) (s : Strings) (spans : Spans) (ws :
   module _ (target there weight x y : ℕ) (in_all : to < spans.all) (c₁ : target ≡ target_of arcs e)
       (c₂ : there ≡ target * spans.all + to) (c₃ : weight ≡ arc_weight arcs e) (c₄ : x ≡ get_or ws there 0) (c₅ : y ≡ get_or ws here 0) where
     -- the cell that the call numbered is that of the arc's target
-    there-is : there ≡ target_of arcs e * spans.all + to
+    there_is : there ≡ target_of arcs e * spans.all + to
     there_is = c₂ ∙ ap (λ (q : ℕ). q * spans.all + to) c₁
 
     -- an arc is not tight where the weights differ
-    pub tight-differs : weight + x ≢ y → none ≡ tight_to c arcs text s spans ws to here e
+    pub tight_differs : weight + x ≢ y → none ≡ tight_to c arcs text s spans ws to here e
     unfolding tight_to
-    tight-differs ne =
-        rw (lt-ltb to spans.all in_all, ← there-is, ← c₃, ← c₄, ← c₅, eqb_false (weight + x) y ne)
+    tight_differs ne =
+        rw (lt-ltb to spans.all in_all, ← there_is, ← c₃, ← c₄, ← c₅, eqb_false (weight + x) y ne)
 
     module _ (same : weight + x ≡ y) (b : Bool) (spells : b ≡ end_there (back_by c.tapes e arcs text (spot_of s spans to))) where
       -- it is not where its labels do not end there
-      pub tight-astray : not b ≡ true → none ≡ tight_to c arcs text s spans ws to here e
+      pub tight_astray : not b ≡ true → none ≡ tight_to c arcs text s spans ws to here e
       unfolding tight_to
-      tight-astray n =
-          rw (lt-ltb to spans.all in_all, ← there-is, ← c₃, ← c₄, ← c₅, same, T_true (eqb y y) (eqb_refl y), ← spells, not-true b n)
+      tight_astray n =
+          rw (lt-ltb to spans.all in_all, ← there_is, ← c₃, ← c₄, ← c₅, same, T_true (eqb y y) (eqb_refl y), ← spells, not-true b n)
 
       -- it is where they do
-      pub tight-leads : not b ≡ false → some there ≡ tight_to c arcs text s spans ws to here e
+      pub tight_leads : not b ≡ false → some there ≡ tight_to c arcs text s spans ws to here e
       unfolding tight_to
-      tight-leads n =
-          rw (lt-ltb to spans.all in_all, ← there-is, ← c₃, ← c₄, ← c₅, same, T_true (eqb y y) (eqb_refl y), ← spells, not-false b n)
+      tight_leads n =
+          rw (lt-ltb to spans.all in_all, ← there_is, ← c₃, ← c₄, ← c₅, same, T_true (eqb y y) (eqb_refl y), ← spells, not-false b n)

@@ -53,41 +53,41 @@ module _ {c : Counts} {arcs : List ℕ} {spans : Spans} {xs : List ℕ} {found e
 
   module _ {count at left : ℕ} (h : Counting c arcs spans xs found end count at left) where
     -- the cell is one of the table
-    pub count-cell : at < c.states * spans.all
-    count-cell = go left h.can
+    pub count_cell : at < c.states * spans.all
+    count_cell = go left h.can
       where
         go : (n : ℕ) → CanCount c arcs spans xs n at → at < c.states * spans.all
         go zero l = l
         go (suc n) l = l.0
 
     -- no arc is left
-    pub count-end : left ≤ 0 → count ≡ count_back c arcs spans xs found end
+    pub count_end : left ≤ 0 → count ≡ count_back c arcs spans xs found end
     unfolding count_back
-    count-end n =
+    count_end n =
         let z : left ≡ 0 = omega arith in
         let e : count_back c arcs spans xs left at ≡ 0 = rw z in omega (arith, h.rest, e)
 
     module _ {mark : ℕ} (some_left : 0 < left) (m : mark ≡ mark_of c arcs spans xs at) where
       -- the cell has the mark of a start
-      pub count-stop : mark ≡ 65535 → count ≡ count_back c arcs spans xs found end
+      pub count_stop : mark ≡ 65535 → count ≡ count_back c arcs spans xs found end
       unfolding count_back
-      count-stop s =
+      count_stop s =
           let d : left ≡ suc (left - 1) = omega arith in
           let t = eq-eqb (mark_of c arcs spans xs at) no_arc (sym m ∙ s) in
           let e : count_back c arcs spans xs left at ≡ 0 = rw (d, t) in omega (arith, h.rest, e)
 
       module _ (s : mark ≡ 65535 → ⊥) where
         -- it has not: it was found by an arc, from a cell from which the count can go on
-        found-by : Behind c arcs spans (mark_of c arcs spans xs at) at
+        found_by_lem : Behind c arcs spans (mark_of c arcs spans xs at) at
             × CanCount c arcs spans xs (left - 1) (found_from c arcs spans xs at)
-        found-by =
+        found_by_lem =
             let d : left ≡ suc (left - 1) = omega arith in
             let l = subst (λ (n : ℕ). CanCount c arcs spans xs n at) d h.can in
             ⊎_elim (λ e. absurd (s (m ∙ e))) (λ b. b) l.1
 
         -- the arc is its mark
-        pub count-behind : Behind c arcs spans mark at
-        count-behind = rw m found-by.0
+        pub count_behind : Behind c arcs spans mark at
+        count_behind = rw m found_by_lem.0
 
         -- the arc is counted
         pub count_turn : {b : ℕ} → b ≡ cell_before c arcs spans mark at
@@ -99,7 +99,7 @@ module _ {c : Counts} {arcs : List ℕ} {spans : Spans} {xs : List ℕ} {found e
             let t = ne_eqb (mark_of c arcs spans xs at) no_arc (λ q. s (m ∙ q)) in
             let g : count_back c arcs spans xs (suc (left - 1)) at ≡ suc (count_back c arcs spans xs (left - 1) b) = rw (f, t) in
             let r = ap (λ (n : ℕ). count_back c arcs spans xs n at) d ∙ g in
-            record { all_are = omega (arith, h.all_are); rest = omega (arith, h.rest, r); can = rw f found-by.1 }
+            record { all_are = omega (arith, h.all_are); rest = omega (arith, h.rest, r); can = rw f found_by_lem.1 }
 
 -- ---- their numbers written
 
@@ -133,10 +133,10 @@ module _ {c : Counts} {arcs : List ℕ} {spans : Spans} {xs : List ℕ} {count e
         go (suc n) l = l.0
 
     -- no number is left
-    pub write-end : left ≤ 0 → (list ≡ overwrite (entries (run_back c arcs spans xs count end []).0) old)
+    pub write_end : left ≤ 0 → (list ≡ overwrite (entries (run_back c arcs spans xs count end []).0) old)
         × (at ≡ (run_back c arcs spans xs count end []).1)
     unfolding run_back
-    write-end n =
+    write_end n =
         let z : left ≡ 0 = omega arith in
         let e : run_back c arcs spans xs left at h.done ≡ (h.done, at) = rw z in
         let f : (h.done, at) ≡ run_back c arcs spans xs count end [] = sym e ∙ h.rest in
@@ -149,28 +149,28 @@ module _ {c : Counts} {arcs : List ℕ} {spans : Spans} {xs : List ℕ} {count e
       in_list = omega (arith, h.all_are, length_entries h.done)
 
       -- no place is added or lost
-      pub write-length : length list ≡ length old
-      write-length = ap length h.list_is ∙ length_splice (2 * left) (entries h.done) old in_list
+      pub write_length : length list ≡ length old
+      write_length = ap length h.list_is ∙ length_splice (2 * left) (entries h.done) old in_list
 
       -- there is a place for the next number
-      pub write-room : 0 < left → 2 * (left - 1) + 2 ≤ length list
-      write-room some_left = omega (arith, h.all_are, write-length)
+      pub write_room : 0 < left → 2 * (left - 1) + 2 ≤ length list
+      write_room some_left = omega (arith, h.all_are, write_length)
 
     module _ {mark : ℕ} (some_left : 0 < left) (m : mark ≡ mark_of c arcs spans xs at) where
       -- a cell before it can be reached
-      one-back : CanWalk c arcs spans xs (suc (left - 1)) at
-      one-back =
+      one_back : CanWalk c arcs spans xs (suc (left - 1)) at
+      one_back =
           let d : left ≡ suc (left - 1) = omega arith in subst (λ (n : ℕ). CanWalk c arcs spans xs n at) d h.can
 
       -- it was found by the arc that is its mark
-      pub write-behind : Behind c arcs spans mark at
-      write-behind = rw m one-back.1
+      pub write_behind : Behind c arcs spans mark at
+      write_behind = rw m one_back.1
 
       -- the arc's number is written
-      pub write-turn : 2 * count ≤ length old → {new : List ℕ} → new ≡ splice (2 * (left - 1)) (to_le 2 mark) list
+      pub write_turn : 2 * count ≤ length old → {new : List ℕ} → new ≡ splice (2 * (left - 1)) (to_le 2 mark) list
           → {b : ℕ} → b ≡ cell_before c arcs spans mark at → Writing c arcs spans xs count end old new b (left - 1)
       unfolding run_back
-      write-turn room {new} n {b} e =
+      write_turn room {new} n {b} e =
           let k = left - 1 in
           let ys = entries h.done in
           let d : left ≡ suc k = omega arith in
@@ -184,5 +184,5 @@ module _ {c : Counts} {arcs : List ℕ} {spans : Spans} {xs : List ℕ} {count e
             list_is = n ∙ ap (splice (2 * k) (to_le 2 mark)) (h.list_is ∙ ap (λ (p : ℕ). splice p ys old) j)
                 ∙ sym (splice_swap (2 * k) (2 * k + 2) (to_le 2 mark) ys old (omega arith) i)
                 ∙ splice_append (2 * k) (to_le 2 mark) ys old i;
-            can = rw f one-back.2;
+            can = rw f one_back.2;
           }

@@ -3,7 +3,7 @@ use Rattle.std.proofs.Math.Option.{Option, none, some}
 use Rattle.std.specs.Prelude.{ℕ}
 use Rattle.automata.specs.Answer.{Answer, ok, refused}
 use Rattle.automata.specs.Calls.LeastPath.{Told}
-use Rattle.table.specs.Answers.{refusalNumber}
+use Rattle.table.specs.Answers.{refusal_number}
 use Rattle.path_search.specs.declared.answer.PathTold.{PathTold}
 use Rattle.path_search.specs.declared.answer.PathAnswer.{PathAnswer}
 use Rattle.path_search.specs.declared.answer.PathAnswer.TheVariants.{Path, Nothing, Refused}
@@ -11,16 +11,16 @@ use Rattle.path_search.specs.declared.answer.Reached.{Reached}
 use Rattle.path_search.specs.declared.answer.Reached.TheVariants.{Cell, Nowhere}
 
 -- what is told of a path
-abbrev pub toldAs : PathTold → Told
-toldAs x = record { weight = x.weight; start = x.start; arcs = x.arcs }
+abbrev pub told_as : PathTold → Told
+told_as x = record { weight = x.weight; start = x.start; arcs = x.arcs }
 
 -- a path, none, or a refusal
-abbrev pub pathAs : PathAnswer → Answer (Option Told)
-pathAs (Path x) = ok (some (toldAs x))
-pathAs Nothing = ok none
-pathAs (Refused r) = refused (refusalNumber r)
+abbrev pub path_as : PathAnswer → Answer (Option Told)
+path_as (Path x) = ok (some (told_as x))
+path_as Nothing = ok none
+path_as (Refused r) = refused (refusal_number r)
 
 -- a cell, or none
-abbrev pub reachedAs : Reached → Option ℕ
-reachedAs (Cell c) = some c
-reachedAs Nowhere = none
+abbrev pub reached_as : Reached → Option ℕ
+reached_as (Cell c) = some c
+reached_as Nowhere = none

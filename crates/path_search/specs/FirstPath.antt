@@ -21,7 +21,7 @@ module _ (next : ℕ → ℕ → Option ℕ) (start : ℕ → Option ℕ) where
 
   -- the marks lead back from a cell to the start of a path, along its run
   pub data Back (cells : ℕ) (xs : List ℕ) (q : ℕ) : List ℕ → ℕ → Type 0 where
-    at-start : {c : ℕ} → start q ≡ some c → mark_at cells xs c ≡ no_arc → Back cells xs q [] c
+    at_start : {c : ℕ} → start q ≡ some c → mark_at cells xs c ≡ no_arc → Back cells xs q [] c
     behind : {r : List ℕ} {b c : ℕ} (e : ℕ) → Back cells xs q r b → next b e ≡ some c → mark_at cells xs c ≡ e → Back cells xs q (r ++ (e ∷ [])) c
 
   -- Cell c is an end, and a path leads there that comes before every other that leads to an end; the marks lead back

@@ -50,9 +50,9 @@ module _ (cells : ℕ) where
     follow c e s = entered e (next c e) s
 
     -- those of k arcs from e on
-    unfoldable pub followArcs : ℕ → ℕ → ℕ → Search → Search
-    followArcs zero c e s = s
-    followArcs (suc k) c e s = followArcs k c (e + 1) (follow c e s)
+    unfoldable pub follow_arcs : ℕ → ℕ → ℕ → Search → Search
+    follow_arcs zero c e s = s
+    follow_arcs (suc k) c e s = follow_arcs k c (e + 1) (follow c e s)
 
     -- From the cell at place `head` on, at most k cells are taken up in the order found: the first that is an end is
     -- told; from others all arcs are followed.
@@ -60,5 +60,5 @@ module _ (cells : ℕ) where
     search_from arcs end zero head s = (none, s)
     search_from arcs end (suc k) head s =
         let c = order_at s.numbers head in
-        let onward = search_from arcs end k (head + 1) (followArcs arcs c 0 s) in
+        let onward = search_from arcs end k (head + 1) (follow_arcs arcs c 0 s) in
         if (ltb head s.tail) (if (end c) (some c, s) onward) (none, s)

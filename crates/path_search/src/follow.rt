@@ -2,7 +2,7 @@
 ghost use Rattle.std.specs.Prelude.{◌≡◌, ◌*◌, ◌/◌, ◌<◌, length};
 ghost use Rattle.table_adjacency.specs.Chains.{Chained};
 ghost use Rattle.lookup_moves.specs.Distances.{cells_of};
-ghost use Rattle.path_search.specs.Search.{search_of, follow, followArcs};
+ghost use Rattle.path_search.specs.Search.{search_of, follow, follow_arcs};
 ghost use Rattle.path_search.specs.FirstPath.{Kept};
 ghost use Rattle.table.specs.Arcs.{source_of};
 ghost use Rattle.path_search.specs.Tight.{next_cell};
@@ -63,7 +63,7 @@ pub fn follow_arcs(
         × Chained counts.states counts.arcs arcs.now first.now next.now
         × (here < counts.states * spans.all) }
     ensures { (search_of (cells_of work.new) result
-        ≡ followArcs (counts.states * spans.all)
+        ≡ follow_arcs (counts.states * spans.all)
         (next_cell counts arcs.now text.now strings spans (cells_of work.old))
         counts.arcs here 0 (search_of (cells_of work.old) found))
         × (length work.new ≡ length work.old) }

@@ -16,7 +16,7 @@ ghost use Rattle.lookup_moves.specs.Distances.{cells_of};
 ghost use Rattle.path_search.specs.Search.{search_of, enter_starts, search_from};
 ghost use Rattle.path_search.specs.FirstPath.{Kept};
 ghost use Rattle.path_search.specs.Tight.{next_cell, start_cell, end_cell};
-ghost use Rattle.path_search.specs.Answers.{reachedAs, pathAs};
+ghost use Rattle.path_search.specs.Answers.{reached_as, path_as};
 ghost use Rattle.path_search.specs.Searchable.{Searchable, Weights};
 ghost use Rattle.path_search.specs.Trail.{Retraceable, count_back, CanCount, CanWalk};
 ghost use Rattle.path_search.specs.Traced.{Traceable, traced};
@@ -48,7 +48,7 @@ fn search_cells(
         × Chainable counts.states counts.arcs arcs.now 1024 8192
         × Weights (counts.states * spans.all) work.old
         × Kept (counts.states * spans.all) (search_of (cells_of work.old) 0) }
-    ensures { ((reachedAs result.end, search_of (cells_of work.new) result.found)
+    ensures { ((reached_as result.end, search_of (cells_of work.new) result.found)
         ≡ search_from (counts.states * spans.all)
         (next_cell counts arcs.now text.now strings spans (cells_of work.old))
         counts.arcs (end_cell states.now spans.all (cells_of work.old))
@@ -82,7 +82,7 @@ fn list_path(
         × CanCount counts arcs.now spans (cells_of work.now) found end
         × CanWalk counts arcs.now spans (cells_of work.now)
         (count_back counts arcs.now spans (cells_of work.now) found end) end }
-    ensures { (pathAs result ≡ told_answer (listed (places_in list.old)
+    ensures { (path_as result ≡ told_answer (listed (places_in list.old)
         (some (traced counts arcs.now spans (cells_of work.now) weight found end))))
         × (list.new ≡ path_in (listed (places_in list.old)
         (some (traced counts arcs.now spans (cells_of work.now) weight found end)))
@@ -113,7 +113,7 @@ pub fn find_path(
 ) -> PathAnswer
     requires { Traceable (lent counts states.now arcs.now) text.now strings (length work.old) }
     ensures { (t : Tuple) → Stands text.now t strings → length t ≡ counts.tapes
-        → (pathAs result ≡ told_answer (listed (places_in list.old)
+        → (path_as result ≡ told_answer (listed (places_in list.old)
         (least_path ℕ-sum (table_of (lent counts states.now arcs.now)) t)))
         × (list.new ≡ path_in (listed (places_in list.old)
         (least_path ℕ-sum (table_of (lent counts states.now arcs.now)) t)) list.old) }

@@ -6,7 +6,7 @@ ghost use Rattle.lookup_moves.specs.Distances.{cells_of};
 ghost use Rattle.path_search.specs.Search.{no_arc, search_of, entered, enter_starts, search_from};
 ghost use Rattle.path_search.specs.FirstPath.{Kept};
 ghost use Rattle.path_search.specs.Tight.{next_cell, start_cell, end_cell};
-ghost use Rattle.path_search.specs.Answers.{reachedAs};
+ghost use Rattle.path_search.specs.Answers.{reached_as};
 ghost use Rattle.path_search.specs.Searchable.{Searchable, Weights};
 ghost use Rattle.automata.specs.Layout.{state_size};
 
@@ -96,7 +96,7 @@ pub fn search(
         × Searchable counts arcs.now text.now strings spans × Weights (counts.states * spans.all) work.old
         × Kept (counts.states * spans.all) (search_of (cells_of work.old) found)
         × Chained counts.states counts.arcs arcs.now first.now next.now }
-    ensures { ((reachedAs result.end, search_of (cells_of work.new) result.found)
+    ensures { ((reached_as result.end, search_of (cells_of work.new) result.found)
         ≡ search_from (counts.states * spans.all)
         (next_cell counts arcs.now text.now strings spans (cells_of work.old))
         counts.arcs (end_cell states.now spans.all (cells_of work.old))

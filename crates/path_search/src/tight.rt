@@ -6,7 +6,7 @@ ghost use Rattle.lookup_moves.specs.Moves.{Labelled};
 ghost use Rattle.lookup_cells.specs.Pushes.{back_by};
 ghost use Rattle.lookup_moves.specs.Spots.{spot_of};
 ghost use Rattle.path_search.specs.Tight.{shift_of, end_there, tight_to};
-ghost use Rattle.path_search.specs.Answers.{reachedAs};
+ghost use Rattle.path_search.specs.Answers.{reached_as};
 ghost use Rattle.path_search.specs.Searchable.{Searchable, Weights, Spannable};
 ghost use Rattle.automata.specs.Layout.{arc_size};
 ghost use Rattle.table.specs.Arcs.{labels_start};
@@ -85,7 +85,7 @@ pub fn tight_to(
     requires { Searchable counts arcs.now text.now strings spans
         × Weights (counts.states * spans.all) work.now × (e < counts.arcs)
         × (here < counts.states * spans.all) }
-    ensures { reachedAs result ≡ tight_to counts arcs.now text.now strings spans
+    ensures { reached_as result ≡ tight_to counts arcs.now text.now strings spans
         (cells_of work.now) to here e }
 {
     if spans.all <= to {

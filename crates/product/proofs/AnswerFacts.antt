@@ -35,8 +35,8 @@ use Rattle.product_search.specs.Exploring.{reached_in, edges_in, Held}
 use Rattle.product_records.specs.Sums.{vertices_at, moves_at}
 use Rattle.product_records.specs.Results.{states_fit, state_records, Vertices, moves_fit, move_records, Moves}
 use Rattle.product.specs.Answered.{Answerable}
-use Rattle.product.proofs.CrossFacts.{numbered_by, states_over_lem, arcs_over_lem, weights-over, product-made}
-use Rattle.product.proofs.MoveModel.{vertices-held, vertices_fit, states_judged_lem, states_encoded, moves_fit, moves-judged, moves-encoded}
+use Rattle.product.proofs.CrossFacts.{numbered_by, states_over_lem, arcs_over_lem, weights_over, product-made}
+use Rattle.product.proofs.MoveModel.{vertices_held, vertices_fit, states_judged_lem, states_encoded, moves_fit_lem, moves_judged, moves_encoded}
 
 -- a negated test
 not_true : (b : Bool) → not b ≡ true → b ≡ false
@@ -47,7 +47,7 @@ not_false : (b : Bool) → not b ≡ false → b ≡ true
 not_false true e = refl
 not_false false e = sym e
 
-module _ (p : Plan) (s1 a1 s2 a2 : List ℕ) (r : Head) (w oldStates oldArcs : List ℕ) (t : Answerable p s1 a1 s2 a2 r w (length oldStates) (length oldArcs)) where
+module _ (p : Plan) (s1 a1 s2 a2 : List ℕ) (r : Head) (w old_states old_arcs : List ℕ) (t : Answerable p s1 a1 s2 a2 r w (length old_states) (length old_arcs)) where
   -- the two tables, the slices of the result and the space in them
   abbrev A : Automaton ℕ
   A = first_in p s1 a1
@@ -56,18 +56,18 @@ module _ (p : Plan) (s1 a1 s2 a2 : List ℕ) (r : Head) (w oldStates oldArcs : L
   B = second_in p s2 a2
 
   abbrev slices : Slices
-  slices = slices_of oldStates oldArcs
+  slices = slices_of old_states old_arcs
 
   abbrev space : Space
   space = space_of slices
 
   -- a refusal leaves the slices
-  answer_refused : (n : ℕ) → cross_product ℕ_sum weight_fits space A B ≡ refused n → made_of (refused n) oldStates oldArcs ≡ product_step A B slices
+  answer_refused : (n : ℕ) → cross_product ℕ_sum weight_fits space A B ≡ refused n → made_of (refused n) old_states old_arcs ≡ product_step A B slices
   unfolding product_step
   answer_refused n e = sym (put_refused slices n) ∙ ap (λ (x : Answer (Automaton ℕ)). put x slices) (sym e)
 
   -- more states than there is room for
-  pub answer_full : r.full ≡ true → made_of (refused refusal.states_full) oldStates oldArcs ≡ product_step A B slices
+  pub answer_full : r.full ≡ true → made_of (refused refusal.states_full) old_states old_arcs ≡ product_step A B slices
   answer_full e = answer_refused 8 (states_over_lem A B space p.states t.state_cap_is (t.over e))
 
   module _ (e : r.full ≡ false) where
@@ -78,8 +78,8 @@ module _ (p : Plan) (s1 a1 s2 a2 : List ℕ) (r : Head) (w oldStates oldArcs : L
     es = edges_in p s1 a1 s2 a2
 
     -- more arcs than there is room for
-    pub answer-arcs : p.arcs < r.arcs → made_of (refused refusal.arcs_full) oldStates oldArcs ≡ product_step A B slices
-    answer-arcs h =
+    pub answer_arcs : p.arcs < r.arcs → made_of (refused refusal.arcs_full) old_states old_arcs ≡ product_step A B slices
+    answer_arcs h =
         let m = t.more e h in
         let l = m.1 in
         answer_refused 9 (arcs_over_lem A B space p.states t.state_cap_is m.0 (omega (arith, l, t.arc_cap_is)))
@@ -102,7 +102,7 @@ module _ (p : Plan) (s1 a1 s2 a2 : List ℕ) (r : Head) (w oldStates oldArcs : L
       rows_are : vertices_at 0 r.reached w ≡ map vertex_of cs
       rows_are =
           ap (λ (k : ℕ). vertices_at 0 k w) seen.reached_is
-          ∙ vertices-held (lent p.first s1 a1) (lent p.second s2 a2) t.explorable.first_sound t.explorable.second_sound w 0 cs seen.below seen.vertices
+          ∙ vertices_held (lent p.first s1 a1) (lent p.second s2 a2) t.explorable.first_sound t.explorable.second_sound w 0 cs seen.below seen.vertices
 
       -- the moves stand behind them
       standing : (j : ℕ) (x : Edge (Content ℕ)) → get_elem? es j ≡ some x → RecordOf A B cs x (move_at (p.base + step_size * j) w)
@@ -120,10 +120,10 @@ module _ (p : Plan) (s1 a1 s2 a2 : List ℕ) (r : Head) (w oldStates oldArcs : L
       pub moves_long : p.base + step_size * r.arcs ≤ length w
       moves_long = omega (arith, h, t.explorable.moves_fit)
 
-      pub moves-within : Moves s1 a1 s2 a2 w (moves_at p.base r.arcs w)
-      moves-within =
+      pub moves_within : Moves s1 a1 s2 a2 w (moves_at p.base r.arcs w)
+      moves_within =
           subst (λ (k : ℕ). Moves s1 a1 s2 a2 w (moves_at p.base k w)) (sym seen.arcs_is)
-          (moves_fit (lent p.first s1 a1) (lent p.second s2 a2) t.explorable.first_sound t.explorable.second_sound few w cs seen.below long seen.vertices p.base es standing)
+          (moves_fit_lem (lent p.first s1 a1) (lent p.second s2 a2) t.explorable.first_sound t.explorable.second_sound few w cs seen.below long seen.vertices p.base es standing)
 
       -- the judgement is that of the product's weights
       judged : (b : Bool) → b ≡ and (states_fit s1 s2 (vertices_at 0 r.reached w)) (moves_fit s1 a1 s2 a2 w (moves_at p.base r.arcs w))
@@ -133,40 +133,40 @@ module _ (p : Plan) (s1 a1 s2 a2 : List ℕ) (r : Head) (w oldStates oldArcs : L
           (ap (states_fit s1 s2) rows_are
           ∙ states_judged_lem (lent p.first s1 a1) (lent p.second s2 a2) t.explorable.first_sound t.explorable.second_sound cs cs seen.below)
           (ap (λ (k : ℕ). moves_fit s1 a1 s2 a2 w (moves_at p.base k w)) seen.arcs_is
-          ∙ moves-judged (lent p.first s1 a1) (lent p.second s2 a2) t.explorable.first_sound t.explorable.second_sound few w cs seen.below long seen.vertices p.base es standing)
+          ∙ moves_judged (lent p.first s1 a1) (lent p.second s2 a2) t.explorable.first_sound t.explorable.second_sound few w cs seen.below long seen.vertices p.base es standing)
 
       module _ (b : Bool) (f : b ≡ and (states_fit s1 s2 (vertices_at 0 r.reached w)) (moves_fit s1 a1 s2 a2 w (moves_at p.base r.arcs w))) where
         -- a summed weight out of range
-        pub answer-weights : not b ≡ true → made_of (refused refusal.weight) oldStates oldArcs ≡ product_step A B slices
-        answer-weights g =
-            answer_refused 11 (weights-over A B space p.states t.state_cap_is seen.few within (sym (judged b f) ∙ not_true b g))
+        pub answer_weights : not b ≡ true → made_of (refused refusal.weight) old_states old_arcs ≡ product_step A B slices
+        answer_weights g =
+            answer_refused 11 (weights_over A B space p.states t.state_cap_is seen.few within (sym (judged b f) ∙ not_true b g))
 
         -- the product written
-        pub answer-made : not b ≡ false → (n k : ℕ) (states arcs : List ℕ) → n ≡ p.first.tapes → k ≡ p.second.tapes
-            → states ≡ overwrite (state_records s1 s2 (vertices_at 0 r.reached w)) oldStates
-            → arcs ≡ overwrite (move_records s1 a1 s2 a2 w n k (moves_at p.base r.arcs w)) oldArcs
+        pub answer_made : not b ≡ false → (n k : ℕ) (states arcs : List ℕ) → n ≡ p.first.tapes → k ≡ p.second.tapes
+            → states ≡ overwrite (state_records s1 s2 (vertices_at 0 r.reached w)) old_states
+            → arcs ≡ overwrite (move_records s1 a1 s2 a2 w n k (moves_at p.base r.arcs w)) old_arcs
             → made_of (ok (record { tapes = n + k; states = r.reached; arcs = r.arcs })) states arcs ≡ product_step A B slices
         unfolding product_step
-        answer-made g n k states arcs en ek x y =
+        answer_made g n k states arcs en ek x y =
             let P = numbered_by A B p.states in
             let made = product-made A B space p.states t.state_cap_is seen.few within (sym (judged b f) ∙ not_false b g) in
             let tapes : n + k ≡ A.tapes + B.tapes = omega (arith, en, ek, (sound_holds (lent p.first s1 a1) t.explorable.first_sound).tapes, (sound_holds (lent p.second s2 a2) t.explorable.second_sound).tapes) in
             let many : r.reached ≡ length P.states = seen.reached_is ∙ sym (length-map cs (vertex_state same_vertex (product_system ℕ_sum A B) cs)) in
             let number : r.arcs ≡ length P.arcs = seen.arcs_is ∙ sym (length-map es step_arc) in
-            let u : states ≡ overwrite (encode_states P) oldStates =
-            x ∙ ap (λ (z : List ℕ). overwrite z oldStates) (ap (state_records s1 s2) rows_are
+            let u : states ≡ overwrite (encode_states P) old_states =
+            x ∙ ap (λ (z : List ℕ). overwrite z old_states) (ap (state_records s1 s2) rows_are
             ∙ states_encoded (lent p.first s1 a1) (lent p.second s2 a2) t.explorable.first_sound t.explorable.second_sound cs cs seen.below) in
-            let v : arcs ≡ overwrite (encode_arcs P) oldArcs =
-            y ∙ ap (λ (z : List ℕ). overwrite z oldArcs)
+            let v : arcs ≡ overwrite (encode_arcs P) old_arcs =
+            y ∙ ap (λ (z : List ℕ). overwrite z old_arcs)
             ((λ i. move_records s1 a1 s2 a2 w (en i) (ek i) (moves_at p.base (seen.arcs_is i) w))
-            ∙ moves-encoded (lent p.first s1 a1) (lent p.second s2 a2) t.explorable.first_sound t.explorable.second_sound few w cs seen.below long seen.vertices
+            ∙ moves_encoded (lent p.first s1 a1) (lent p.second s2 a2) t.explorable.first_sound t.explorable.second_sound few w cs seen.below long seen.vertices
             (length P.states) p.base es standing) in
             (λ i. made_of (ok (record { tapes = tapes i; states = many i; arcs = number i })) (u i) (v i))
             ∙ sym (put-ok slices P) ∙ ap (λ (z : Answer (Automaton ℕ)). put z slices) (sym made)
 
       -- there is room for the records
-      pub states-room : state_size * r.reached ≤ length oldStates
-      states-room = omega (arith, seen.reached_is, seen.few, t.state_cap_is)
+      pub states_room : state_size * r.reached ≤ length old_states
+      states_room = omega (arith, seen.reached_is, seen.few, t.state_cap_is)
 
-      pub arcs-room : arc_size * r.arcs ≤ length oldArcs
-      arcs-room = omega (arith, h, t.arc_cap_is)
+      pub arcs_room : arc_size * r.arcs ≤ length old_arcs
+      arcs_room = omega (arith, h, t.arc_cap_is)

@@ -28,7 +28,7 @@ use Rattle.table.specs.declared.answer.Refusal.{Refusal}
 use Rattle.table.specs.declared.answer.Refusal.TheVariants.{Width, Space}
 use Rattle.table.specs.declared.answer.Judged.{Judged}
 use Rattle.table.specs.declared.answer.Judged.TheVariants.{Fine, Refused}
-use Rattle.table.specs.Answers.{judgedAs, refusalNumber, lent}
+use Rattle.table.specs.Answers.{judged_as, refusal_number, lent}
 use Rattle.table.proofs.TableFacts.{judged_sound}
 use Rattle.table.proofs.SoundFacts.{few_tapes}
 use Rattle.product_search.specs.declared.plan.Plan.{Plan}
@@ -62,71 +62,71 @@ work_tested states arcs work h = go (leb arcs ((work - vertex_size * states) / s
 
 module _ (a b : Memory) (states arcs work : ℕ) where
   -- a table that is refused
-  refused-table : (m : Memory) (j : Judged) (why : Refusal) → judgedAs j ≡ forget (decode_table m) → j ≡ Refused why → decode_table m ≡ refused (refusalNumber why)
-  refused-table m j why e f = go (decode_table m) (ap judgedAs (sym f) ∙ e)
+  refused-table : (m : Memory) (j : Judged) (why : Refusal) → judged_as j ≡ forget (decode_table m) → j ≡ Refused why → decode_table m ≡ refused (refusal_number why)
+  refused-table m j why e f = go (decode_table m) (ap judged_as (sym f) ∙ e)
     where
-      go : (d : Answer (Automaton ℕ)) → refused (refusalNumber why) ≡ forget d → d ≡ refused (refusalNumber why)
+      go : (d : Answer (Automaton ℕ)) → refused (refusal_number why) ≡ forget d → d ≡ refused (refusal_number why)
       go (ok A) g = absurd (refused≢ok g)
-      go (refused n) g = let k : refusalNumber why ≡ n = cc in ap (λ (i : ℕ). refused i) (sym k)
+      go (refused n) g = let k : refusal_number why ≡ n = cc in ap (λ (i : ℕ). refused i) (sym k)
 
-  fine_table : (m : Memory) (j : Judged) → judgedAs j ≡ forget (decode_table m) → j ≡ Fine → Sound m
-  fine_table m j e f = judged_sound m (sym e ∙ ap judgedAs f)
+  fine_table : (m : Memory) (j : Judged) → judged_as j ≡ forget (decode_table m) → j ≡ Fine → Sound m
+  fine_table m j e f = judged_sound m (sym e ∙ ap judged_as f)
 
   -- a refusal before the product
-  refused-first : (j : Judged) (why : Refusal) → j ≡ Refused why → ((w : List ℕ) → length w ≡ work → product_answer a b (space_for states arcs) w ≡ refused (refusalNumber why)) → Prepares a b states arcs work j
+  refused-first : (j : Judged) (why : Refusal) → j ≡ Refused why → ((w : List ℕ) → length w ≡ work → product_answer a b (space_for states arcs) w ≡ refused (refusal_number why)) → Prepares a b states arcs work j
   refused-first j why e h = record {
-    answer = λ w l. h w l ∙ sym (ap (λ (i : Judged). judgedAs i >>= λ (u : Unit {0}). cross_product ℕ_sum weight_fits (space_for states arcs) (table_of a) (table_of b)) e);
-    first = λ f. not-fine f;
-    second = λ f. not-fine f;
-    tapes_fit = λ f. not-fine f;
-    work_fits = λ f. not-fine f;
+    answer = λ w l. h w l ∙ sym (ap (λ (i : Judged). judged_as i >>= λ (u : Unit {0}). cross_product ℕ_sum weight_fits (space_for states arcs) (table_of a) (table_of b)) e);
+    first = λ f. not_fine f;
+    second = λ f. not_fine f;
+    tapes_fit = λ f. not_fine f;
+    work_fits = λ f. not_fine f;
   }
     where
-      not-fine : {X : Type 0} → j ≡ Fine → X
-      not-fine f = absurd (refused≢ok (ap judgedAs (sym e ∙ f)))
+      not_fine : {X : Type 0} → j ≡ Fine → X
+      not_fine f = absurd (refused≢ok (ap judged_as (sym e ∙ f)))
 
-  pub first-refused : (j : Judged) (why : Refusal) → judgedAs j ≡ forget (decode_table a) → j ≡ Refused why → Prepares a b states arcs work j
+  pub first-refused : (j : Judged) (why : Refusal) → judged_as j ≡ forget (decode_table a) → j ≡ Refused why → Prepares a b states arcs work j
   unfolding product_answer
   first-refused j why e f = refused-first j why f (λ w l. rw (refused-table a j why e f))
 
-  module _ (i : Judged) (d : judgedAs i ≡ forget (decode_table a)) (g : i ≡ Fine) where
+  module _ (i : Judged) (d : judged_as i ≡ forget (decode_table a)) (g : i ≡ Fine) where
     one : Sound a
     one = fine_table a i d g
 
-    pub second-refused : (j : Judged) (why : Refusal) → judgedAs j ≡ forget (decode_table b) → j ≡ Refused why → Prepares a b states arcs work j
+    pub second_refused : (j : Judged) (why : Refusal) → judged_as j ≡ forget (decode_table b) → j ≡ Refused why → Prepares a b states arcs work j
     unfolding product_answer
-    second-refused j why e f = refused-first j why f (λ w l. rw (sound_decoded a one, refused-table b j why e f))
+    second_refused j why e f = refused-first j why f (λ w l. rw (sound_decoded a one, refused-table b j why e f))
 
-    module _ (j : Judged) (e : judgedAs j ≡ forget (decode_table b)) (f : j ≡ Fine) where
+    module _ (j : Judged) (e : judged_as j ≡ forget (decode_table b)) (f : j ≡ Fine) where
       two : Sound b
       two = fine_table b j e f
 
       -- their tapes are few, so that they can be counted together
-      pub tapes-few : a.tapes + b.tapes ≤ 16
-      tapes-few = omega (arith, few_tapes a one, few_tapes b two)
+      pub tapes_few : a.tapes + b.tapes ≤ 16
+      tapes_few = omega (arith, few_tapes a one, few_tapes b two)
 
       called : (w : List ℕ) → product_answer a b (space_for states arcs) w
           ≡ product ℕ_sum weight_fits (enough (product_work (space_for states arcs)) w) (space_for states arcs) (table_of a) (table_of b)
       unfolding product_answer
       called w = rw (sound_decoded a one, sound_decoded b two)
 
-      tapes-are : (table_of a).tapes + (table_of b).tapes ≡ a.tapes + b.tapes
+      tapes_are : (table_of a).tapes + (table_of b).tapes ≡ a.tapes + b.tapes
       tapes_are = omega (arith, (sound_holds a one).tapes, (sound_holds b two).tapes)
 
       pub too_wide : 8 < a.tapes + b.tapes → Prepares a b states arcs work (Refused Width)
       too_wide h = refused-first (Refused Width) Width refl (λ w l. called w
-          ∙ product-width (enough (product_work (space_for states arcs)) w) (space_for states arcs) (table_of a) (table_of b) (lt-leb ((table_of a).tapes + (table_of b).tapes) 8 (omega (arith, h, tapes-are))))
+          ∙ product-width (enough (product_work (space_for states arcs)) w) (space_for states arcs) (table_of a) (table_of b) (lt-leb ((table_of a).tapes + (table_of b).tapes) 8 (omega (arith, h, tapes_are))))
 
       module _ (h : a.tapes + b.tapes ≤ 8) (t : Bool) (k : t ≡ leb (product_work (space_for states arcs)) work) where
         narrow : leb ((table_of a).tapes + (table_of b).tapes) 8 ≡ true
-        narrow = le-leb ((table_of a).tapes + (table_of b).tapes) 8 (omega (arith, h, tapes-are))
+        narrow = le-leb ((table_of a).tapes + (table_of b).tapes) 8 (omega (arith, h, tapes_are))
 
         pub too_short : t ≡ false → Prepares a b states arcs work (Refused Space)
         too_short z = refused-first (Refused Space) Space refl (λ w l. called w
             ∙ product-space (enough (product_work (space_for states arcs)) w) (space_for states arcs) (table_of a) (table_of b) narrow (ap (leb (product_work (space_for states arcs))) l ∙ sym k ∙ z))
 
-        pub all-fine : t ≡ true → Prepares a b states arcs work Fine
-        all-fine z = record {
+        pub all_fine : t ≡ true → Prepares a b states arcs work Fine
+        all_fine z = record {
           answer = λ w l. called w
               ∙ product-passed (enough (product_work (space_for states arcs)) w) (space_for states arcs) (table_of a) (table_of b) narrow (ap (leb (product_work (space_for states arcs))) l ∙ sym k ∙ z);
           first = λ _. one;
@@ -142,10 +142,10 @@ pub plan_is : (first second : Counts) (states arcs s a : ℕ) → s ≡ min stat
     → ◌≡◌ {A = Plan} (record { first = first; second = second; states = s; arcs = a; base = vertex_size * states; limit = a }) (plan_of first second states arcs)
 plan_is first second states arcs s a e f = rw (e, f)
 
-module _ (first second : Counts) (s1 a1 s2 a2 : List ℕ) (forStates forArcs size : ℕ) (m : Multipliable (lent first s1 a1) (lent second s2 a2) forStates forArcs size)
-    (p : Plan) (e : p ≡ plan_of first second (forStates / state_size) (forArcs / arc_size)) where
+module _ (first second : Counts) (s1 a1 s2 a2 : List ℕ) (for_states for_arcs size : ℕ) (m : Multipliable (lent first s1 a1) (lent second s2 a2) for_states for_arcs size)
+    (p : Plan) (e : p ≡ plan_of first second (for_states / state_size) (for_arcs / arc_size)) where
   -- the search can be made
-  planned : Explorable (plan_of first second (forStates / state_size) (forArcs / arc_size)) s1 a1 s2 a2 size
+  planned : Explorable (plan_of first second (for_states / state_size) (for_arcs / arc_size)) s1 a1 s2 a2 size
   unfolding product_work
   planned = record {
     first_sound = m.first;
@@ -164,7 +164,7 @@ module _ (first second : Counts) (s1 a1 s2 a2 : List ℕ) (forStates forArcs siz
   limited = (explorable, rw e)
 
   -- and can be answered
-  pub answerable : (v w : List ℕ) (r : Head) → size ≡ length v → Explored p s1 a1 s2 a2 v r w → Answerable p s1 a1 s2 a2 r w forStates forArcs
+  pub answerable : (v w : List ℕ) (r : Head) → size ≡ length v → Explored p s1 a1 s2 a2 v r w → Answerable p s1 a1 s2 a2 r w for_states for_arcs
   answerable v w r l x = record {
     explorable = subst (λ (n : ℕ). Explorable p s1 a1 s2 a2 n) (l ∙ sym x.same_length) explorable;
     tapes_fit = rw e m.tapes_fit;
@@ -181,23 +181,23 @@ module _ (first second : Counts) (s1 a1 s2 a2 : List ℕ) (forStates forArcs siz
 
 -- ---- the whole call
 
-module _ (a b : Memory) (oldStates oldArcs work : List ℕ) (r : Judged) (p : Prepares a b (length oldStates / state_size) (length oldArcs / arc_size) (length work) r) where
+module _ (a b : Memory) (old_states old_arcs work : List ℕ) (r : Judged) (p : Prepares a b (length old_states / state_size) (length old_arcs / arc_size) (length work) r) where
   -- the slices, and what the call answers
   abbrev slices : Slices
-  slices = slices_of oldStates oldArcs
+  slices = slices_of old_states old_arcs
 
   abbrev answer : Answer (Automaton ℕ)
   answer = product_answer a b (space_of slices) work
 
   -- a refusal before the product
-  pub call_refused : (why : Refusal) → r ≡ Refused why → made_of (refused (refusalNumber why)) oldStates oldArcs ≡ put answer slices
+  pub call_refused : (why : Refusal) → r ≡ Refused why → made_of (refused (refusal_number why)) old_states old_arcs ≡ put answer slices
   call_refused why e =
-      sym (put_refused slices (refusalNumber why))
+      sym (put_refused slices (refusal_number why))
       ∙ ap (λ (x : Answer (Automaton ℕ)). put x slices)
-      (sym (p.answer work refl ∙ ap (λ (j : Judged). judgedAs j >>= λ (u : Unit {0}). cross_product ℕ_sum weight_fits (space_of slices) (table_of a) (table_of b)) e))
+      (sym (p.answer work refl ∙ ap (λ (j : Judged). judged_as j >>= λ (u : Unit {0}). cross_product ℕ_sum weight_fits (space_of slices) (table_of a) (table_of b)) e))
 
   -- the product can be made
-  pub call_ready : r ≡ Fine → Multipliable a b (length oldStates) (length oldArcs) (length work)
+  pub call_ready : r ≡ Fine → Multipliable a b (length old_states) (length old_arcs) (length work)
   call_ready e = record { first = p.first e; second = p.second e; tapes_fit = p.tapes_fit e; work_fits = p.work_fits e }
 
   -- and is the call's
@@ -205,7 +205,7 @@ module _ (a b : Memory) (oldStates oldArcs work : List ℕ) (r : Judged) (p : Pr
   unfolding product_step
   call_made e o h =
       h ∙ ap (λ (x : Answer (Automaton ℕ)). put x slices)
-      (sym (p.answer work refl ∙ ap (λ (j : Judged). judgedAs j >>= λ (u : Unit {0}). cross_product ℕ_sum weight_fits (space_of slices) (table_of a) (table_of b)) e))
+      (sym (p.answer work refl ∙ ap (λ (j : Judged). judged_as j >>= λ (u : Unit {0}). cross_product ℕ_sum weight_fits (space_of slices) (table_of a) (table_of b)) e))
 
 -- Work space is zero afterwards.
 pub call_cleared : (a b : Memory) (s : Slices) (work zeroed : List ℕ) (n : ℕ) (x : Answer TableCounts) (states arcs : List ℕ)

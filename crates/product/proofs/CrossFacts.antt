@@ -38,20 +38,20 @@ module _ (A B : Automaton ℕ) where
     abbrev pub crossed : Answer (Automaton ℕ)
     crossed = cross_product ℕ_sum weight_fits space A B
 
-    states-at : state_cap space < length (states_by (state_cap space)) → crossed ≡ refused refusal.states_full
+    states_at : state_cap space < length (states_by (state_cap space)) → crossed ≡ refused refusal.states_full
     unfolding cross_product
-    states-at h = rw (lt-leb (length (states_by (state_cap space))) (state_cap space) h)
+    states_at h = rw (lt-leb (length (states_by (state_cap space))) (state_cap space) h)
 
-    arcs-at : length (states_by (state_cap space)) ≤ state_cap space → arc_cap space < length (edges_by (state_cap space)) → crossed ≡ refused refusal.arcs_full
+    arcs_at_lem : length (states_by (state_cap space)) ≤ state_cap space → arc_cap space < length (edges_by (state_cap space)) → crossed ≡ refused refusal.arcs_full
     unfolding cross_product
-    arcs-at h k =
+    arcs_at_lem h k =
         let l = length_arcs (state_cap space) in
         rw (le-leb (length (states_by (state_cap space))) (state_cap space) h, lt-leb (length (numbered_by (state_cap space)).arcs) (arc_cap space) (omega (arith, l, k)))
 
-    weights-at : length (states_by (state_cap space)) ≤ state_cap space → length (edges_by (state_cap space)) ≤ arc_cap space
+    weights_at : length (states_by (state_cap space)) ≤ state_cap space → length (edges_by (state_cap space)) ≤ arc_cap space
         → fitting ℕ_sum weight_fits (numbered_by (state_cap space)) ≡ false → crossed ≡ refused refusal.weight
     unfolding cross_product
-    weights-at h k e =
+    weights_at h k e =
         let l = length_arcs (state_cap space) in
         rw (le-leb (length (states_by (state_cap space))) (state_cap space) h, le-leb (length (numbered_by (state_cap space)).arcs) (arc_cap space) (omega (arith, l, k)), e)
 
@@ -64,15 +64,15 @@ module _ (A B : Automaton ℕ) where
 
     -- the same where the greatest number of states is given
     module _ (cap : ℕ) (e : cap ≡ state_cap space) where
-      pub states-over : cap < length (states_by cap) → crossed ≡ refused refusal.states_full
-      states-over h = states-at (subst (λ (k : ℕ). k < length (states_by k)) e h)
+      pub states_over_lem : cap < length (states_by cap) → crossed ≡ refused refusal.states_full
+      states_over_lem h = states_at (subst (λ (k : ℕ). k < length (states_by k)) e h)
 
-      pub arcs-over : length (states_by cap) ≤ cap → arc_cap space < length (edges_by cap) → crossed ≡ refused refusal.arcs_full
-      arcs-over h k = arcs-at (subst (λ (k : ℕ). length (states_by k) ≤ k) e h) (subst (λ (k : ℕ). arc_cap space < length (edges_by k)) e k)
+      pub arcs_over_lem : length (states_by cap) ≤ cap → arc_cap space < length (edges_by cap) → crossed ≡ refused refusal.arcs_full
+      arcs_over_lem h k = arcs_at_lem (subst (λ (k : ℕ). length (states_by k) ≤ k) e h) (subst (λ (k : ℕ). arc_cap space < length (edges_by k)) e k)
 
-      pub weights-over : length (states_by cap) ≤ cap → length (edges_by cap) ≤ arc_cap space → fitting ℕ_sum weight_fits (numbered_by cap) ≡ false → crossed ≡ refused refusal.weight
-      weights-over h k f =
-          weights-at (subst (λ (k : ℕ). length (states_by k) ≤ k) e h) (subst (λ (k : ℕ). length (edges_by k) ≤ arc_cap space) e k)
+      pub weights_over : length (states_by cap) ≤ cap → length (edges_by cap) ≤ arc_cap space → fitting ℕ_sum weight_fits (numbered_by cap) ≡ false → crossed ≡ refused refusal.weight
+      weights_over h k f =
+          weights_at (subst (λ (k : ℕ). length (states_by k) ≤ k) e h) (subst (λ (k : ℕ). length (edges_by k) ≤ arc_cap space) e k)
           (subst (λ (k : ℕ). fitting ℕ_sum weight_fits (numbered_by k) ≡ false) e f)
 
       pub product-made : length (states_by cap) ≤ cap → length (edges_by cap) ≤ arc_cap space → fitting ℕ_sum weight_fits (numbered_by cap) ≡ true → crossed ≡ ok (numbered_by cap)

@@ -39,7 +39,7 @@ use Rattle.product_search.specs.Vertices.{place_number, vertex_of, vertex_bytes,
 use Rattle.product_search.specs.Moves.{move_at, Carries, by_both, by_second, by_first, RecordOf}
 use Rattle.product_records.specs.Sums.{place_state, plus, plus_state, vertex_sum, side_sum, move_sum, side_labels, move_front, move_labels, move_record, vertices_at, moves_at, VertexFits, MoveFits}
 use Rattle.product_records.specs.Results.{states_fit, state_records, Vertices, moves_fit, move_records, Moves}
-use Rattle.product.proofs.SideModel.{SideOf, place_model, place_fits, place-number, side-follows, side_stays}
+use Rattle.product.proofs.SideModel.{SideOf, place_model, place_fits, place-number, side_follows, side_stays}
 
 -- ---- rows
 
@@ -92,19 +92,19 @@ module _ (a b : Memory) (sa : Sound a) (sb : Sound b) where
   -- ---- all states
 
   module _ (w : List ℕ) where
-    row-vertex : (at : ℕ) (c : product.Vertex) → Below c → part at 4 w ≡ row_of c → vertex_at at w ≡ vertex_of c
+    row_vertex : (at : ℕ) (c : product.Vertex) → Below c → part at 4 w ≡ row_of c → vertex_at at w ≡ vertex_of c
     unfolding vertex_bytes
-    row-vertex at c h e =
+    row_vertex at c h e =
         let r = row_read at w (place_number c.0) (place_number c.1) (place-number a sa c.0 h.0) (place-number b sb c.1 h.1) e in
         λ i. record { first = record { 0 = r.0 i }; second = record { 0 = r.1 i } }
 
     -- the rows are those of the states
-    pub vertices-held : (at : ℕ) (cs : List product.Vertex) → All Below cs → fronts at vertex_size 4 (length cs) w ≡ map row_of cs → vertices_at at (length cs) w ≡ map vertex_of cs
+    pub vertices_held : (at : ℕ) (cs : List product.Vertex) → All Below cs → fronts at vertex_size 4 (length cs) w ≡ map row_of cs → vertices_at at (length cs) w ≡ map vertex_of cs
     unfolding vertices_at fronts
-    vertices-held at [] h e = refl
-    vertices-held at (c ∷ cs) h e =
-        ap₂ (λ (v : Vertex) (vs : List Vertex). v ∷ vs) (row-vertex at c h.0 (ap (λ (rs : List (List ℕ)). get_or rs 0 []) e))
-        (vertices-held (at + vertex_size) cs h.1 (ap (λ (rs : List (List ℕ)). drop 1 rs) e))
+    vertices_held at [] h e = refl
+    vertices_held at (c ∷ cs) h e =
+        ap₂ (λ (v : Vertex) (vs : List Vertex). v ∷ vs) (row_vertex at c h.0 (ap (λ (rs : List (List ℕ)). get_or rs 0 []) e))
+        (vertices_held (at + vertex_size) cs h.1 (ap (λ (rs : List (List ℕ)). drop 1 rs) e))
 
   -- the places of the states are within the bytes
   pub vertices_fit : (cs : List product.Vertex) → All Below cs → Vertices a.state_bytes b.state_bytes (map vertex_of cs)
@@ -148,8 +148,8 @@ module _ (a b : Memory) (sa : Sound a) (sb : Sound b) where
     second-weight = y.weight;
     labels-starts = x.labels;
     second-labels = y.labels;
-    first = side-follows a sa i x e c.0 h.0;
-    second = side-follows b sb j y f c.1 h.1;
+    first = side_follows a sa i x e c.0 h.0;
+    second = side_follows b sb j y f c.1 h.1;
     weight_is = refl;
     labels-are = refl;
   }
@@ -159,7 +159,7 @@ module _ (a b : Memory) (sa : Sound a) (sb : Sound b) where
     labels-starts = empty_tuple A.tapes;
     second-labels = y.labels;
     first = side_stays a sa c.0 u h.0 e;
-    second = side-follows b sb j y f c.1 h.1;
+    second = side_follows b sb j y f c.1 h.1;
     weight_is = refl;
     labels-are = refl;
   }
@@ -168,7 +168,7 @@ module _ (a b : Memory) (sa : Sound a) (sb : Sound b) where
     second-weight = u;
     labels-starts = x.labels;
     second-labels = empty_tuple B.tapes;
-    first = side-follows a sa i x f c.0 h.0;
+    first = side_follows a sa i x f c.0 h.0;
     second = side_stays b sb c.1 u h.1 e;
     weight_is = refl;
     labels-are = refl;
@@ -177,10 +177,10 @@ module _ (a b : Memory) (sa : Sound a) (sb : Sound b) where
   -- ---- a move as an arc, between states cs that stand in w
   module _ (few : A.tapes + B.tapes ≤ 8) (w : List ℕ) (cs : List product.Vertex) (bound : All Below cs) (long : vertex_size * length cs ≤ length w) (held : HoldsVertices cs w) where
     -- the row of a state
-    row-of : (q : ℕ) (c : product.Vertex) → get_elem? cs q ≡ some c
+    row_of_lem : (q : ℕ) (c : product.Vertex) → get_elem? cs q ≡ some c
         → ((vertex_at (vertex_size * q) w).first.0 ≡ place_number c.0) × ((vertex_at (vertex_size * q) w).second.0 ≡ place_number c.1)
     unfolding vertex_bytes
-    row-of q c at =
+    row_of_lem q c at =
         let l = place_bound cs q at in
         let h = all-place Below cs bound q c at in
         let z : q * vertex_size ≡ vertex_size * q = omega arith in
@@ -195,10 +195,10 @@ module _ (a b : Memory) (sa : Sound a) (sb : Sound b) where
           ≡ (arc_record (A.tapes + B.tapes) k).write (step_arc x)
 
     -- the labels of both sides
-    labels-written : (i j p q : ℕ) (s : Content ℕ) (d : Sides i j p q s)
+    labels_written : (i j p q : ℕ) (s : Content ℕ) (d : Sides i j p q s)
         → side_labels a.arc_bytes a.tapes i ++ (side_labels b.arc_bytes b.tapes j ++ zeros (labels_size - label_size * a.tapes - label_size * b.tapes))
         ≡ write_all label_record.write s.labels ++ zeros ((8 - (A.tapes + B.tapes)) * label_size)
-    labels-written i j p q s d =
+    labels_written i j p q s d =
         let f = label_record.write in
         let x = write_all f d.labels-starts in
         let y = write_all f d.second-labels in
@@ -208,13 +208,13 @@ module _ (a b : Memory) (sa : Sound a) (sb : Sound b) where
         ∙ ap (λ (l : List ℕ). l ++ zeros ((8 - (A.tapes + B.tapes)) * label_size))
         (sym (write_all_append f d.labels-starts d.second-labels) ∙ ap (write_all f) (sym d.labels-are))
 
-    arc-of : (k : ℕ) (x : Edge (Content ℕ)) (m : Move) → RecordOf A B cs x m → ArcOf k x m
+    arc_of_lem : (k : ℕ) (x : Edge (Content ℕ)) (m : Move) → RecordOf A B cs x m → ArcOf k x m
     unfolding move_sum move_record move_front move_labels
-    arc-of k x m r =
+    arc_of_lem k x m r =
         let c = r.vertex in
         let at : get_elem? cs m.from.0 ≡ some c = ap (λ (q : ℕ). get_elem? cs q) r.from_is ∙ r.at_from in
         let l = place_bound cs m.from.0 at in
-        let row = row-of m.from.0 c at in
+        let row = row_of_lem m.from.0 c at in
         let h = all-place Below cs bound m.from.0 c at in
         let d : Sides m.first m.second (place_number c.0) (place_number c.1) x.label = sides c m.first m.second x.label h r.carried in
         let weighs : move_sum a.state_bytes a.arc_bytes b.state_bytes b.arc_bytes w m ≡ x.label.weight =
@@ -223,7 +223,7 @@ module _ (a b : Memory) (sa : Sound a) (sb : Sound b) where
         record {
           fits = record { row = omega (arith, l, long); first = rw row.0 d.first.fits; second = rw row.1 d.second.fits };
           weighs = weighs;
-          written = λ i. to_le 2 (r.from_is i) ++ (to_le 2 (r.to_is i) ++ (to_le 4 (weighs i) ++ labels-written m.first m.second (place_number c.0) (place_number c.1) x.label d i));
+          written = λ i. to_le 2 (r.from_is i) ++ (to_le 2 (r.to_is i) ++ (to_le 4 (weighs i) ++ labels_written m.first m.second (place_number c.0) (place_number c.1) x.label d i));
         }
 
     -- ---- all moves
@@ -232,31 +232,31 @@ module _ (a b : Memory) (sa : Sound a) (sb : Sound b) where
     abbrev Stand : ℕ → List (Edge (Content ℕ)) → Type 0
     Stand at es = (j : ℕ) (x : Edge (Content ℕ)) → get_elem? es j ≡ some x → RecordOf A B cs x (move_at (at + step_size * j) w)
 
-    stand-first : (at : ℕ) (x : Edge (Content ℕ)) (es : List (Edge (Content ℕ))) → Stand at (x ∷ es) → RecordOf A B cs x (move_at at w)
-    stand-first at x es h = subst (λ (k : ℕ). RecordOf A B cs x (move_at k w)) (omega arith) (h zero x refl)
+    stand_first : (at : ℕ) (x : Edge (Content ℕ)) (es : List (Edge (Content ℕ))) → Stand at (x ∷ es) → RecordOf A B cs x (move_at at w)
+    stand_first at x es h = subst (λ (k : ℕ). RecordOf A B cs x (move_at k w)) (omega arith) (h zero x refl)
 
-    stand-rest : (at : ℕ) (x : Edge (Content ℕ)) (es : List (Edge (Content ℕ))) → Stand at (x ∷ es) → Stand (at + step_size) es
-    stand-rest at x es h j y e = subst (λ (k : ℕ). RecordOf A B cs y (move_at k w)) (omega arith) (h (suc j) y e)
+    stand_rest : (at : ℕ) (x : Edge (Content ℕ)) (es : List (Edge (Content ℕ))) → Stand at (x ∷ es) → Stand (at + step_size) es
+    stand_rest at x es h j y e = subst (λ (k : ℕ). RecordOf A B cs y (move_at k w)) (omega arith) (h (suc j) y e)
 
     -- their arcs are within the bytes
     pub moves_fit : (at : ℕ) (es : List (Edge (Content ℕ))) → Stand at es → Moves a.state_bytes a.arc_bytes b.state_bytes b.arc_bytes w (moves_at at (length es) w)
     unfolding Moves moves_at
-    moves_fit at [] h = tt
-    moves_fit at (x ∷ es) h = ((arc-of zero x (move_at at w) (stand-first at x es h)).fits, moves_fit (at + step_size) es (stand-rest at x es h))
+    moves_fit_lem at [] h = tt
+    moves_fit_lem at (x ∷ es) h = ((arc_of_lem zero x (move_at at w) (stand_first at x es h)).fits, moves_fit_lem (at + step_size) es (stand_rest at x es h))
 
     -- whether their weights are in range
-    pub moves-judged : (at : ℕ) (es : List (Edge (Content ℕ))) → Stand at es
+    pub moves_judged : (at : ℕ) (es : List (Edge (Content ℕ))) → Stand at es
         → moves_fit a.state_bytes a.arc_bytes b.state_bytes b.arc_bytes w (moves_at at (length es) w) ≡ all (λ (x : Arc ℕ). weight_fits x.weight) (map step_arc es)
     unfolding moves_fit moves_at
-    moves-judged at [] h = refl
-    moves-judged at (x ∷ es) h =
-        ap₂ and (ap weight_fits (arc-of zero x (move_at at w) (stand-first at x es h)).weighs) (moves-judged (at + step_size) es (stand-rest at x es h))
+    moves_judged at [] h = refl
+    moves_judged at (x ∷ es) h =
+        ap₂ and (ap weight_fits (arc_of_lem zero x (move_at at w) (stand_first at x es h)).weighs) (moves_judged (at + step_size) es (stand_rest at x es h))
 
     -- their records
-    pub moves-encoded : (k at : ℕ) (es : List (Edge (Content ℕ))) → Stand at es
+    pub moves_encoded : (k at : ℕ) (es : List (Edge (Content ℕ))) → Stand at es
         → move_records a.state_bytes a.arc_bytes b.state_bytes b.arc_bytes w a.tapes b.tapes (moves_at at (length es) w)
         ≡ write_all (arc_record (A.tapes + B.tapes) k).write (map step_arc es)
     unfolding move_records moves_at
-    moves-encoded k at [] h = refl
-    moves-encoded k at (x ∷ es) h =
-        ap₂ (λ (u v : List ℕ). u ++ v) (arc-of k x (move_at at w) (stand-first at x es h)).written (moves-encoded k (at + step_size) es (stand-rest at x es h))
+    moves_encoded k at [] h = refl
+    moves_encoded k at (x ∷ es) h =
+        ap₂ (λ (u v : List ℕ). u ++ v) (arc_of_lem k x (move_at at w) (stand_first at x es h)).written (moves_encoded k (at + step_size) es (stand_rest at x es h))

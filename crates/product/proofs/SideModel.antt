@@ -30,7 +30,7 @@ use Rattle.table.specs.declared.record.Weight.TheVariants.{Absent, Present}
 use Rattle.table.specs.Records.{option_of, state_as, state_at, arc_as, arc_at, content_at}
 use Rattle.table.proofs.RegionFacts.{part-part}
 use Rattle.table.proofs.LoadedFacts.{zeros_label}
-use Rattle.table.proofs.SoundFacts.{few_tapes, few_states, few_arcs, states_lent_lem, arcs_lent_lem, state-loaded, arc-bytes, arc-loaded}
+use Rattle.table.proofs.SoundFacts.{few_tapes, few_states, few_arcs, states_lent_lem, arcs_lent_lem, state_loaded, arc-bytes, arc_loaded}
 use Rattle.product_search.specs.Vertices.{ended, place_number, PlaceBelow}
 use Rattle.product_search.specs.Moves.{no_arc}
 use Rattle.product_records.specs.Sums.{place_state, amount, side_sum, side_labels, PlaceFits, SideFits}
@@ -76,7 +76,7 @@ module _ (m : Memory) (s : Sound m) where
   place_model none h = refl
   place_model (some q) h =
       let l = below q h in
-      rw (eqb_false q ended (not_ended q l), state-loaded m s q l)
+      rw (eqb_false q ended (not_ended q l), state_loaded m s q l)
 
   place_there : (x : Option ℕ) → PlaceBelow (length A.states) x → (place_number x ≡ ended → ⊥) → state_size * place_number x + state_size ≤ length m.state_bytes
   place_there none h e = absurd (e refl)
@@ -86,7 +86,7 @@ module _ (m : Memory) (s : Sound m) where
   place_small none h = record { initial = tt; final = omega arith }
   place_small (some q) h =
       let l = below q h in
-      let e = state-loaded m s q l in
+      let e = state_loaded m s q l in
       rw e (all-place WellFormedState A.states (sound_well_formed m s).states q (state_as (state_at (state_size * q) m.state_bytes)) e)
 
   -- its record is within the bytes
@@ -110,14 +110,14 @@ module _ (m : Memory) (s : Sound m) where
     formed : WellFormedArc A.tapes (length A.states) a
     formed = all-place (WellFormedArc A.tapes (length A.states)) A.arcs (sound_well_formed m s).arcs i a at
 
-    weight-model : arc_weight m.arc_bytes i ≡ a.weight
+    weight_model : arc_weight m.arc_bytes i ≡ a.weight
     unfolding arc_at content_at
-    weight-model =
-        ap (λ (x : Arc ℕ). x.weight) (some-injective (arc_as m.tapes (arc_at (arc_size * i) m.arc_bytes)) a (sym (arc-loaded m s i there) ∙ at))
+    weight_model =
+        ap (λ (x : Arc ℕ). x.weight) (some-injective (arc_as m.tapes (arc_at (arc_size * i) m.arc_bytes)) a (sym (arc_loaded m s i there) ∙ at))
 
-    labels-model : part (labels_start (arc_size * i)) (label_size * m.tapes) m.arc_bytes ≡ write_all label_record.write a.labels
+    labels_model : part (labels_start (arc_size * i)) (label_size * m.tapes) m.arc_bytes ≡ write_all label_record.write a.labels
     unfolding part
-    labels-model =
+    labels_model =
         let x = write_all label_record.write a.labels in
         let t : labels_place + label_size * m.tapes ≤ arc_size = omega (arith, few_tapes m s) in
         let l : length x ≡ label_size * m.tapes = length_many label_record_lawful a.labels formed.labels ∙ (omega (arith, formed.width, (sound_holds m s).tapes)) in
@@ -128,11 +128,11 @@ module _ (m : Memory) (s : Sound m) where
         ∙ take_at x _ (label_size * m.tapes) l
 
     -- the side follows the arc
-    pub side-follows : (x : Option ℕ) → PlaceBelow (length A.states) x → SideOf m i (place_number x) a.weight a.labels
+    pub side_follows : (x : Option ℕ) → PlaceBelow (length A.states) x → SideOf m i (place_number x) a.weight a.labels
     unfolding side_sum side_labels
-    side-follows x h =
+    side_follows x h =
         let e = eqb_false i no_arc arc-number in
-        let sum : side_sum m.state_bytes m.arc_bytes i (place_number x) ≡ a.weight = rw e weight-model in
+        let sum : side_sum m.state_bytes m.arc_bytes i (place_number x) ≡ a.weight = rw e weight_model in
         record {
           fits = record {
             place_there = place_there x h;
@@ -140,7 +140,7 @@ module _ (m : Memory) (s : Sound m) where
             small = omega (arith, sum, formed.weight);
           };
           sum = sum;
-          written = rw e labels-model;
+          written = rw e labels_model;
         }
 
   -- its path ends, or has ended

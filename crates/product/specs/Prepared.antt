@@ -12,7 +12,7 @@ use Rattle.automata.specs.Layout.{vertex_size}
 use Rattle.table.specs.declared.answer.Counts.{Counts}
 use Rattle.table.specs.declared.answer.Judged.{Judged}
 use Rattle.table.specs.declared.answer.Judged.TheVariants.{Fine}
-use Rattle.table.specs.Answers.{judgedAs}
+use Rattle.table.specs.Answers.{judged_as}
 use Rattle.product_search.specs.declared.plan.Plan.{Plan}
 
 -- the space lent, in states and arcs
@@ -28,7 +28,7 @@ plan_of first second states arcs = record { first = first; second = second; stat
 -- parts.
 pub record Prepares (a b : Memory) (states arcs work : ℕ) (r : Judged) : Type 0 where
   pub answer : (w : List ℕ) → length w ≡ work → product_answer a b (space_for states arcs) w
-      ≡ (judgedAs r >>= λ (u : Unit {0}). cross_product ℕ_sum weight_fits (space_for states arcs) (table_of a) (table_of b))
+      ≡ (judged_as r >>= λ (u : Unit {0}). cross_product ℕ_sum weight_fits (space_for states arcs) (table_of a) (table_of b))
   pub first : r ≡ Fine → Sound a
   pub second : r ≡ Fine → Sound b
   pub tapes_fit : r ≡ Fine → a.tapes + b.tapes ≤ 8

@@ -4,7 +4,7 @@ ghost use Rattle.automata.specs.Memory.{table_of};
 ghost use Rattle.automata.specs.Calls.Outcome.{space_of, put, made_of, built_of, slices_of};
 ghost use Rattle.automata.specs.Calls.JoinSteps.{product_step};
 ghost use Rattle.automata.specs.Calls.Product.{product_answer, product_outcome};
-ghost use Rattle.table.specs.Answers.{lent, tableAs};
+ghost use Rattle.table.specs.Answers.{lent, table_as};
 ghost use Rattle.product.specs.Multiplied.{Multipliable};
 
 use crate::finish::answer_search;
@@ -29,7 +29,7 @@ pub fn product_step(
     requires { Multipliable (lent first first_states.now first_arcs.now)
         (lent second second_states.now second_arcs.now) (length out_states.old) (length out_arcs.old)
         (length work.old) }
-    ensures { made_of (tableAs result) out_states.new out_arcs.new
+    ensures { made_of (table_as result) out_states.new out_arcs.new
         ≡ product_step (table_of (lent first first_states.now first_arcs.now))
         (table_of (lent second second_states.now second_arcs.now))
         (slices_of out_states.old out_arcs.old) }
@@ -73,7 +73,7 @@ fn multiply(
     out_arcs: &mut [u8],
     work: &mut [u8],
 ) -> TableAnswer
-    ensures { made_of (tableAs result) out_states.new out_arcs.new
+    ensures { made_of (table_as result) out_states.new out_arcs.new
         ≡ put (product_answer (lent first first_states.now first_arcs.now)
         (lent second second_states.now second_arcs.now)
         (space_of (slices_of out_states.old out_arcs.old)) work.old)
@@ -119,7 +119,7 @@ pub fn product(
     out_arcs: &mut [u8],
     work: &mut [u8],
 ) -> TableAnswer
-    ensures { built_of (tableAs result) out_states.new out_arcs.new work.new
+    ensures { built_of (table_as result) out_states.new out_arcs.new work.new
         ≡ product_outcome (lent first first_states.now first_arcs.now)
         (lent second second_states.now second_arcs.now)
         (slices_of out_states.old out_arcs.old) work.old }

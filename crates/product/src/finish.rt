@@ -2,7 +2,7 @@
 ghost use Rattle.std.specs.Prelude.{◌≡◌, length};
 ghost use Rattle.automata.specs.Calls.Outcome.{made_of, slices_of};
 ghost use Rattle.automata.specs.Calls.JoinSteps.{product_step};
-ghost use Rattle.table.specs.Answers.{tableAs};
+ghost use Rattle.table.specs.Answers.{table_as};
 ghost use Rattle.product_search.specs.Plans.{first_in, second_in};
 ghost use Rattle.product.specs.Answered.{Answerable};
 
@@ -27,7 +27,7 @@ pub fn answer_search(
 ) -> TableAnswer
     requires { Answerable plan first_states.now first_arcs.now second_states.now second_arcs.now head
         work.now (length out_states.old) (length out_arcs.old) }
-    ensures { made_of (tableAs result) out_states.new out_arcs.new
+    ensures { made_of (table_as result) out_states.new out_arcs.new
         ≡ product_step (first_in plan first_states.now first_arcs.now)
         (second_in plan second_states.now second_arcs.now)
         (slices_of out_states.old out_arcs.old) }

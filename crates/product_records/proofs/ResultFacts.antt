@@ -10,7 +10,7 @@ use Rattle.automata.specs.Lists.{and, all, All}
 use Rattle.automata.specs.Records.{write_all}
 use Rattle.automata.specs.Calls.Outcome.{overwrite}
 use Rattle.automata.proofs.TestFacts.{false_not_true}
-use Rattle.automata.proofs.RecordFacts.{All_map, length-writeAll}
+use Rattle.automata.proofs.RecordFacts.{All_map, length_write_all}
 use Rattle.automata.specs.Layout.{arc_size, state_size, step_size, vertex_size}
 use Rattle.table.specs.Region.{splice}
 use Rattle.table.specs.Records.{state_bytes}
@@ -77,7 +77,7 @@ length_state s = go s.initial s.last
 pub length_states : (s1 s2 : List ℕ) (vs : List Vertex) → length (state_records s1 s2 vs) ≡ length vs * state_size
 unfolding state_records
 length_states s1 s2 vs =
-    length-writeAll (λ (v : Vertex). state_bytes (vertex_sum s1 s2 v)) state_size vs
+    length_write_all (λ (v : Vertex). state_bytes (vertex_sum s1 s2 v)) state_size vs
     (everywhere (λ (v : Vertex). length (state_bytes (vertex_sum s1 s2 v)) ≡ state_size) (λ v. length_state (vertex_sum s1 s2 v)) vs)
 
 module _ (s1 s2 w : List ℕ) (at left rest : ℕ) (v : Vertex) (s : left ≡ suc rest) (e : v ≡ vertex_at at w) where
@@ -150,32 +150,32 @@ module _ (s1 a1 s2 a2 u : List ℕ) where
   pub length_records : (n k : ℕ) → n + k ≤ 8 → (ms : List Move) → Moves s1 a1 s2 a2 u ms → length (move_records s1 a1 s2 a2 u n k ms) ≡ length ms * arc_size
   unfolding move_records Moves
   length_records n k t ms h =
-      length-writeAll (move_record s1 a1 s2 a2 u n k) arc_size ms
+      length_write_all (move_record s1 a1 s2 a2 u n k) arc_size ms
       (All_map (MoveFits s1 a1 s2 a2 u) (λ (m : Move). length (move_record s1 a1 s2 a2 u n k m) ≡ arc_size) (λ m f. length_record s1 a1 s2 a2 u n k m f t) ms h)
 
   module _ (w : List ℕ) (at left rest : ℕ) (m : Move) (s : left ≡ suc rest) (e : m ≡ move_at at w) where
     -- the first move's arcs, and those of the others
-    pub moves-turn : Moves s1 a1 s2 a2 u (moves_at at left w) → MoveFits s1 a1 s2 a2 u m × Moves s1 a1 s2 a2 u (moves_at (at + step_size) rest w)
+    pub moves_turn : Moves s1 a1 s2 a2 u (moves_at at left w) → MoveFits s1 a1 s2 a2 u m × Moves s1 a1 s2 a2 u (moves_at (at + step_size) rest w)
     unfolding Moves
-    moves-turn h = rw (moves_cons at left rest w m s e) at h
+    moves_turn h = rw (moves_cons at left rest w m s e) at h
 
     -- a weight out of range, and one in range
-    pub moves-stop : (q : ℕ) → q ≡ move_sum s1 a1 s2 a2 u m → 999999999 < q → false ≡ moves_fit s1 a1 s2 a2 u (moves_at at left w)
+    pub moves_stop : (q : ℕ) → q ≡ move_sum s1 a1 s2 a2 u m → 999999999 < q → false ≡ moves_fit s1 a1 s2 a2 u (moves_at at left w)
     unfolding moves_fit
-    moves-stop q f h = rw (moves_cons at left rest w m s e, ← f, lt-leb q 999999999 h)
+    moves_stop q f h = rw (moves_cons at left rest w m s e, ← f, lt-leb q 999999999 h)
 
     pub moves_next : (q : ℕ) → q ≡ move_sum s1 a1 s2 a2 u m → q ≤ 999999999 → moves_fit s1 a1 s2 a2 u (moves_at (at + step_size) rest w) ≡ moves_fit s1 a1 s2 a2 u (moves_at at left w)
     unfolding moves_fit
     moves_next q f h = rw (moves_cons at left rest w m s e, ← f, le-leb q 999999999 h)
 
     -- the next arc written
-    pub moves-written : (n k to : ℕ) (out out2 : List ℕ) → n + k ≤ 8 → Moves s1 a1 s2 a2 u (moves_at at left w) → to + arc_size * left ≤ length out
+    pub moves_written : (n k to : ℕ) (out out2 : List ℕ) → n + k ≤ 8 → Moves s1 a1 s2 a2 u (moves_at at left w) → to + arc_size * left ≤ length out
         → out2 ≡ splice to (move_record s1 a1 s2 a2 u n k m) out
         → splice (to + arc_size) (move_records s1 a1 s2 a2 u n k (moves_at (at + step_size) rest w)) out2 ≡ splice to (move_records s1 a1 s2 a2 u n k (moves_at at left w)) out
     unfolding move_records
-    moves-written n k to out out2 t all h g =
+    moves_written n k to out out2 t all h g =
         let ms = moves_at (at + step_size) rest w in
-        let f = moves-turn all in
+        let f = moves_turn all in
         let l : length (move_records s1 a1 s2 a2 u n k ms) ≡ rest * arc_size = length_records n k t ms f.1 ∙ ap (λ (i : ℕ). i * arc_size) (length_moves (at + step_size) rest w) in
         written_turn (move_record s1 a1 s2 a2 u n k) arc_size to m ms out out2 (length_record s1 a1 s2 a2 u n k m f.0 t) (omega (arith, l, h, s)) g
         ∙ ap (λ (xs : List Move). splice to (move_records s1 a1 s2 a2 u n k xs) out) (sym (moves_cons at left rest w m s e))

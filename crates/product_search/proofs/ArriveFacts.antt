@@ -105,9 +105,9 @@ module _ (p : Plan) (h : Head) (d : Vertex) (i j : ℕ) (v : List ℕ) (q : Read
         _ u (moved_on p h h.reached q.fits, e)
 
     -- it is new
-    pub arrives-new : (n : Reached) → r ≡ E.New n → (u : List ℕ) → u ≡ stored_within p.base p.arcs h.arcs (move_bytes (noted h i j n)) w
+    pub arrives_new : (n : Reached) → r ≡ E.New n → (u : List ℕ) → u ≡ stored_within p.base p.arcs h.arcs (move_bytes (noted h i j n)) w
         → Arrives p h d i j v (moved_to p h (h.reached + 1)) u
-    arrives-new n z u e =
+    arrives_new n z u e =
         let t2 = subst (λ (y : Entered). EntersVertex h.reached p.states d v y w) z t in
         let b = t2.fits in
         let l : h.reached + 1 ≤ p.states = omega (arith, b) in
@@ -116,9 +116,9 @@ module _ (p : Plan) (h : Head) (d : Vertex) (i j : ℕ) (v : List ℕ) (q : Read
         _ u (moved_on p h (h.reached + 1) l, e)
 
     -- there is no room for it, and the search is given up
-    given-up : r ≡ E.Full → Arrives p h d i j v (given_up h) w
+    given_up_lem : r ≡ E.Full → Arrives p h d i j v (given_up h) w
     unfolding note note_all
-    given-up z = record {
+    given_up_lem z = record {
       grows = record { taken = refl; grown = omega arith; fits = q.fits; few = omega arith; same_length = t.same_length };
       meaning = λ A B c x y la lb di bt ca s m at. record {
         held = λ f. TestFacts.false_not_true f refl;
@@ -126,5 +126,5 @@ module _ (p : Plan) (h : Head) (d : Vertex) (i j : ℕ) (v : List ℕ) (q : Read
       };
     }
 
-    pub arrives-full : r ≡ E.Full → Arrives p h d i j v (moved_to p h (p.states + 1)) w
-    arrives-full z = arrives_moved p h d i j v (given_up h) (moved_to p h (p.states + 1)) w (moved_off p h (p.states + 1) (omega arith)) (given-up z)
+    pub arrives_full : r ≡ E.Full → Arrives p h d i j v (moved_to p h (p.states + 1)) w
+    arrives_full z = arrives_moved p h d i j v (given_up h) (moved_to p h (p.states + 1)) w (moved_off p h (p.states + 1) (omega arith)) (given_up_lem z)

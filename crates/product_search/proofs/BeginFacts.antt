@@ -81,9 +81,9 @@ module _ (p : Plan) (s1 s2 : List ℕ) (v : List ℕ) (k : Beginnable p s1 s2 (l
   begin_start = record { within = omega arith; opened = refl; widens = widens_none p.states (progress no_head) v (omega arith); meaning = λ A B a b. enters_none p A B no_head v }
 
   module _ (g : Head) (w : List ℕ) (q : ℕ) (t : Beginning p s1 s2 v g w q) where
-    pub begin-requires : q < p.first.states
+    pub begin_requires : q < p.first.states
         → (Open p g (length w)) × (g.full ≡ false) × (StatesLent p.first s1) × (q < p.first.states) × (StatesLent p.second s2)
-    begin-requires b = (
+    begin_requires b = (
       record { vertices_fit = k.vertices_fit; moves_fit = omega (arith, k.moves_fit, t.widens.same_length); few_states = k.few_states; fits = t.widens.fits },
       t.opened,
       k.first_lent,
@@ -92,12 +92,12 @@ module _ (p : Plan) (s1 s2 : List ℕ) (v : List ℕ) (k : Beginnable p s1 s2 (l
     )
 
     module _ (b : q < p.first.states) (r : Head) (u : List ℕ) (z : StartsBoth p g s1 q s2 w r u) where
-      next-widens : Widens p no_head v r u
-      next-widens = widens_then p.states (progress no_head) (progress g) (progress r) v w u t.widens z.widens
+      next_widens : Widens p no_head v r u
+      next_widens = widens_then p.states (progress no_head) (progress g) (progress r) v w u t.widens z.widens
 
-      next-means : (A B : Automaton ℕ) → ReadsStates p.first s1 A → ReadsStates p.second s2 B
+      next_means : (A B : Automaton ℕ) → ReadsStates p.first s1 A → ReadsStates p.second s2 B
           → Enters p A B (all_pairs (initials_from zero (take (q + 1) A.states)) (initials_from zero B.states)) no_head v r u
-      next-means A B m n =
+      next_means A B m n =
           let s : State ℕ = state_as (state_at (state_size * q) s1) in
           let qs = initials_from zero B.states in
           let is = initials_from zero (take q A.states) in
@@ -105,25 +105,25 @@ module _ (p : Plan) (s1 s2 : List ℕ) (v : List ℕ) (k : Beginnable p s1 s2 (l
           sym (pairs_append qs is (initials_from q (s ∷ []))) ∙ ap (λ (l : List ℕ). all_pairs l qs) (sym (initials_suc A.states q s (m.loaded q b))) in
           enters_same p A B _ _ no_head r v u e (enters_then p A B (all_pairs is qs) (all_pairs (initials_from q (s ∷ [])) qs) no_head g r v w u (t.meaning A B m n) (z.meaning A B m n))
 
-      pub begin-next : r.full ≡ false → Beginning p s1 s2 v r u (q + 1)
-      begin-next f = record { within = omega arith; opened = f; widens = next-widens; meaning = next-means }
+      pub begin_next : r.full ≡ false → Beginning p s1 s2 v r u (q + 1)
+      begin_next f = record { within = omega arith; opened = f; widens = next_widens; meaning = next_means }
 
-      pub begin-full : r.full ≡ true → Begun p s1 s2 v r u
-      begin-full f = record {
-        taken = next-widens.taken;
-        arcs = next-widens.arcs;
-        fits = next-widens.fits;
-        same_length = next-widens.same_length;
+      pub begin_full : r.full ≡ true → Begun p s1 s2 v r u
+      begin_full f = record {
+        taken = next_widens.taken;
+        arcs = next_widens.arcs;
+        fits = next_widens.fits;
+        same_length = next_widens.same_length;
         meaning = λ c A B m n.
             let qs = initials_from zero B.states in
             let is = initials_from zero (take (q + 1) A.states) in
             let more = initials_from (zero + length (take (q + 1) A.states)) (drop (q + 1) A.states) in
             let e : all_pairs is qs ++ all_pairs more qs ≡ starts_of A B = sym (pairs_append qs is more) ∙ ap (λ (l : List ℕ). all_pairs l qs) (initials_split A.states (q + 1)) in
-            begun_from p A B r v u c (enters_same p A B _ _ no_head r v u e (enters_full p A B (all_pairs is qs) (all_pairs more qs) no_head r v u f (next-means A B m n)));
+            begun_from p A B r v u c (enters_same p A B _ _ no_head r v u e (enters_full p A B (all_pairs is qs) (all_pairs more qs) no_head r v u f (next_means A B m n)));
       }
 
-    pub begin-end : p.first.states ≤ q → Begun p s1 s2 v g w
-    begin-end b = record {
+    pub begin_end : p.first.states ≤ q → Begun p s1 s2 v g w
+    begin_end b = record {
       taken = t.widens.taken;
       arcs = t.widens.arcs;
       fits = t.widens.fits;

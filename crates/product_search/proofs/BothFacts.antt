@@ -10,7 +10,7 @@ use Rattle.automata.specs.OrderedSum.{ℕ_sum}
 use Rattle.automata.specs.Automaton.{Automaton, Arc, Content, content}
 use Rattle.automata.specs.System.{system, out_at}
 use Rattle.automata.specs.Product as automata
-use Rattle.automata.specs.Product.{both_content, both, allBoth}
+use Rattle.automata.specs.Product.{both_content, both, all_both}
 use Rattle.automata.specs.Layout.{arc_size}
 use Rattle.table.specs.Arcs.{source_of, target_of}
 use Rattle.table.specs.Records.{arc_as, arc_at}
@@ -29,9 +29,9 @@ use Rattle.product_search.proofs.NoteFacts.{ready_on, notes_none, notes_same}
 use Rattle.product_search.proofs.ReadFacts.{source_at_lem, target_at_lem, out_one, out_away, out-all, at_source, turn_start, turn_more, turn_pass, turn_full, turn_all}
 
 -- the pairs of steps of two lists and of a third
-both_append : (rs xs ys : List (Content ℕ × ℕ)) → ◌≡◌ {A = List Step} (allBoth ℕ_sum (xs ++ ys) rs) (allBoth ℕ_sum xs rs ++ allBoth ℕ_sum ys rs)
+both_append : (rs xs ys : List (Content ℕ × ℕ)) → ◌≡◌ {A = List Step} (all_both ℕ_sum (xs ++ ys) rs) (all_both ℕ_sum xs rs ++ all_both ℕ_sum ys rs)
 both_append rs [] ys = refl
-both_append rs (x ∷ xs) ys = ap {B = List Step} (λ l. map (both ℕ_sum x) rs ++ l) (both_append rs xs ys) ∙ sym (append_assoc (map (both ℕ_sum x) rs) (allBoth ℕ_sum xs rs) (allBoth ℕ_sum ys rs))
+both_append rs (x ∷ xs) ys = ap {B = List Step} (λ l. map (both ℕ_sum x) rs ++ l) (both_append rs xs ys) ∙ sym (append_assoc (map (both ℕ_sum x) rs) (all_both ℕ_sum xs rs) (all_both ℕ_sum ys rs))
 
 -- ---- one arc of the first side
 
@@ -47,7 +47,7 @@ module _ (p : Plan) (h : Head) (c : Vertex) (a1 a2 n2 : List ℕ) (i : ℕ) (v :
     meaning = λ A B b k l e.
         let rs = out_at ℕ_sum (system (chained_only n2 B)) b.1 in
         let o : out_by (arc ∷ []) b.0 ≡ [] = out_away arc b.0 (λ z. n (source_is ∙ sym (source_at_lem (arc_size * i) a1) ∙ z ∙ sym (ap (λ (y : Vertex). y.first.0) e))) in
-        notes_same p A B b [] (allBoth ℕ_sum (out_by (arc ∷ []) b.0) rs) h h v v (sym (ap {B = List Step} (λ ss. allBoth ℕ_sum ss rs) o)) (notes_none p A B b h v);
+        notes_same p A B b [] (all_both ℕ_sum (out_by (arc ∷ []) b.0) rs) h h v v (sym (ap {B = List Step} (λ ss. all_both ℕ_sum ss rs) o)) (notes_none p A B b h v);
   }
 
   -- it leaves the first side's state
@@ -64,7 +64,7 @@ module _ (p : Plan) (h : Head) (c : Vertex) (a1 a2 n2 : List ℕ) (i : ℕ) (v :
       target = target_is ∙ sym (target_at_lem (arc_size * i) a1)
 
       go : (A B : Automaton ℕ) (b : automata.Vertex) → ReadsArcs p.first a1 A → ReadsArcs p.second a2 B → c ≡ vertex_of b → (o : Option ℕ) → b.0 ≡ o
-          → Notes p A B b (allBoth ℕ_sum (out_by (arc ∷ []) b.0) (out_at ℕ_sum (system (chained_only n2 B)) b.1)) h v r w
+          → Notes p A B b (all_both ℕ_sum (out_by (arc ∷ []) b.0) (out_at ℕ_sum (system (chained_only n2 B)) b.1)) h v r w
       go A B b k l e none f =
           let s = source in
           let z : c.first.0 ≡ ended = ap (λ (y : Vertex). y.first.0) e ∙ ap place_number f in
@@ -75,8 +75,8 @@ module _ (p : Plan) (h : Head) (c : Vertex) (a1 a2 n2 : List ℕ) (i : ℕ) (v :
           let o : out_by (arc ∷ []) b.0 ≡ (content arc, arc.target) ∷ [] = ap (out_by (arc ∷ [])) f ∙ out_one arc d s in
           let F : Content ℕ → Content ℕ = both_content ℕ_sum (content arc) in
           let steps : List Step = map (on_second F (some arc.target)) rs in
-          let whole : steps ≡ allBoth ℕ_sum (out_by (arc ∷ []) b.0) rs = sym (append-nil steps) ∙ sym (ap {B = List Step} (λ ss. allBoth ℕ_sum ss rs) o) in
-          notes_same p A B b steps (allBoth ℕ_sum (out_by (arc ∷ []) b.0) rs) h r v w whole
+          let whole : steps ≡ all_both ℕ_sum (out_by (arc ∷ []) b.0) rs = sym (append-nil steps) ∙ sym (ap {B = List Step} (λ ss. all_both ℕ_sum ss rs) o) in
+          notes_same p A B b steps (all_both ℕ_sum (out_by (arc ∷ []) b.0) rs) h r v w whole
           (a.meaning A B b F (some arc.target) (record {
             reads = l;
             few = k.few_states;
@@ -90,7 +90,7 @@ module _ (p : Plan) (h : Head) (c : Vertex) (a1 a2 n2 : List ℕ) (i : ℕ) (v :
 
 -- the pairs of steps with those of the second side's chains
 abbrev pairs_with : List ℕ → Automaton ℕ → automata.Vertex → List (Content ℕ × ℕ) → List Step
-pairs_with n2 B b ss = allBoth ℕ_sum ss (out_at ℕ_sum (system (chained_only n2 B)) b.1)
+pairs_with n2 B b ss = all_both ℕ_sum ss (out_at ℕ_sum (system (chained_only n2 B)) b.1)
 
 module _ (p : Plan) (h : Head) (c : Vertex) (a1 n1 a2 n2 : List ℕ) (v : List ℕ) where
   -- the first i were looked at
@@ -135,9 +135,9 @@ module _ (p : Plan) (h : Head) (c : Vertex) (a1 f1 n1 a2 f2 n2 : List ℕ) (v : 
       (subst (FirstIn a1 n1 c.first.0 p.first.arcs 0) (sym e) (first_for_lem p.first.states p.first.arcs a1 f1 n1 indexed.first c.first.0))
 
   module _ (g : Head) (w : List ℕ) (i : ℕ) (t : PassingBoth p h c a1 n1 a2 n2 v g w i) where
-    pub both-requires : i < p.first.arcs
+    pub both_requires : i < p.first.arcs
         → (Ready p g 8192 (length w)) × (g.full ≡ false) × (ArcsLent p.first a1) × (i < p.first.arcs) × (ArcsLent p.second a2) × (LinkedArcs p.second a2 f2 n2)
-    both-requires b = (ready_on p (8192 * i) 8192 67108864 h g v w q t.turned.grows (omega (arith, b, lent-first.few)), t.turned.opened, lent-first, b, lent-second, indexed.second)
+    both_requires b = (ready_on p (8192 * i) 8192 67108864 h g v w q t.turned.grows (omega (arith, b, lent-first.few)), t.turned.opened, lent-first, b, lent-second, indexed.second)
 
     module _ (b : i < p.first.arcs) where
       -- the next arc of the chain
@@ -148,26 +148,26 @@ module _ (p : Plan) (h : Head) (c : Vertex) (a1 f1 n1 a2 f2 n2 : List ℕ) (v : 
       pub both-goes : i < get_or n1 i 0
       both-goes = let f = following.behind in omega (arith, f)
 
-      pub both-bound : get_or n1 i 0 ≤ 8192
-      both-bound = let f = following.within in omega (arith, f, lent-first.few)
+      pub both_bound : get_or n1 i 0 ≤ 8192
+      both_bound = let f = following.within in omega (arith, f, lent-first.few)
 
       module _ (r : Head) (u : List ℕ) (z : TriesBoth p g c a1 a2 n2 i w r u) where
         next_grows : Grows p (8192 * (i + 1)) h v r u
         next_grows = grows_then p.states (8192 * i) 8192 (8192 * (i + 1)) (progress h) (progress g) (progress r) v w u t.turned.grows z.grows (omega arith)
 
-        next-means : (A B : Automaton ℕ) (d : automata.Vertex) → ReadsArcs p.first a1 A → ReadsArcs p.second a2 B → c ≡ vertex_of d
+        next_means : (A B : Automaton ℕ) (d : automata.Vertex) → ReadsArcs p.first a1 A → ReadsArcs p.second a2 B → c ≡ vertex_of d
             → Notes p A B d (pairs_with n2 B d (out_by (chained_arcs n1 0 (take (i + 1) A.arcs)) d.0)) h v r u
-        next-means A B d k l e = turn_more (pairs_with n2 B d) refl (both_append (out_at ℕ_sum (system (chained_only n2 B)) d.1)) p A B d n1 A.arcs d.0 h v
+        next_means A B d k l e = turn_more (pairs_with n2 B d) refl (both_append (out_at ℕ_sum (system (chained_only n2 B)) d.1)) p A B d n1 A.arcs d.0 h v
             i (arc_as p.first.tapes (arc_at (arc_size * i) a1)) g r w u t.turned.grows.taken (t.turned.meaning A B d k l e) (k.loaded i b) (t.leaves b).0 (z.meaning A B d k l e)
 
         pub both-next : r.full ≡ false → PassingBoth p h c a1 n1 a2 n2 v r u (get_or n1 i 0)
-        both-next f = to-next r u (i + 1) (get_or n1 i 0) (record { within = omega arith; opened = f; grows = next_grows; meaning = next-means }) following
+        both-next f = to-next r u (i + 1) (get_or n1 i 0) (record { within = omega arith; opened = f; grows = next_grows; meaning = next_means }) following
 
-        pub both-full : r.full ≡ true → PassesBoth p h c a1 n1 a2 n2 v r u
-        both-full f = record {
+        pub both_full : r.full ≡ true → PassesBoth p h c a1 n1 a2 n2 v r u
+        both_full f = record {
           grows = grows_wider p.states (8192 * (i + 1)) 67108864 (progress h) (progress r) v u next_grows (omega (arith, b, lent-first.few));
           meaning = λ A B d k l e. subst (λ (ss : List (Content ℕ × ℕ)). Notes p A B d (pairs_with n2 B d ss) h v r u) (out-all (chained_only n1 A) d.0)
-              (turn_full (pairs_with n2 B d) refl (both_append (out_at ℕ_sum (system (chained_only n2 B)) d.1)) p A B d n1 A.arcs d.0 h v (i + 1) r u f (next-means A B d k l e));
+              (turn_full (pairs_with n2 B d) refl (both_append (out_at ℕ_sum (system (chained_only n2 B)) d.1)) p A B d n1 A.arcs d.0 h v (i + 1) r u f (next_means A B d k l e));
         }
 
     pub both_end : p.first.arcs ≤ i → PassesBoth p h c a1 n1 a2 n2 v g w

@@ -15,7 +15,7 @@ use Rattle.automata.specs.Automaton.{Automaton, Arc, Content, content}
 use Rattle.automata.specs.System.{system, out_at, final_at}
 use Rattle.automata.specs.Explore.{successors, reached, Reachable, start, onward}
 use Rattle.automata.specs.Product as automata
-use Rattle.automata.specs.Product.{same_vertex, both, afterFirst, afterSecond, allBoth, allAfterFirst, allAfterSecond, product_system, product_states}
+use Rattle.automata.specs.Product.{same_vertex, both, after_first, after_second, all_both, all_after_first, all_after_second, product_system, product_states}
 use Rattle.automata.proofs.ListFacts
 use Rattle.automata.proofs.PairwiseFacts
 use Rattle.automata.proofs.Explored.{reached_explored}
@@ -54,12 +54,12 @@ abbrev Leads : List (Content ℕ × ℕ) → List (Content ℕ × ℕ) → Type 
 Leads xs ys = (s : Content ℕ × ℕ) → s ∈ xs → (r : Content ℕ × ℕ) × (r ∈ ys) × (r.1 ≡ s.1)
 
 -- the pairs of steps
-both_there : (ss rs : List (Content ℕ × ℕ)) (s r : Content ℕ × ℕ) → s ∈ ss → r ∈ rs → ◌∈◌ {A = Step} (both ℕ_sum s r) (allBoth ℕ_sum ss rs)
+both_there : (ss rs : List (Content ℕ × ℕ)) (s r : Content ℕ × ℕ) → s ∈ ss → r ∈ rs → ◌∈◌ {A = Step} (both ℕ_sum s r) (all_both ℕ_sum ss rs)
 both_there (x ∷ ss) rs s r (here e) m =
-    Memᴰ.append_left (allBoth ℕ_sum ss rs) (subst (λ (z : Content ℕ × ℕ). ◌∈◌ {A = Step} (both ℕ_sum s r) (map (both ℕ_sum z) rs)) e (ListFacts.map_keeps (both ℕ_sum s) rs m))
+    Memᴰ.append_left (all_both ℕ_sum ss rs) (subst (λ (z : Content ℕ × ℕ). ◌∈◌ {A = Step} (both ℕ_sum s r) (map (both ℕ_sum z) rs)) e (ListFacts.map_keeps (both ℕ_sum s) rs m))
 both_there (x ∷ ss) rs s r (there k) m = Memᴰ.append_right (map (both ℕ_sum x) rs) (both_there ss rs s r k m)
 
-both-from : (ss rs : List (Content ℕ × ℕ)) (x : Step) → x ∈ allBoth ℕ_sum ss rs
+both-from : (ss rs : List (Content ℕ × ℕ)) (x : Step) → x ∈ all_both ℕ_sum ss rs
     → (s : Content ℕ × ℕ) × (r : Content ℕ × ℕ) × (s ∈ ss) × (r ∈ rs) × (x ≡ both ℕ_sum s r)
 both-from (s ∷ ss) rs x m = elim (Memᴰ.append_cases (map (both ℕ_sum s) rs) m) [
   | inl a ↦ (let y = ListFacts.map_members (both ℕ_sum s) rs a in (s, y.0, here refl, y.1, y.2))
@@ -71,32 +71,32 @@ module _ (xs xs' ys ys' : List (Content ℕ × ℕ)) (first : Leads xs xs') (sec
   abbrev Also : List Step → List Step → Type 0
   Also us vs = (u : Step) → u ∈ us → (v : Step) × (v ∈ vs) × (v.1 ≡ u.1)
 
-  both_also : Also (allBoth ℕ_sum xs ys) (allBoth ℕ_sum xs' ys')
+  both_also : Also (all_both ℕ_sum xs ys) (all_both ℕ_sum xs' ys')
   both_also u m =
       let y = both-from xs ys u m in
       let s = first y.0 y.2 in
       let r = second y.1 y.3 in
       (both ℕ_sum s.0 r.0, both_there xs' ys' s.0 r.0 s.1 r.1, (λ i. (some (s.2 i), some (r.2 i))) ∙ sym (ap (λ (z : Step). z.1) y.4))
 
-  first_also : (n : ℕ) (o : Option ℕ) → Also (allAfterFirst ℕ_sum n o ys) (allAfterFirst ℕ_sum n o ys')
+  first_also : (n : ℕ) (o : Option ℕ) → Also (all_after_first ℕ_sum n o ys) (all_after_first ℕ_sum n o ys')
   first_also n (some f) u m =
-      let y = ListFacts.map_members (afterFirst ℕ_sum {C = ℕ} n f) ys m in
+      let y = ListFacts.map_members (after_first ℕ_sum {C = ℕ} n f) ys m in
       let r = second y.0 y.1 in
-      (afterFirst ℕ_sum n f r.0, ListFacts.map_keeps (afterFirst ℕ_sum {C = ℕ} n f) ys' r.1, (λ i. (none, some (r.2 i))) ∙ sym (ap (λ (z : Step). z.1) y.2))
+      (after_first ℕ_sum n f r.0, ListFacts.map_keeps (after_first ℕ_sum {C = ℕ} n f) ys' r.1, (λ i. (none, some (r.2 i))) ∙ sym (ap (λ (z : Step). z.1) y.2))
 
-  second_also : (n : ℕ) (o : Option ℕ) → Also (allAfterSecond ℕ_sum n o xs) (allAfterSecond ℕ_sum n o xs')
+  second_also : (n : ℕ) (o : Option ℕ) → Also (all_after_second ℕ_sum n o xs) (all_after_second ℕ_sum n o xs')
   second_also n (some f) u m =
-      let y = ListFacts.map_members (afterSecond ℕ_sum {D = ℕ} n f) xs m in
+      let y = ListFacts.map_members (after_second ℕ_sum {D = ℕ} n f) xs m in
       let r = first y.0 y.1 in
-      (afterSecond ℕ_sum n f r.0, ListFacts.map_keeps (afterSecond ℕ_sum {D = ℕ} n f) xs' r.1, (λ i. (some (r.2 i), none)) ∙ sym (ap (λ (z : Step). z.1) y.2))
+      (after_second ℕ_sum n f r.0, ListFacts.map_keeps (after_second ℕ_sum {D = ℕ} n f) xs' r.1, (λ i. (some (r.2 i), none)) ∙ sym (ap (λ (z : Step). z.1) y.2))
 
-  all_also : (n m : ℕ) (o p : Option ℕ) → Also (allBoth ℕ_sum xs ys ++ (allAfterFirst ℕ_sum n o ys ++ allAfterSecond ℕ_sum m p xs))
-      (allBoth ℕ_sum xs' ys' ++ (allAfterFirst ℕ_sum n o ys' ++ allAfterSecond ℕ_sum m p xs'))
-  all_also n m o p u k = elim (Memᴰ.append_cases (allBoth ℕ_sum xs ys) k) [
+  all_also : (n m : ℕ) (o p : Option ℕ) → Also (all_both ℕ_sum xs ys ++ (all_after_first ℕ_sum n o ys ++ all_after_second ℕ_sum m p xs))
+      (all_both ℕ_sum xs' ys' ++ (all_after_first ℕ_sum n o ys' ++ all_after_second ℕ_sum m p xs'))
+  all_also n m o p u k = elim (Memᴰ.append_cases (all_both ℕ_sum xs ys) k) [
     | inl a ↦ (let y = both_also u a in (y.0, Memᴰ.append_left _ y.1, y.2))
-    | inr a ↦ elim (Memᴰ.append_cases (allAfterFirst ℕ_sum n o ys) a) [
-      | inl b ↦ (let y = first_also n o u b in (y.0, Memᴰ.append_right (allBoth ℕ_sum xs' ys') (Memᴰ.append_left _ y.1), y.2))
-      | inr b ↦ (let y = second_also m p u b in (y.0, Memᴰ.append_right (allBoth ℕ_sum xs' ys') (Memᴰ.append_right (allAfterFirst ℕ_sum n o ys') y.1), y.2))
+    | inr a ↦ elim (Memᴰ.append_cases (all_after_first ℕ_sum n o ys) a) [
+      | inl b ↦ (let y = first_also n o u b in (y.0, Memᴰ.append_right (all_both ℕ_sum xs' ys') (Memᴰ.append_left _ y.1), y.2))
+      | inr b ↦ (let y = second_also m p u b in (y.0, Memᴰ.append_right (all_both ℕ_sum xs' ys') (Memᴰ.append_right (all_after_first ℕ_sum n o ys') y.1), y.2))
     ]
   ]
 
@@ -126,10 +126,10 @@ ends_also us vs h d k =
 
 -- moves of the one product lead where moves of the other do, given the same final weights
 moves_join : (A B A' B' : Automaton ℕ) → Joins A.arcs A'.arcs → Joins B.arcs B'.arcs → (n m : ℕ) (o p : Option ℕ) (c d : automata.Vertex)
-    → d ∈ map (λ (u : Step). u.1) (allBoth ℕ_sum (out_at ℕ_sum (system A) c.0) (out_at ℕ_sum (system B) c.1)
-    ++ (allAfterFirst ℕ_sum n o (out_at ℕ_sum (system B) c.1) ++ allAfterSecond ℕ_sum m p (out_at ℕ_sum (system A) c.0)))
-    → d ∈ map (λ (u : Step). u.1) (allBoth ℕ_sum (out_at ℕ_sum (system A') c.0) (out_at ℕ_sum (system B') c.1)
-    ++ (allAfterFirst ℕ_sum n o (out_at ℕ_sum (system B') c.1) ++ allAfterSecond ℕ_sum m p (out_at ℕ_sum (system A') c.0)))
+    → d ∈ map (λ (u : Step). u.1) (all_both ℕ_sum (out_at ℕ_sum (system A) c.0) (out_at ℕ_sum (system B) c.1)
+    ++ (all_after_first ℕ_sum n o (out_at ℕ_sum (system B) c.1) ++ all_after_second ℕ_sum m p (out_at ℕ_sum (system A) c.0)))
+    → d ∈ map (λ (u : Step). u.1) (all_both ℕ_sum (out_at ℕ_sum (system A') c.0) (out_at ℕ_sum (system B') c.1)
+    ++ (all_after_first ℕ_sum n o (out_at ℕ_sum (system B') c.1) ++ all_after_second ℕ_sum m p (out_at ℕ_sum (system A') c.0)))
 moves_join A B A' B' f g n m o p c d k = ends_also _ _
     (all_also (out_at ℕ_sum (system A) c.0) (out_at ℕ_sum (system A') c.0) (out_at ℕ_sum (system B) c.1) (out_at ℕ_sum (system B') c.1)
     (out-leads A A' f c.0) (out-leads B B' g c.1) n m o p) d k

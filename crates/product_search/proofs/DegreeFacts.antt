@@ -11,7 +11,7 @@ use Rattle.automata.specs.Lists.{if, is_some}
 use Rattle.automata.specs.OrderedSum.{ℕ_sum}
 use Rattle.automata.specs.Automaton.{Automaton, Content}
 use Rattle.automata.specs.System.{system, out_at, final_at}
-use Rattle.automata.specs.Product.{both, afterFirst, afterSecond, allBoth, allAfterFirst, allAfterSecond}
+use Rattle.automata.specs.Product.{both, after_first, after_second, all_both, all_after_first, all_after_second}
 use Rattle.automata.specs.Layout.{arc_size}
 use Rattle.table.specs.declared.answer.Counts.{Counts}
 use Rattle.table.specs.Records.{arc_as, arc_at}
@@ -70,8 +70,8 @@ module _ (counts : Counts) (first next : List ℕ) (x : ℕ) (w : Walkable count
       following arcs c = next_for counts.states counts.arcs arcs first next c x j b (t.leaves arcs c b)
 
       -- stands behind, and has a small number
-      pub count-goes : (j < get_or next j 0) × (get_or next j 0 ≤ 8192)
-      count-goes = let f = following w.bytes w.linked in let l = f.behind in let h = f.within in (omega (arith, l), omega (arith, h, w.few))
+      pub count_goes : (j < get_or next j 0) × (get_or next j 0 ≤ 8192)
+      count_goes = let f = following w.bytes w.linked in let l = f.behind in let h = f.within in (omega (arith, l), omega (arith, h, w.few))
 
       -- the arc leads out of the place
       one-step : (arcs : List ℕ) (A : Automaton ℕ) → LinkedArcs counts arcs first next → ReadsArcs counts arcs A → (y : Option ℕ) → x ≡ place_number y
@@ -91,8 +91,8 @@ module _ (counts : Counts) (first next : List ℕ) (x : ℕ) (w : Walkable count
           ∙ sym (length-append z (out_by (a ∷ []) y)) ∙ ap length (out-next next A.arcs y j a (r.loaded j b) (t.leaves arcs c b).0))
 
     -- all were
-    pub count-end : counts.arcs ≤ j → Leaves counts first next x d
-    count-end b = record {
+    pub count_end : counts.arcs ≤ j → Leaves counts first next x d
+    count_end b = record {
       few = omega (arith, t.few, t.within, w.few);
       meaning = λ arcs A y c r e.
           t.meaning arcs A y c r e ∙ ap length (out_whole next A.arcs y j (omega (arith, b, r.count)) ∙ out-all (chained_only next A) y);
@@ -101,23 +101,23 @@ module _ (counts : Counts) (first next : List ℕ) (x : ℕ) (w : Walkable count
 -- ---- both sides
 
 -- all pairs of steps
-length_both : (xs ys : List (Content ℕ × ℕ)) → length {A = Step} (allBoth ℕ_sum xs ys) ≡ length xs * length ys
+length_both : (xs ys : List (Content ℕ × ℕ)) → length {A = Step} (all_both ℕ_sum xs ys) ≡ length xs * length ys
 length_both [] ys = sym (zero-mul (length ys))
 length_both (x ∷ xs) ys =
-    let a = length-append {A = Step} (map (both ℕ_sum x) ys) (allBoth ℕ_sum xs ys) in
+    let a = length-append {A = Step} (map (both ℕ_sum x) ys) (all_both ℕ_sum xs ys) in
     let b = length-map {B = Step} ys (both ℕ_sum x) in
     let c = length_both xs ys in
     let e : suc (length xs) * length ys ≡ length xs * length ys + length ys = suc-mul (length xs) (length ys) in
     omega (arith, a, b, c, e)
 
 -- the steps after an end
-length_first : (n : ℕ) (o : Option ℕ) (ys : List (Content ℕ × ℕ)) → length {A = Step} (allAfterFirst ℕ_sum n o ys) ≡ if (is_some o) (length ys) 0
+length_first : (n : ℕ) (o : Option ℕ) (ys : List (Content ℕ × ℕ)) → length {A = Step} (all_after_first ℕ_sum n o ys) ≡ if (is_some o) (length ys) 0
 length_first n none ys = refl
-length_first n (some f) ys = length-map {B = Step} ys (afterFirst ℕ_sum n f)
+length_first n (some f) ys = length-map {B = Step} ys (after_first ℕ_sum n f)
 
-length_second : (n : ℕ) (o : Option ℕ) (xs : List (Content ℕ × ℕ)) → length {A = Step} (allAfterSecond ℕ_sum n o xs) ≡ if (is_some o) (length xs) 0
+length_second : (n : ℕ) (o : Option ℕ) (xs : List (Content ℕ × ℕ)) → length {A = Step} (all_after_second ℕ_sum n o xs) ≡ if (is_some o) (length xs) 0
 length_second n none xs = refl
-length_second n (some g) xs = length-map {B = Step} xs (afterSecond ℕ_sum n g)
+length_second n (some g) xs = length-map {B = Step} xs (after_second ℕ_sum n g)
 
 -- the pairs are few
 pub pairs_few : (d1 d2 : ℕ) → d1 ≤ 8192 → d2 ≤ 8192 → d1 * d2 ≤ 67108864
@@ -132,16 +132,16 @@ module _ (p : Plan) (c : Vertex) (s1 f1 n1 s2 f2 n2 : List ℕ) (d1 d2 : ℕ) (x
     meaning = λ a1 a2 A B b i r e below.
         let xs = out_at ℕ_sum (system (chained_only n1 A)) b.0 in
         let ys = out_at ℕ_sum (system (chained_only n2 B)) b.1 in
-        let ps : List Step = allBoth ℕ_sum xs ys in
-        let fs : List Step = allAfterFirst ℕ_sum A.tapes (final_at ℕ_sum (system A) b.0) ys in
-        let ss : List Step = allAfterSecond ℕ_sum B.tapes (final_at ℕ_sum (system B) b.1) xs in
+        let ps : List Step = all_both ℕ_sum xs ys in
+        let fs : List Step = all_after_first ℕ_sum A.tapes (final_at ℕ_sum (system A) b.0) ys in
+        let ss : List Step = all_after_second ℕ_sum B.tapes (final_at ℕ_sum (system B) b.1) xs in
         let first_is = ap (λ (z : Vertex). z.first.0) e in
         let second_is = ap (λ (z : Vertex). z.second.0) e in
-        let z1 = x1.meaning a1 A b.0 i.first r.first_arcs first_is in
+        let z1 = x1.meaning a1 A b.0 i.first r.first_arcs first-is in
         let z2 = x2.meaning a2 B b.1 i.second r.second_arcs second_is in
         let u : d1 * d2 ≡ length ps = ap₂ (λ (k n : ℕ). k * n) z1 z2 ∙ sym (length_both xs ys) in
         let v : k1 ≡ length fs
-        = o1.0 ∙ ap₂ (λ (t : Bool) (n : ℕ). if t n 0) (t1 A b.0 r.first_states first_is below.0) z2 ∙ sym (length_first A.tapes (final_at ℕ_sum (system A) b.0) ys) in
+        = o1.0 ∙ ap₂ (λ (t : Bool) (n : ℕ). if t n 0) (t1 A b.0 r.first_states first-is below.0) z2 ∙ sym (length_first A.tapes (final_at ℕ_sum (system A) b.0) ys) in
         let w : k2 ≡ length ss
         = o2.0 ∙ ap₂ (λ (t : Bool) (n : ℕ). if t n 0) (t2 B b.1 r.second_states second_is below.1) z1 ∙ sym (length_second B.tapes (final_at ℕ_sum (system B) b.1) xs) in
         let l = length-append ps (fs ++ ss) in

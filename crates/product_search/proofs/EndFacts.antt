@@ -11,7 +11,7 @@ use Rattle.automata.specs.OrderedSum.{ℕ_sum}
 use Rattle.automata.specs.Automaton.{Automaton, State, Content, final_of}
 use Rattle.automata.specs.System.{system, out_at, final_at}
 use Rattle.automata.specs.Product as automata
-use Rattle.automata.specs.Product.{after_first_content, after_second_content, allAfterFirst, allAfterSecond}
+use Rattle.automata.specs.Product.{after_first_content, after_second_content, all_after_first, all_after_second}
 use Rattle.automata.specs.Layout.{state_size, final_place}
 use Rattle.table.specs.declared.answer.Counts.{Counts}
 use Rattle.table.specs.Records.{state_as, state_at}
@@ -67,7 +67,7 @@ module _ (p : Plan) (h : Head) (c : Vertex) (s1 a2 n2 : List ℕ) (v : List ℕ)
   pub first-over : h.full ≡ true → EndsFirst p h c s1 a2 n2 v h v
   first-over f = record {
     grows = grows_none p.states 8192 (progress h) v q.fits;
-    meaning = λ A B b k l e t. notes_over p A B b (allAfterFirst ℕ_sum A.tapes (final_at ℕ_sum (system A) b.0) (out_at ℕ_sum (system (chained_only n2 B)) b.1)) h v f;
+    meaning = λ A B b k l e t. notes_over p A B b (all_after_first ℕ_sum A.tapes (final_at ℕ_sum (system A) b.0) (out_at ℕ_sum (system (chained_only n2 B)) b.1)) h v f;
   }
 
   module _ (x : Bool) (tells : TellsEnd p.first s1 c.first.0 x) where
@@ -76,14 +76,14 @@ module _ (p : Plan) (h : Head) (c : Vertex) (s1 a2 n2 : List ℕ) (v : List ℕ)
     told A B b k e t = tells A b.0 k (ap (λ (y : Vertex). y.first.0) e) t.0
 
     -- its path may not end
-    pub first-stays : not x ≡ true → EndsFirst p h c s1 a2 n2 v h v
-    first-stays n = record {
+    pub first_stays : not x ≡ true → EndsFirst p h c s1 a2 n2 v h v
+    first_stays n = record {
       grows = grows_none p.states 8192 (progress h) v q.fits;
       meaning = λ A B b k l e t.
           let rs = out_at ℕ_sum (system (chained_only n2 B)) b.1 in
           let o : final_at ℕ_sum (system A) b.0 ≡ none = absent x (final_at ℕ_sum (system A) b.0) n (told A B b k e t) in
-          notes_same p A B b [] (allAfterFirst ℕ_sum A.tapes (final_at ℕ_sum (system A) b.0) rs) h h v v
-          (sym (ap {B = List Step} (λ z. allAfterFirst ℕ_sum A.tapes z rs) o)) (notes_none p A B b h v);
+          notes_same p A B b [] (all_after_first ℕ_sum A.tapes (final_at ℕ_sum (system A) b.0) rs) h h v v
+          (sym (ap {B = List Step} (λ z. all_after_first ℕ_sum A.tapes z rs) o)) (notes_none p A B b h v);
     }
 
     -- it may
@@ -94,8 +94,8 @@ module _ (p : Plan) (h : Head) (c : Vertex) (s1 a2 n2 : List ℕ) (v : List ℕ)
           let rs = out_at ℕ_sum (system (chained_only n2 B)) b.1 in
           let y = present x (final_at ℕ_sum (system A) b.0) n (told A B b k e t) in
           let F : Content ℕ → Content ℕ = after_first_content ℕ_sum A.tapes y.0 in
-          notes_same p A B b (map (on_second F none) rs) (allAfterFirst ℕ_sum A.tapes (final_at ℕ_sum (system A) b.0) rs) h r v w
-          (sym (ap {B = List Step} (λ z. allAfterFirst ℕ_sum A.tapes z rs) y.1))
+          notes_same p A B b (map (on_second F none) rs) (all_after_first ℕ_sum A.tapes (final_at ℕ_sum (system A) b.0) rs) h r v w
+          (sym (ap {B = List Step} (λ z. all_after_first ℕ_sum A.tapes z rs) y.1))
           (a.meaning A B b F none (record {
             reads = l;
             few = k.few;
@@ -113,35 +113,35 @@ module _ (p : Plan) (h : Head) (c : Vertex) (a1 n1 s2 : List ℕ) (v : List ℕ)
   pub second_over : h.full ≡ true → EndsSecond p h c a1 n1 s2 v h v
   second_over f = record {
     grows = grows_none p.states 8192 (progress h) v q.fits;
-    meaning = λ A B b k l e t. notes_over p A B b (allAfterSecond ℕ_sum B.tapes (final_at ℕ_sum (system B) b.1) (out_at ℕ_sum (system (chained_only n1 A)) b.0)) h v f;
+    meaning = λ A B b k l e t. notes_over p A B b (all_after_second ℕ_sum B.tapes (final_at ℕ_sum (system B) b.1) (out_at ℕ_sum (system (chained_only n1 A)) b.0)) h v f;
   }
 
   module _ (x : Bool) (tells : TellsEnd p.second s2 c.second.0 x) where
-    told-second : (A B : Automaton ℕ) (b : automata.Vertex) → ReadsStates p.second s2 B → c ≡ vertex_of b → VertexBelow (length A.states) (length B.states) b
+    told_second : (A B : Automaton ℕ) (b : automata.Vertex) → ReadsStates p.second s2 B → c ≡ vertex_of b → VertexBelow (length A.states) (length B.states) b
         → x ≡ is_some (final_at ℕ_sum (system B) b.1)
-    told-second A B b k e t = tells B b.1 k (ap (λ (y : Vertex). y.second.0) e) t.1
+    told_second A B b k e t = tells B b.1 k (ap (λ (y : Vertex). y.second.0) e) t.1
 
     -- its path may not end
-    pub second-stays : not x ≡ true → EndsSecond p h c a1 n1 s2 v h v
-    second-stays n = record {
+    pub second_stays : not x ≡ true → EndsSecond p h c a1 n1 s2 v h v
+    second_stays n = record {
       grows = grows_none p.states 8192 (progress h) v q.fits;
       meaning = λ A B b k l e t.
           let ss = out_at ℕ_sum (system (chained_only n1 A)) b.0 in
-          let o : final_at ℕ_sum (system B) b.1 ≡ none = absent x (final_at ℕ_sum (system B) b.1) n (told-second A B b l e t) in
-          notes_same p A B b [] (allAfterSecond ℕ_sum B.tapes (final_at ℕ_sum (system B) b.1) ss) h h v v
-          (sym (ap {B = List Step} (λ z. allAfterSecond ℕ_sum B.tapes z ss) o)) (notes_none p A B b h v);
+          let o : final_at ℕ_sum (system B) b.1 ≡ none = absent x (final_at ℕ_sum (system B) b.1) n (told_second A B b l e t) in
+          notes_same p A B b [] (all_after_second ℕ_sum B.tapes (final_at ℕ_sum (system B) b.1) ss) h h v v
+          (sym (ap {B = List Step} (λ z. all_after_second ℕ_sum B.tapes z ss) o)) (notes_none p A B b h v);
     }
 
     -- it may
-    pub second-ends : not x ≡ false → (r : Head) (w : List ℕ) → PassesFirst p h c a1 n1 v r w → EndsSecond p h c a1 n1 s2 v r w
-    second-ends n r w a = record {
+    pub second_ends : not x ≡ false → (r : Head) (w : List ℕ) → PassesFirst p h c a1 n1 v r w → EndsSecond p h c a1 n1 s2 v r w
+    second_ends n r w a = record {
       grows = a.grows;
       meaning = λ A B b k l e t.
           let ss = out_at ℕ_sum (system (chained_only n1 A)) b.0 in
-          let y = present x (final_at ℕ_sum (system B) b.1) n (told-second A B b l e t) in
+          let y = present x (final_at ℕ_sum (system B) b.1) n (told_second A B b l e t) in
           let F : Content ℕ → Content ℕ = after_second_content ℕ_sum B.tapes y.0 in
-          notes_same p A B b (map (on_first F) ss) (allAfterSecond ℕ_sum B.tapes (final_at ℕ_sum (system B) b.1) ss) h r v w
-          (sym (ap {B = List Step} (λ z. allAfterSecond ℕ_sum B.tapes z ss) y.1))
+          notes_same p A B b (map (on_first F) ss) (all_after_second ℕ_sum B.tapes (final_at ℕ_sum (system B) b.1) ss) h r v w
+          (sym (ap {B = List Step} (λ z. all_after_second ℕ_sum B.tapes z ss) y.1))
           (a.meaning A B b F (record {
             reads = k;
             few = l.few;

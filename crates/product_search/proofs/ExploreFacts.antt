@@ -71,8 +71,8 @@ module _ (p : Plan) (s1 a1 s2 a2 : List ℕ) (v : List ℕ) (x : Explorable p s1
   })
 
   module _ (f1 n1 f2 n2 : List ℕ) (d1 : LinksDistinct p.first.states p.first.arcs a1 f1 n1) (d2 : LinksDistinct p.second.states p.second.arcs a2 f2 n2) where
-    pub distinct-indexed : (q : Plan) → q ≡ states_only p → Indexed q a1 f1 n1 a2 f2 n2
-    distinct-indexed q e = subst (λ (z : Plan). Indexed z a1 f1 n1 a2 f2 n2) (sym e) (record { first = d1.linked; second = d2.linked })
+    pub distinct_indexed : (q : Plan) → q ≡ states_only p → Indexed q a1 f1 n1 a2 f2 n2
+    distinct_indexed q e = subst (λ (z : Plan). Indexed z a1 f1 n1 a2 f2 n2) (sym e) (record { first = d1.linked; second = d2.linked })
 
     told-again : (arcs : ℕ) (r : Head) (w : List ℕ) → Searches (states_only p) s1 a1 n1 s2 a2 n2 v r w
         → Recounts p s1 a1 s2 a2 arcs v (record { taken = r.taken; reached = r.reached; arcs = arcs; full = r.full }) w
@@ -104,21 +104,21 @@ module _ (p : Plan) (s1 a1 s2 a2 : List ℕ) (v : List ℕ) (x : Explorable p s1
       second = linked_all p.second.states p.second.arcs a2 f2 n2 c.second (chainable p.second s2 a2 x.second_sound).sources;
     }
 
-    first-whole : chained_only n1 (first_in p s1 a1) ≡ first_in p s1 a1
-    first-whole = whole_chained n1 (first_in p s1 a1) (λ j l. all_in p.first.states p.first.arcs a1 f1 n1 c.first j (omega (arith, l, (reads p s1 a1 s2 a2 v x).first_arcs.count)))
+    first_whole : chained_only n1 (first_in p s1 a1) ≡ first_in p s1 a1
+    first_whole = whole_chained n1 (first_in p s1 a1) (λ j l. all_in p.first.states p.first.arcs a1 f1 n1 c.first j (omega (arith, l, (reads p s1 a1 s2 a2 v x).first_arcs.count)))
 
-    second-whole : chained_only n2 (second_in p s2 a2) ≡ second_in p s2 a2
-    second-whole = whole_chained n2 (second_in p s2 a2) (λ j l. all_in p.second.states p.second.arcs a2 f2 n2 c.second j (omega (arith, l, (reads p s1 a1 s2 a2 v x).second_arcs.count)))
+    second_whole : chained_only n2 (second_in p s2 a2) ≡ second_in p s2 a2
+    second_whole = whole_chained n2 (second_in p s2 a2) (λ j l. all_in p.second.states p.second.arcs a2 f2 n2 c.second j (omega (arith, l, (reads p s1 a1 s2 a2 v x).second_arcs.count)))
 
     module _ (limited : p.limit ≡ p.arcs) (h : Head) (u : List ℕ) (y : Searches p s1 a1 n1 s2 a2 n2 v h u) where
       -- the whole search, or what it came to before it was given up
       come : Comes p (first_in p s1 a1) (second_in p s2 a2) h (record { vertices = reached_in p s1 a1 s2 a2; edges = edges_in p s1 a1 s2 a2 }) u
       come = subst (λ (s : VertexSearch). Comes p (first_in p s1 a1) (second_in p s2 a2) h s u)
-          (λ i. record { vertices = product_states ℕ_sum p.states (first-whole i) (second-whole i); edges = edges same_vertex (product_system ℕ_sum (first-whole i) (second-whole i)).out (product_states ℕ_sum p.states (first-whole i) (second-whole i)) }) y.comes
+          (λ i. record { vertices = product_states ℕ_sum p.states (first_whole i) (second_whole i); edges = edges same_vertex (product_system ℕ_sum (first_whole i) (second_whole i)).out (product_states ℕ_sum p.states (first_whole i) (second_whole i)) }) y.comes
 
       -- there is room for the arcs
-      pub explored-once : h.arcs ≤ p.arcs → Explored p s1 a1 s2 a2 v h u
-      explored-once b = record {
+      pub explored_once : h.arcs ≤ p.arcs → Explored p s1 a1 s2 a2 v h u
+      explored_once b = record {
         same_length = y.same_length;
         over = λ f. told (come.over f);
         more = λ f g. absurd (omega (arith, b, g));
@@ -132,18 +132,18 @@ module _ (p : Plan) (s1 a1 s2 a2 : List ℕ) (v : List ℕ) (x : Explorable p s1
           told (inr z) = let l = z.0 in absurd (omega (arith, l, limited, b))
 
       -- there is none
-      pub explored-again : p.arcs < h.arcs → (r : Head) (w : List ℕ) → Recounts p s1 a1 s2 a2 h.arcs u r w → Explored p s1 a1 s2 a2 v r w
-      explored-again b r w z = record {
+      pub explored_again : p.arcs < h.arcs → (r : Head) (w : List ℕ) → Recounts p s1 a1 s2 a2 h.arcs u r w → Explored p s1 a1 s2 a2 v r w
+      explored_again b r w z = record {
         same_length = z.same_length ∙ y.same_length;
         over = z.over;
         more = λ f g. let few = z.fits f in (few, told few (TestFacts.decide h.full));
         held = λ f g. absurd (omega (arith, b, g, z.arcs_is));
       }
         where
-          given-up : length (reached_in p s1 a1 s2 a2) ≤ p.states → Exceeds p h (record { vertices = reached_in p s1 a1 s2 a2; edges = edges_in p s1 a1 s2 a2 }) → p.arcs < length (edges_in p s1 a1 s2 a2)
-          given-up few (inl o) = absurd (omega (arith, few, o))
-          given-up few (inr o) = let l = o.1 in omega (arith, l, limited)
+          given_up_lem : length (reached_in p s1 a1 s2 a2) ≤ p.states → Exceeds p h (record { vertices = reached_in p s1 a1 s2 a2; edges = edges_in p s1 a1 s2 a2 }) → p.arcs < length (edges_in p s1 a1 s2 a2)
+          given_up_lem few (inl o) = absurd (omega (arith, few, o))
+          given_up_lem few (inr o) = let l = o.1 in omega (arith, l, limited)
 
           told : length (reached_in p s1 a1 s2 a2) ≤ p.states → (h.full ≡ true) ⊎ (h.full ≡ false) → p.arcs < length (edges_in p s1 a1 s2 a2)
-          told few (inl f) = given-up few (come.over f)
+          told few (inl f) = given_up_lem few (come.over f)
           told few (inr f) = let n = (come.held f).arc_count in omega (arith, b, n)

@@ -114,8 +114,8 @@ module _ (p : Plan) (h : Head) (c : Vertex) (arcs first next : List ℕ) (v : Li
       (subst (FirstIn arcs next c.first.0 p.first.arcs 0) (sym e) (first_for_lem p.first.states p.first.arcs arcs first next linked c.first.0))
 
   module _ (g : Head) (w : List ℕ) (i : ℕ) (t : PassingFirst p h c arcs next v g w i) where
-    pub first-requires : i < p.first.arcs → (Ready p g 1 (length w)) × (g.full ≡ false) × (ArcsLent p.first arcs) × (i < p.first.arcs)
-    first-requires b = (ready_on p i 1 8192 h g v w q t.turned.grows (omega (arith, b, lent.few)), t.turned.opened, lent, b)
+    pub first_requires : i < p.first.arcs → (Ready p g 1 (length w)) × (g.full ≡ false) × (ArcsLent p.first arcs) × (i < p.first.arcs)
+    first_requires b = (ready_on p i 1 8192 h g v w q t.turned.grows (omega (arith, b, lent.few)), t.turned.opened, lent, b)
 
     module _ (b : i < p.first.arcs) where
       -- the next arc of the chain
@@ -126,30 +126,30 @@ module _ (p : Plan) (h : Head) (c : Vertex) (arcs first next : List ℕ) (v : Li
       pub first_goes : i < get_or next i 0
       first_goes = let f = following.behind in omega (arith, f)
 
-      pub first-bound : get_or next i 0 ≤ 8192
-      first-bound = let f = following.within in omega (arith, f, lent.few)
+      pub first_bound : get_or next i 0 ≤ 8192
+      first_bound = let f = following.within in omega (arith, f, lent.few)
 
       module _ (r : Head) (u : List ℕ) (z : TriesFirst p g c arcs i w r u) where
         next_grows : Grows p (i + 1) h v r u
         next_grows = grows_then p.states i 1 (i + 1) (progress h) (progress g) (progress r) v w u t.turned.grows z.grows (omega arith)
 
-        next-means : (A B : Automaton ℕ) (d : automata.Vertex) (F : Content ℕ → Content ℕ) → ByFirst p arcs c A B d F
+        next_means : (A B : Automaton ℕ) (d : automata.Vertex) (F : Content ℕ → Content ℕ) → ByFirst p arcs c A B d F
             → Notes p A B d (map (on_first F) (out_by (chained_arcs next 0 (take (i + 1) A.arcs)) d.0)) h v r u
-        next-means A B d F k = turn_more (map (on_first F)) refl (ListFacts.map_append (on_first F)) p A B d next A.arcs d.0 h v
+        next_means A B d F k = turn_more (map (on_first F)) refl (ListFacts.map_append (on_first F)) p A B d next A.arcs d.0 h v
             i (arc_as p.first.tapes (arc_at (arc_size * i) arcs)) g r w u t.turned.grows.taken (t.turned.meaning A B d F k) (k.reads.loaded i b) (t.leaves b).0 (z.meaning A B d F k)
 
         pub first_next : r.full ≡ false → PassingFirst p h c arcs next v r u (get_or next i 0)
-        first_next f = to-next r u (i + 1) (get_or next i 0) (record { within = omega arith; opened = f; grows = next_grows; meaning = next-means }) following
+        first_next f = to-next r u (i + 1) (get_or next i 0) (record { within = omega arith; opened = f; grows = next_grows; meaning = next_means }) following
 
-        pub first-full : r.full ≡ true → PassesFirst p h c arcs next v r u
-        first-full f = record {
+        pub first_full : r.full ≡ true → PassesFirst p h c arcs next v r u
+        first_full f = record {
           grows = grows_wider p.states (i + 1) 8192 (progress h) (progress r) v u next_grows (omega (arith, b, lent.few));
           meaning = λ A B d F k. subst (λ (l : List (Content ℕ × ℕ)). Notes p A B d (map (on_first F) l) h v r u) (out-all (chained_only next A) d.0)
-              (turn_full (map (on_first F)) refl (ListFacts.map_append (on_first F)) p A B d next A.arcs d.0 h v (i + 1) r u f (next-means A B d F k));
+              (turn_full (map (on_first F)) refl (ListFacts.map_append (on_first F)) p A B d next A.arcs d.0 h v (i + 1) r u f (next_means A B d F k));
         }
 
-    pub first-end : p.first.arcs ≤ i → PassesFirst p h c arcs next v g w
-    first-end b = record {
+    pub first_end : p.first.arcs ≤ i → PassesFirst p h c arcs next v g w
+    first_end b = record {
       grows = grows_wider p.states i 8192 (progress h) (progress g) v w t.turned.grows (omega (arith, t.turned.within, lent.few));
       meaning = λ A B d F k. subst (λ (l : List (Content ℕ × ℕ)). Notes p A B d (map (on_first F) l) h v g w) (out-all (chained_only next A) d.0)
           (turn_all (map (on_first F)) refl (ListFacts.map_append (on_first F)) p A B d next A.arcs d.0 h v i g w (omega (arith, b, k.reads.count)) (t.turned.meaning A B d F k));

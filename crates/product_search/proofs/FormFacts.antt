@@ -17,7 +17,7 @@ use Rattle.table.specs.Endian.{le, to_le}
 use Rattle.table.proofs.RegionFacts.{part-part, part_front, part_end}
 use Rattle.table.proofs.EndianFacts.{le-to_le}
 use Rattle.search_rows.specs.Inserted.{Tells}
-use Rattle.search_rows.proofs.CodeFacts.{codes-tell}
+use Rattle.search_rows.proofs.CodeFacts.{codes_tell}
 use Rattle.search_chains.proofs.Meaning.{code_at}
 use Rattle.product_search.specs.declared.vertex.Vertex.{Vertex}
 use Rattle.product_search.specs.Vertices.{place_number, vertex_of, vertex_bytes, row_of, HoldsVertices, PlaceBelow, VertexBelow, vertex_at}
@@ -66,7 +66,7 @@ module _ (n m : ℕ) (few-first : n ≤ 1024) (few-second : m ≤ 1024) where
 
   -- so they tell a state from all others
   pub rows_tell : (c : automata.Vertex) (cs : List automata.Vertex) → VertexBelow n m c → All (VertexBelow n m) cs → Tells row_of same_vertex c cs
-  rows_tell c cs a h = codes-tell row_of same_vertex vertices_decided (VertexBelow n m) row_injective c cs a h
+  rows_tell c cs a h = codes_tell row_of same_vertex vertices_decided (VertexBelow n m) row_injective c cs a h
 
 -- ---- a state that is held
 

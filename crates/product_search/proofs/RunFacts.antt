@@ -15,7 +15,7 @@ use Rattle.automata.specs.Product.{same_vertex}
 use Rattle.automata.proofs.ListFacts
 use Rattle.automata.proofs.TestFacts
 use Rattle.automata.proofs.ProductStates.{vertices_decided}
-use Rattle.automata.proofs.SearchFacts.{note_all-edges_length, searched_some, searched_cases, found_over}
+use Rattle.automata.proofs.SearchFacts.{note_all-edges_length, searched_some, searched-cases, found_over}
 use Rattle.automata.specs.Memory.{Memory, Sound, table_of}
 use Rattle.automata.proofs.SoundFacts.{sound_holds}
 use Rattle.automata.specs.Layout.{arc_size, vertex_size}
@@ -54,15 +54,15 @@ module _ (p : Plan) (n1 n2 : List ℕ) (A B : Automaton ℕ) where
   edges_grow zero j k e = let z : j ≡ k = omega arith in subst (λ (i : ℕ). length (search_at j).edges ≤ length (search_at i).edges) z (omega arith)
   edges_grow (suc m) j k e =
       let one : length (search_at j).edges ≤ length (search_at (suc j)).edges =
-      searched_cases same_vertex vertices_decided out_of (starts_of A B) j (λ s. length (search_at j).edges ≤ length s.edges) (λ n. omega arith)
+      searched-cases same_vertex vertices_decided out_of (starts_of A B) j (λ s. length (search_at j).edges ≤ length s.edges) (λ n. omega arith)
       (λ c h. let l = note_all-edges_length same_vertex vertices_decided j (search_at j) (out_of c) in omega (arith, l)) in
       let rest = edges_grow m (suc j) k (omega arith) in
       omega (arith, one, rest)
 
   module _ (few : length (chained_states p A B n1 n2) ≤ p.states) where
     -- where there is room for all that is reached, there is at any time
-    all-few : (k : ℕ) → length (search_at k).vertices ≤ p.states
-    all-few k = elim (TestFacts.decide (ltb p.states (length (search_at k).vertices))) [
+    all_few : (k : ℕ) → length (search_at k).vertices ≤ p.states
+    all_few k = elim (TestFacts.decide (ltb p.states (length (search_at k).vertices))) [
       | inl t ↦
           (let b = TestFacts.ltb_true t in
           let o = found_over same_vertex vertices_decided out_of (starts_of A B) p.states k b in
@@ -74,7 +74,7 @@ module _ (p : Plan) (n1 n2 : List ℕ) (A B : Automaton ℕ) where
     edges-within : (k : ℕ) → length (search_at k).edges ≤ length (edges same_vertex out_of (chained_states p A B n1 n2))
     edges-within k =
         let n = p.states + k in
-        let b = all-few n in
+        let b = all_few n in
         let e = searched_whole same_vertex vertices_decided out_of (starts_of A B) p.states n b (omega (arith, b)) in
         let l = edges_grow p.states k n (omega arith) in
         let q = ap (λ (s : VertexSearch). length s.edges) e in
@@ -124,8 +124,8 @@ module _ (p : Plan) (h : Head) (s1 a1 f1 n1 s2 a2 f2 n2 : List ℕ) (v : List �
   }
 
   module _ (g : Head) (w : List ℕ) (t : Running p h s1 a1 n1 s2 a2 n2 v g w) where
-    pub run-requires : g.taken < g.reached → (Ready p g 67125248 (length w)) × (g.full ≡ false) × (Tables p s1 a1 s2 a2) × (Indexed p a1 f1 n1 a2 f2 n2)
-    run-requires b = (
+    pub run_requires : g.taken < g.reached → (Ready p g 67125248 (length w)) × (g.full ≡ false) × (Tables p s1 a1 s2 a2) × (Indexed p a1 f1 n1 a2 f2 n2)
+    run_requires b = (
       record {
         vertices_fit = q.open_still.vertices_fit;
         moves_fit = omega (arith, q.open_still.moves_fit, t.same_length);
@@ -144,15 +144,15 @@ module _ (p : Plan) (h : Head) (s1 a1 f1 n1 s2 a2 f2 n2 : List ℕ) (v : List �
     run_room b = omega (arith, t.fits, b)
 
     module _ (b : g.taken < g.reached) (r : Head) (u : List ℕ) (z : TakesUp p g s1 a1 n1 s2 a2 n2 w r u) where
-      run-comes : (A B : Automaton ℕ) → Reads p s1 a1 s2 a2 A B → Comes p A B h (search_from same_vertex (starts_of A B)) v → Comes p A B r (search_at p n1 n2 A B (suc g.taken)) u
-      run-comes A B k c =
+      run_comes : (A B : Automaton ℕ) → Reads p s1 a1 s2 a2 A B → Comes p A B h (search_from same_vertex (starts_of A B)) v → Comes p A B r (search_at p n1 n2 A B (suc g.taken)) u
+      run_comes A B k c =
           let o = t.meaning A B k c in
           let y = ListFacts.place_exists (search_at p n1 n2 A B g.taken).vertices g.taken (omega (arith, o.reached, b)) in
           let c0 = z.meaning A B (search_at p n1 n2 A B g.taken) y.0 k (record { held = λ n. o; over = λ n. TestFacts.false_not_true t.opened n }) y.1 in
           subst (λ (s : VertexSearch). Comes p A B r s u) (sym (searched_some same_vertex vertices_decided (out_of p n1 n2 A B) (starts_of A B) g.taken y.0 y.1)) c0
 
-      pub run-next : r.full ≡ false → Running p h s1 a1 n1 s2 a2 n2 v r u
-      run-next f = record {
+      pub run_next : r.full ≡ false → Running p h s1 a1 n1 s2 a2 n2 v r u
+      run_next f = record {
         opened = f;
         fits = z.fits;
         few = omega (arith, z.few, t.few, z.taken f);
@@ -160,14 +160,14 @@ module _ (p : Plan) (h : Head) (s1 a1 f1 n1 s2 a2 f2 n2 : List ℕ) (v : List �
         same_length = z.same_length ∙ t.same_length;
         meaning = λ A B k c.
             let n : suc g.taken ≡ r.taken = omega (arith, z.taken f) in
-            subst (λ (i : ℕ). Holds p A B r (search_at p n1 n2 A B i) u) n ((run-comes A B k c).held f);
+            subst (λ (i : ℕ). Holds p A B r (search_at p n1 n2 A B i) u) n ((run_comes A B k c).held f);
       }
 
-      pub run-full : r.full ≡ true → Runs p h s1 a1 n1 s2 a2 n2 v r u
-      run-full f = record {
+      pub run_full : r.full ≡ true → Runs p h s1 a1 n1 s2 a2 n2 v r u
+      run_full f = record {
         same_length = z.same_length ∙ t.same_length;
         few = omega (arith, z.few, t.few, t.few_taken);
-        meaning = λ A B k c. too_many p n1 n2 A B (suc g.taken) r u f ((run-comes A B k c).over f);
+        meaning = λ A B k c. too_many p n1 n2 A B (suc g.taken) r u f ((run_comes A B k c).over f);
       }
 
     pub run_end : g.reached ≤ g.taken → Runs p h s1 a1 n1 s2 a2 n2 v g w
@@ -193,14 +193,14 @@ module _ (counts : Counts) (states arcs : List ℕ) (s : Sound (lent counts stat
   few_states = omega (arith, SoundFacts.few_states m s, (sound_holds m s).states)
 
   reads_states : ReadsStates counts states (table_of m)
-  reads_states = record { count = sym (sound_holds m s).states; few = few_states; loaded = λ q l. SoundFacts.state-loaded m s q l }
+  reads_states = record { count = sym (sound_holds m s).states; few = few_states; loaded = λ q l. SoundFacts.state_loaded m s q l }
 
   reads_arcs : ReadsArcs counts arcs (table_of m)
   reads_arcs = record {
     count = sym (sound_holds m s).arcs;
     few_states = few_states;
-    loaded = λ j l. SoundFacts.arc-loaded m s j l;
-    source_fits = λ j l. omega (arith, SoundFacts.arc-source m s j l, (sound_holds m s).states);
+    loaded = λ j l. SoundFacts.arc_loaded m s j l;
+    source_fits = λ j l. omega (arith, SoundFacts.arc_source m s j l, (sound_holds m s).states);
     target_fits = λ j l. omega (arith, SoundFacts.arc_target m s j l, (sound_holds m s).states);
   }
 
@@ -209,7 +209,7 @@ pub chainable : (counts : Counts) (states arcs : List ℕ) → Sound (lent count
 chainable counts states arcs s = record {
   whole = SoundFacts.arcs_lent (lent counts states arcs) s;
   few = SoundFacts.few_arcs (lent counts states arcs) s;
-  sources = λ j l. let b = SoundFacts.arc-source (lent counts states arcs) s j l in omega (arith, b, source_at_lem (arc_size * j) arcs);
+  sources = λ j l. let b = SoundFacts.arc_source (lent counts states arcs) s j l in omega (arith, b, source_at_lem (arc_size * j) arcs);
   states_fit = SoundFacts.few_states (lent counts states arcs) s;
   arcs_fit = SoundFacts.few_arcs (lent counts states arcs) s;
 }
@@ -226,8 +226,8 @@ module _ (p : Plan) (s1 a1 s2 a2 : List ℕ) (v : List ℕ) (x : Explorable p s1
   }
 
   module _ (t : List ℕ) (e : Clears vertex_size 4 p.states v t) where
-    pub may-begin : Beginnable p s1 s2 (length t)
-    may-begin = record {
+    pub may_begin : Beginnable p s1 s2 (length t)
+    may_begin = record {
       vertices_fit = x.vertices_fit;
       moves_fit = omega (arith, x.moves_fit, e.same_length);
       few_states = x.few_states;
@@ -236,8 +236,8 @@ module _ (p : Plan) (s1 a1 s2 a2 : List ℕ) (v : List ℕ) (x : Explorable p s1
     }
 
     module _ (h : Head) (u : List ℕ) (b : Begun p s1 s2 t h u) where
-      pub may-run : Runnable p h s1 a1 s2 a2 (length u)
-      may-run = record {
+      pub may_run : Runnable p h s1 a1 s2 a2 (length u)
+      may_run = record {
         open_still = record { vertices_fit = x.vertices_fit; moves_fit = omega (arith, x.moves_fit, e.same_length, b.same_length); few_states = x.few_states; fits = b.fits };
         tables = record {
           first_states = states_lent_lem p.first s1 a1 x.first_sound;
@@ -249,8 +249,8 @@ module _ (p : Plan) (s1 a1 s2 a2 : List ℕ) (v : List ℕ) (x : Explorable p s1
         arcs_none = b.arcs;
       }
 
-      pub was-searched : (n1 n2 : List ℕ) (r : Head) (w : List ℕ) → Runs p h s1 a1 n1 s2 a2 n2 u r w → Searches p s1 a1 n1 s2 a2 n2 v r w
-      was-searched n1 n2 r w y = record {
+      pub was_searched : (n1 n2 : List ℕ) (r : Head) (w : List ℕ) → Runs p h s1 a1 n1 s2 a2 n2 u r w → Searches p s1 a1 n1 s2 a2 n2 v r w
+      was_searched n1 n2 r w y = record {
         same_length = y.same_length ∙ b.same_length ∙ e.same_length;
         few = y.few;
         comes = y.meaning (first_in p s1 a1) (second_in p s2 a2) reads

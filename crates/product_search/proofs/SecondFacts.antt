@@ -113,8 +113,8 @@ module _ (p : Plan) (h : Head) (c : Vertex) (i to : ℕ) (arcs first next : List
       (subst (FirstIn arcs next c.second.0 p.second.arcs 0) (sym e) (first_for_lem p.second.states p.second.arcs arcs first next linked c.second.0))
 
   module _ (g : Head) (w : List ℕ) (j : ℕ) (t : PassingSecond p h c i to arcs next v g w j) where
-    pub second-requires : j < p.second.arcs → (Ready p g 1 (length w)) × (g.full ≡ false) × (ArcsLent p.second arcs) × (j < p.second.arcs)
-    second-requires b = (ready_on p j 1 8192 h g v w q t.turned.grows (omega (arith, b, lent.few)), t.turned.opened, lent, b)
+    pub second_requires : j < p.second.arcs → (Ready p g 1 (length w)) × (g.full ≡ false) × (ArcsLent p.second arcs) × (j < p.second.arcs)
+    second_requires b = (ready_on p j 1 8192 h g v w q t.turned.grows (omega (arith, b, lent.few)), t.turned.opened, lent, b)
 
     module _ (b : j < p.second.arcs) where
       -- the next arc of the chain
@@ -122,33 +122,33 @@ module _ (p : Plan) (h : Head) (c : Vertex) (i to : ℕ) (arcs first next : List
       following = next_for p.second.states p.second.arcs arcs first next linked c.second.0 j b (t.leaves b)
 
       -- stands behind, and has a small number
-      pub second-goes : j < get_or next j 0
-      second-goes = let f = following.behind in omega (arith, f)
+      pub second_goes : j < get_or next j 0
+      second_goes = let f = following.behind in omega (arith, f)
 
-      pub second-bound : get_or next j 0 ≤ 8192
-      second-bound = let f = following.within in omega (arith, f, lent.few)
+      pub second_bound : get_or next j 0 ≤ 8192
+      second_bound = let f = following.within in omega (arith, f, lent.few)
 
       module _ (r : Head) (u : List ℕ) (z : TriesSecond p g c i to arcs j w r u) where
         next_grows : Grows p (j + 1) h v r u
         next_grows = grows_then p.states j 1 (j + 1) (progress h) (progress g) (progress r) v w u t.turned.grows z.grows (omega arith)
 
-        next-means : (A B : Automaton ℕ) (d : automata.Vertex) (F : Content ℕ → Content ℕ) (x : Option ℕ) → BySecond p arcs c i to A B d F x
+        next_means : (A B : Automaton ℕ) (d : automata.Vertex) (F : Content ℕ → Content ℕ) (x : Option ℕ) → BySecond p arcs c i to A B d F x
             → Notes p A B d (map (on_second F x) (out_by (chained_arcs next 0 (take (j + 1) B.arcs)) d.1)) h v r u
-        next-means A B d F x k = turn_more (map (on_second F x)) refl (ListFacts.map_append (on_second F x)) p A B d next B.arcs d.1 h v
+        next_means A B d F x k = turn_more (map (on_second F x)) refl (ListFacts.map_append (on_second F x)) p A B d next B.arcs d.1 h v
             j (arc_as p.second.tapes (arc_at (arc_size * j) arcs)) g r w u t.turned.grows.taken (t.turned.meaning A B d F x k) (k.reads.loaded j b) (t.leaves b).0 (z.meaning A B d F x k)
 
-        pub second-next : r.full ≡ false → PassingSecond p h c i to arcs next v r u (get_or next j 0)
-        second-next f = to-next r u (j + 1) (get_or next j 0) (record { within = omega arith; opened = f; grows = next_grows; meaning = next-means }) following
+        pub second_next : r.full ≡ false → PassingSecond p h c i to arcs next v r u (get_or next j 0)
+        second_next f = to-next r u (j + 1) (get_or next j 0) (record { within = omega arith; opened = f; grows = next_grows; meaning = next_means }) following
 
-        pub second-full : r.full ≡ true → PassesSecond p h c i to arcs next v r u
-        second-full f = record {
+        pub second_full : r.full ≡ true → PassesSecond p h c i to arcs next v r u
+        second_full f = record {
           grows = grows_wider p.states (j + 1) 8192 (progress h) (progress r) v u next_grows (omega (arith, b, lent.few));
           meaning = λ A B d F x k. subst (λ (l : List (Content ℕ × ℕ)). Notes p A B d (map (on_second F x) l) h v r u) (out-all (chained_only next B) d.1)
-              (turn_full (map (on_second F x)) refl (ListFacts.map_append (on_second F x)) p A B d next B.arcs d.1 h v (j + 1) r u f (next-means A B d F x k));
+              (turn_full (map (on_second F x)) refl (ListFacts.map_append (on_second F x)) p A B d next B.arcs d.1 h v (j + 1) r u f (next_means A B d F x k));
         }
 
-    pub second-end : p.second.arcs ≤ j → PassesSecond p h c i to arcs next v g w
-    second-end b = record {
+    pub second_end : p.second.arcs ≤ j → PassesSecond p h c i to arcs next v g w
+    second_end b = record {
       grows = grows_wider p.states j 8192 (progress h) (progress g) v w t.turned.grows (omega (arith, t.turned.within, lent.few));
       meaning = λ A B d F x k. subst (λ (l : List (Content ℕ × ℕ)). Notes p A B d (map (on_second F x) l) h v g w) (out-all (chained_only next B) d.1)
           (turn_all (map (on_second F x)) refl (ListFacts.map_append (on_second F x)) p A B d next B.arcs d.1 h v j g w (omega (arith, b, k.reads.count)) (t.turned.meaning A B d F x k));

@@ -179,16 +179,16 @@ module _ (p : Plan) (h : Head) (x : ℕ) (states : List ℕ) (v : List ℕ) (k :
   all_start f = record { within = omega arith; opened = f; widens = widens_none p.states (progress h) v k.fits; meaning = λ A B la b l. enters_none p A B h v }
 
   module _ (g : Head) (w : List ℕ) (q : ℕ) (t : StartingAll p h x states v g w q) where
-    pub all-requires : q < p.second.states → (Open p g (length w)) × (g.full ≡ false) × (StatesLent p.second states) × (q < p.second.states)
-    all-requires b = (open_on p h g v w k t.widens, t.opened, lent, b)
+    pub all_requires : q < p.second.states → (Open p g (length w)) × (g.full ≡ false) × (StatesLent p.second states) × (q < p.second.states)
+    all_requires b = (open_on p h g v w k t.widens, t.opened, lent, b)
 
     module _ (b : q < p.second.states) (r : Head) (u : List ℕ) (z : StartsOne p g x states q w r u) where
-      next-widens : Widens p h v r u
-      next-widens = widens_then p.states (progress h) (progress g) (progress r) v w u t.widens z.widens
+      next_widens : Widens p h v r u
+      next_widens = widens_then p.states (progress h) (progress g) (progress r) v w u t.widens z.widens
 
-      next-means : (A B : Automaton ℕ) → length A.states ≤ 1024 → ReadsStates p.second states B → x < length A.states
+      next_means : (A B : Automaton ℕ) → length A.states ≤ 1024 → ReadsStates p.second states B → x < length A.states
           → Enters p A B (all_pairs (x ∷ []) (initials_from zero (take (q + 1) B.states))) h v r u
-      next-means A B la m l =
+      next_means A B la m l =
           let s : State ℕ = state_as (state_at (state_size * q) states) in
           let is = initials_from zero (take q B.states) in
           let e : all_pairs (x ∷ []) is ++ all_pairs (x ∷ []) (initials_from q (s ∷ [])) ≡ all_pairs (x ∷ []) (initials_from zero (take (q + 1) B.states)) =
@@ -196,17 +196,17 @@ module _ (p : Plan) (h : Head) (x : ℕ) (states : List ℕ) (v : List ℕ) (k :
           enters_same p A B _ _ h r v u e (enters_then p A B (all_pairs (x ∷ []) is) (all_pairs (x ∷ []) (initials_from q (s ∷ []))) h g r v w u (t.meaning A B la m l) (z.meaning A B la m l))
 
       pub all-next : r.full ≡ false → StartingAll p h x states v r u (q + 1)
-      all-next f = record { within = omega arith; opened = f; widens = next-widens; meaning = next-means }
+      all-next f = record { within = omega arith; opened = f; widens = next_widens; meaning = next_means }
 
-      pub all-full : r.full ≡ true → StartsAll p h x states v r u
-      all-full f = record {
-        widens = next-widens;
+      pub all_full : r.full ≡ true → StartsAll p h x states v r u
+      all_full f = record {
+        widens = next_widens;
         meaning = λ A B la m l.
             let is = initials_from zero (take (q + 1) B.states) in
             let more = initials_from (zero + length (take (q + 1) B.states)) (drop (q + 1) B.states) in
             let e : all_pairs (x ∷ []) is ++ all_pairs (x ∷ []) more ≡ all_pairs (x ∷ []) (initials_from zero B.states) =
             sym (pairs-beside x is more) ∙ ap (all_pairs (x ∷ [])) (initials_split B.states (q + 1)) in
-            enters_same p A B _ _ h r v u e (enters_full p A B (all_pairs (x ∷ []) is) (all_pairs (x ∷ []) more) h r v u f (next-means A B la m l));
+            enters_same p A B _ _ h r v u e (enters_full p A B (all_pairs (x ∷ []) is) (all_pairs (x ∷ []) more) h r v u f (next_means A B la m l));
       }
 
     pub all_end : p.second.states ≤ q → StartsAll p h x states v g w

@@ -12,7 +12,7 @@ use Rattle.automata.specs.Automaton.{Automaton}
 use Rattle.automata.specs.System.{system, out_at, final_at}
 use Rattle.automata.specs.Search.{note_all}
 use Rattle.automata.specs.Product as automata
-use Rattle.automata.specs.Product.{same_vertex, allBoth, allAfterFirst, allAfterSecond}
+use Rattle.automata.specs.Product.{same_vertex, all_both, all_after_first, all_after_second}
 use Rattle.automata.proofs.TestFacts
 use Rattle.automata.proofs.SearchFacts.{note_all-edges_length}
 use Rattle.automata.proofs.ProductStates.{vertices_decided}
@@ -44,9 +44,9 @@ module _ (p : Plan) (h : Head) (s1 a1 f1 n1 s2 a2 f2 n2 : List ℕ) (v : List �
         )
 
     -- there are more moves out of it than are looked for
-    pub take-over : (count : ℕ) → CountsMoves p c s1 f1 n1 s2 f2 n2 count → p.limit < h.arcs + count
+    pub take_over : (count : ℕ) → CountsMoves p c s1 f1 n1 s2 f2 n2 count → p.limit < h.arcs + count
         → TakesUp p h s1 a1 n1 s2 a2 n2 v (record { taken = h.taken; reached = h.reached; arcs = h.arcs + count; full = true }) v
-    take-over count z l = record {
+    take_over count z l = record {
       taken = λ n. TestFacts.false_not_true n refl;
       fits = q.fits;
       few = omega (arith, z.few);
@@ -63,19 +63,19 @@ module _ (p : Plan) (h : Head) (s1 a1 f1 n1 s2 a2 f2 n2 : List ℕ) (v : List �
     }
 
   module _ (c : Vertex) (c-is : c ≡ vertex_at (vertex_size * h.taken) v) (h1 : Head) (w1 : List ℕ) (z1 : PassesBoth p h c a1 n1 a2 n2 v h1 w1) where
-    pub take-first : (Ready p h1 8192 (length w1)) × (StatesLent p.first s1) × (ArcsLent p.second a2) × (LinkedArcs p.second a2 f2 n2)
-    take-first = (ready_on p 67108864 8192 67125248 h h1 v w1 q z1.grows (omega arith), tables.first_states, tables.second_arcs, indexed.second)
+    pub take_first : (Ready p h1 8192 (length w1)) × (StatesLent p.first s1) × (ArcsLent p.second a2) × (LinkedArcs p.second a2 f2 n2)
+    take_first = (ready_on p 67108864 8192 67125248 h h1 v w1 q z1.grows (omega arith), tables.first_states, tables.second_arcs, indexed.second)
 
     module _ (h2 : Head) (w2 : List ℕ) (z2 : EndsFirst p h1 c s1 a2 n2 w1 h2 w2) where
-      both-grow : Grows p 67117056 h v h2 w2
-      both-grow = grows_then p.states 67108864 8192 67117056 (progress h) (progress h1) (progress h2) v w1 w2 z1.grows z2.grows (omega arith)
+      both_grow : Grows p 67117056 h v h2 w2
+      both_grow = grows_then p.states 67108864 8192 67117056 (progress h) (progress h1) (progress h2) v w1 w2 z1.grows z2.grows (omega arith)
 
       pub take_second : (Ready p h2 8192 (length w2)) × (ArcsLent p.first a1) × (StatesLent p.second s2) × (LinkedArcs p.first a1 f1 n1)
-      take_second = (ready_on p 67117056 8192 67125248 h h2 v w2 q both-grow (omega arith), tables.first_arcs, tables.second_states, indexed.first)
+      take_second = (ready_on p 67117056 8192 67125248 h h2 v w2 q both_grow (omega arith), tables.first_arcs, tables.second_states, indexed.first)
 
       module _ (h3 : Head) (w3 : List ℕ) (z3 : EndsSecond p h2 c a1 n1 s2 w2 h3 w3) where
-        all-grow : Grows p 67125248 h v h3 w3
-        all-grow = grows_then p.states 67117056 8192 67125248 (progress h) (progress h2) (progress h3) v w2 w3 both-grow z3.grows (omega arith)
+        all_grow : Grows p 67125248 h v h3 w3
+        all_grow = grows_then p.states 67117056 8192 67125248 (progress h) (progress h2) (progress h3) v w2 w3 both_grow z3.grows (omega arith)
 
         -- all moves were noted
         all_noted : (A B : Automaton ℕ) (s : VertexSearch) (b : automata.Vertex) → Reads p s1 a1 s2 a2 A B → Comes p A B h s v → get_elem? s.vertices h.taken ≡ some b
@@ -83,9 +83,9 @@ module _ (p : Plan) (h : Head) (s1 a1 f1 n1 s2 a2 f2 n2 : List ℕ) (v : List �
         all_noted A B s b k m e =
             let xs = out_at ℕ_sum (system (chained_only n1 A)) b.0 in
             let ys = out_at ℕ_sum (system (chained_only n2 B)) b.1 in
-            let ps : List Step = allBoth ℕ_sum xs ys in
-            let fs : List Step = allAfterFirst ℕ_sum A.tapes (final_at ℕ_sum (system A) b.0) ys in
-            let ss : List Step = allAfterSecond ℕ_sum B.tapes (final_at ℕ_sum (system B) b.1) xs in
+            let ps : List Step = all_both ℕ_sum xs ys in
+            let fs : List Step = all_after_first ℕ_sum A.tapes (final_at ℕ_sum (system A) b.0) ys in
+            let ss : List Step = all_after_second ℕ_sum B.tapes (final_at ℕ_sum (system B) b.1) xs in
             let x = vertex_is c c-is A B s b k m e in
             let is = x.0 in
             let below = x.1 in
@@ -94,26 +94,26 @@ module _ (p : Plan) (h : Head) (s1 a1 f1 n1 s2 a2 f2 n2 : List ℕ) (v : List �
             (z3.meaning A B b k.first_arcs k.second_states is below)) s m e
 
         -- its number is small
-        pub take-small : h3.taken < 1024
-        take-small = omega (arith, all-grow.taken, q.taken_fits, q.fits, q.few_states)
+        pub take_small : h3.taken < 1024
+        take_small = omega (arith, all_grow.taken, q.taken_fits, q.fits, q.few_states)
 
         -- the states are full
-        pub take-full : h3.full ≡ true → TakesUp p h s1 a1 n1 s2 a2 n2 v h3 w3
-        take-full f = record {
+        pub take_full : h3.full ≡ true → TakesUp p h s1 a1 n1 s2 a2 n2 v h3 w3
+        take_full f = record {
           taken = λ n. TestFacts.false_not_true n f;
-          fits = all-grow.fits;
-          few = all-grow.few;
-          same_length = all-grow.same_length;
+          fits = all_grow.fits;
+          few = all_grow.few;
+          same_length = all_grow.same_length;
           meaning = all_noted;
         }
 
         -- the state is done with
-        pub take-end : h3.full ≡ false → TakesUp p h s1 a1 n1 s2 a2 n2 v (record { taken = h3.taken + 1; reached = h3.reached; arcs = h3.arcs; full = h3.full }) w3
-        take-end f = record {
-          taken = λ n. omega (arith, all-grow.taken);
-          fits = all-grow.fits;
-          few = all-grow.few;
-          same_length = all-grow.same_length;
+        pub take_end : h3.full ≡ false → TakesUp p h s1 a1 n1 s2 a2 n2 v (record { taken = h3.taken + 1; reached = h3.reached; arcs = h3.arcs; full = h3.full }) w3
+        take_end f = record {
+          taken = λ n. omega (arith, all_grow.taken);
+          fits = all_grow.fits;
+          few = all_grow.few;
+          same_length = all_grow.same_length;
           meaning = λ A B s b k m e.
               let o = all_noted A B s b k m e in
               record {

@@ -8,7 +8,7 @@ use Rattle.automata.specs.Automaton.{Automaton, Arc, Content, content}
 use Rattle.automata.specs.System.{system, out_at, final_at}
 use Rattle.automata.specs.Search.{Search, note_all}
 use Rattle.automata.specs.Product as automata
-use Rattle.automata.specs.Product.{same_vertex, allBoth, allAfterFirst, allAfterSecond, product_system}
+use Rattle.automata.specs.Product.{same_vertex, all_both, all_after_first, all_after_second, product_system}
 use Rattle.automata.specs.Layout.{arc_size, step_size, vertex_size}
 use Rattle.table.specs.declared.answer.Counts.{Counts}
 use Rattle.table.specs.Records.{arc_as, arc_at}
@@ -158,13 +158,13 @@ pub record PassesFirst (p : Plan) (h : Head) (c : Vertex) (arcs next : List ℕ)
 pub record TriesBoth (p : Plan) (h : Head) (c : Vertex) (a1 a2 n2 : List ℕ) (i : ℕ) (v : List ℕ) (r : Head) (w : List ℕ) : Type 0 where
   pub grows : Grows p 8192 h v r w
   pub meaning : (A B : Automaton ℕ) (b : automata.Vertex) → ReadsArcs p.first a1 A → ReadsArcs p.second a2 B → c ≡ vertex_of b
-      → Notes p A B b (allBoth ℕ_sum (out_by (arc_as p.first.tapes (arc_at (arc_size * i) a1) ∷ []) b.0) (out_at ℕ_sum (system (chained_only n2 B)) b.1)) h v r w
+      → Notes p A B b (all_both ℕ_sum (out_by (arc_as p.first.tapes (arc_at (arc_size * i) a1) ∷ []) b.0) (out_at ℕ_sum (system (chained_only n2 B)) b.1)) h v r w
 
 -- all of both sides' chains were
 pub record PassesBoth (p : Plan) (h : Head) (c : Vertex) (a1 n1 a2 n2 : List ℕ) (v : List ℕ) (r : Head) (w : List ℕ) : Type 0 where
   pub grows : Grows p 67108864 h v r w
   pub meaning : (A B : Automaton ℕ) (b : automata.Vertex) → ReadsArcs p.first a1 A → ReadsArcs p.second a2 B → c ≡ vertex_of b
-      → Notes p A B b (allBoth ℕ_sum (out_at ℕ_sum (system (chained_only n1 A)) b.0) (out_at ℕ_sum (system (chained_only n2 B)) b.1)) h v r w
+      → Notes p A B b (all_both ℕ_sum (out_at ℕ_sum (system (chained_only n1 A)) b.0) (out_at ℕ_sum (system (chained_only n2 B)) b.1)) h v r w
 
 -- ---- one side after the other side's end
 
@@ -178,14 +178,14 @@ pub record EndsFirst (p : Plan) (h : Head) (c : Vertex) (s1 a2 n2 : List ℕ) (v
   pub grows : Grows p 8192 h v r w
   pub meaning : (A B : Automaton ℕ) (b : automata.Vertex) → ReadsStates p.first s1 A → ReadsArcs p.second a2 B → c ≡ vertex_of b
       → VertexBelow (length A.states) (length B.states) b
-      → Notes p A B b (allAfterFirst ℕ_sum A.tapes (final_at ℕ_sum (system A) b.0) (out_at ℕ_sum (system (chained_only n2 B)) b.1)) h v r w
+      → Notes p A B b (all_after_first ℕ_sum A.tapes (final_at ℕ_sum (system A) b.0) (out_at ℕ_sum (system (chained_only n2 B)) b.1)) h v r w
 
 -- the first side's arcs were looked at, where the second side's path may end
 pub record EndsSecond (p : Plan) (h : Head) (c : Vertex) (a1 n1 s2 : List ℕ) (v : List ℕ) (r : Head) (w : List ℕ) : Type 0 where
   pub grows : Grows p 8192 h v r w
   pub meaning : (A B : Automaton ℕ) (b : automata.Vertex) → ReadsArcs p.first a1 A → ReadsStates p.second s2 B → c ≡ vertex_of b
       → VertexBelow (length A.states) (length B.states) b
-      → Notes p A B b (allAfterSecond ℕ_sum B.tapes (final_at ℕ_sum (system B) b.1) (out_at ℕ_sum (system (chained_only n1 A)) b.0)) h v r w
+      → Notes p A B b (all_after_second ℕ_sum B.tapes (final_at ℕ_sum (system B) b.1) (out_at ℕ_sum (system (chained_only n1 A)) b.0)) h v r w
 
 -- ---- one state of the product
 

@@ -146,8 +146,8 @@ module _ (stride count b : ℕ) (w xs : List ℕ) (wide : length w + 4 ≤ strid
       old j h = record_old j (λ e. omega arith)
 
       -- a link among the first n of the old records
-      leads-old : (n k l m : ℕ) → n ≤ count → m ≡ l → Leads hash stride size n k l xs → Leads hash stride size n k m after
-      leads-old n k l m h e g = record {
+      leads_old : (n k l m : ℕ) → n ≤ count → m ≡ l → Leads hash stride size n k l xs → Leads hash stride size n k m after
+      leads_old n k l m h e g = record {
         fits = omega (arith, e, g.fits);
         met = λ i z. ap hash (old i (omega (arith, e, z, g.fits))) ∙ g.met i (sym e ∙ z);
         passed = λ j a i z. g.passed j (omega (arith, e)) i (sym (ap hash (old j (omega arith))) ∙ z);
@@ -162,7 +162,7 @@ module _ (stride count b : ℕ) (w xs : List ℕ) (wide : length w + 4 ≤ strid
             passed = λ j a i z. omega (arith, q, a, i);
           }
       heads k h (no d) =
-          let g = leads-old count k (head_at stride size k xs) (head_at stride size k after) (omega arith) (head_old k d) (c.heads k h) in
+          let g = leads_old count k (head_at stride size k xs) (head_at stride size k after) (omega arith) (head_old k d) (c.heads k h) in
           record {
             fits = omega (arith, g.fits);
             met = λ i z. g.met i z;
@@ -179,13 +179,13 @@ module _ (stride count b : ℕ) (w xs : List ℕ) (wide : length w + 4 ≤ strid
           let g = c.heads b below in
           let q : next_at stride size k after ≡ head_at stride size b xs = ap (λ (m : ℕ). next_at stride size m after) e ∙ next_new (omega (arith, g.fits)) in
           let r : b ≡ hash (record_at stride size k after) = sym (ap hash (ap (λ (m : ℕ). record_at stride size m after) e ∙ record_new) ∙ hb) in
-          let m = leads-old count b (head_at stride size b xs) (next_at stride size k after) (omega arith) q g in
+          let m = leads_old count b (head_at stride size b xs) (next_at stride size k after) (omega arith) q g in
           subst (λ (n : ℕ). Leads hash stride size n (hash (record_at stride size k after)) (next_at stride size k after) after) (sym e)
           (subst (λ (n : ℕ). Leads hash stride size count n (next_at stride size k after) after) r m)
       nexts k h (no d) =
           let l : k < count = omega arith in
           subst (λ (n : ℕ). Leads hash stride size k n (next_at stride size k after) after) (sym (ap hash (old k l)))
-          (leads-old k (hash (record_at stride size k xs)) (next_at stride size k xs) (next_at stride size k after) (omega arith) (next_old k d) (c.nexts k l))
+          (leads_old k (hash (record_at stride size k xs)) (next_at stride size k xs) (next_at stride size k after) (omega arith) (next_old k d) (c.nexts k l))
 
       distinct : (i j : ℕ) → i < suc count → j < suc count → record_at stride size i after ≡ record_at stride size j after → Dec (i ≡ count) → Dec (j ≡ count) → i ≡ j
       distinct i j h l e (yes p) (yes q) = p ∙ sym q

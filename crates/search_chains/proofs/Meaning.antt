@@ -44,15 +44,15 @@ module _ {C : Type 0} {code : C → List ℕ} {same : C → C → Bool} {hash : 
 
   module _ (r : Entered) (ys : List ℕ) (e : Enters stride count room bucket shape bytes xs r ys) where
     -- the answer and the records by whether the vertex stands in the list
-    by-found : entry r (fronts 0 stride size (count_after count r) ys) ≡ enter_by room (code v) (map code vs) (found (member same v vs))
+    by_found : entry r (fronts 0 stride size (count_after count r) ys) ≡ enter_by room (code v) (map code vs) (found (member same v vs))
     unfolding enter_of
-    by-found =
+    by_found =
         ap (λ (n : ℕ). entry r (fronts 0 stride n (count_after count r) ys)) (sym o.sized) ∙ e.equation hash o.searchable
         ∙ ap₂ (λ (n k : ℕ). enter_of room bytes (fronts 0 stride n k xs)) o.sized o.count_is ∙ ap₂ (λ (b : List ℕ) (rs : List (List ℕ)). enter_of room b rs) o.bytes_are o.held
         ∙ ap (enter_by room (code v) (map code vs)) (index_codes code same 0 v vs o.tells)
 
-    all-chained : Chained hash stride size room (count_after count r) ys
-    all-chained = subst (λ (n : ℕ). Chained hash stride n room (count_after count r) ys) o.sized (e.chained hash o.searchable)
+    all_chained : Chained hash stride size room (count_after count r) ys
+    all_chained = subst (λ (n : ℕ). Chained hash stride n room (count_after count r) ys) o.sized (e.chained hash o.searchable)
 
   -- the vertex stands in the list, or not
   stays : member same v vs ≡ true → insert same vs v ≡ vs
@@ -89,7 +89,7 @@ module _ {C : Type 0} {code : C → List ℕ} {same : C → C → Bool} {hash : 
   -- it stood there, and there are as many as before
   pub inserted_at : (s : Reached) (ys : List ℕ) → Enters stride count room bucket shape bytes xs (E.At s) ys
       → Inserted code same hash stride size room vs v xs ys s × (count ≡ length (insert same vs v))
-  inserted_at s ys e = go (member same v vs) refl (by-found (E.At s) ys e)
+  inserted_at s ys e = go (member same v vs) refl (by_found (E.At s) ys e)
     where
       go : (b : Bool) → member same v vs ≡ b → entry (E.At s) (fronts 0 stride size count ys) ≡ enter_by room (code v) (map code vs) (found b)
           → Inserted code same hash stride size room vs v xs ys s × (count ≡ length (insert same vs v))
@@ -101,7 +101,7 @@ module _ {C : Type 0} {code : C → List ℕ} {same : C → C → Bool} {hash : 
           let k : s ≡ record { 0 = 0 + index_of same v vs } = cc in (
             record {
               held = rw n (ap (λ (r : Entry). r.records) q) ∙ ap (map code) (sym p);
-              chained = subst (λ (i : ℕ). Chained hash stride size room i ys) (sym n) (all-chained (E.At s) ys e);
+              chained = subst (λ (i : ℕ). Chained hash stride size room i ys) (sym n) (all_chained (E.At s) ys e);
               number = ap (λ (r : Reached). r.0) k ∙ zero-add (index_of same v vs) ∙ ap (index_of same v) (sym p);
               fits = omega (arith, n, o.count_is, o.few);
               same_length = e.same_length;
@@ -113,7 +113,7 @@ module _ {C : Type 0} {code : C → List ℕ} {same : C → C → Bool} {hash : 
   -- it is new, and there is one more
   pub inserted_new : (s : Reached) (ys : List ℕ) → Enters stride count room bucket shape bytes xs (E.New s) ys
       → Inserted code same hash stride size room vs v xs ys s × (count + 1 ≡ length (insert same vs v))
-  inserted_new s ys e = go (member same v vs) refl (by-found (E.New s) ys e)
+  inserted_new s ys e = go (member same v vs) refl (by_found (E.New s) ys e)
     where
       new : member same v vs ≡ false → (b : Bool) → leb room (length (map code vs)) ≡ b → entry (E.New s) (fronts 0 stride size (suc count) ys) ≡ new_entry b
           → Inserted code same hash stride size room vs v xs ys s × (count + 1 ≡ length (insert same vs v))
@@ -127,7 +127,7 @@ module _ {C : Type 0} {code : C → List ℕ} {same : C → C → Bool} {hash : 
           let b = leb-false room (length (map code vs)) t in (
             record {
               held = rw n (ap (λ (r : Entry). r.records) q) ∙ sym (ap (map code) p ∙ map_snoc vs);
-              chained = subst (λ (i : ℕ). Chained hash stride size room i ys) (sym n) (all-chained (E.New s) ys e);
+              chained = subst (λ (i : ℕ). Chained hash stride size room i ys) (sym n) (all_chained (E.New s) ys e);
               number = ap (λ (r : Reached). r.0) k ∙ l ∙ sym (ap (index_of same v) p ∙ last-number vs m);
               fits = omega (arith, n, o.count_is, l, b);
               same_length = e.same_length;
@@ -143,7 +143,7 @@ module _ {C : Type 0} {code : C → List ℕ} {same : C → C → Bool} {hash : 
 
   -- there is no room for it
   pub not_inserted : (ys : List ℕ) → Enters stride count room bucket shape bytes xs E.Full ys → room < length (insert same vs v)
-  not_inserted ys e = go (member same v vs) refl (by-found E.Full ys e)
+  not_inserted ys e = go (member same v vs) refl (by_found E.Full ys e)
     where
       full : member same v vs ≡ false → (b : Bool) → leb room (length (map code vs)) ≡ b → entry E.Full (fronts 0 stride size count ys) ≡ new_entry b → room < length (insert same vs v)
       full m true t q = omega (arith, more m, o.count_is, length-map vs code, leb-true room (length (map code vs)) t)

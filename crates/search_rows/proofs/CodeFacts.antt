@@ -45,7 +45,7 @@ module _ {C : Type 0} (code : C → List ℕ) where
         (λ e. ap (λ (x : C). same_list (code c) (code x)) (sym (decided.sound c d e)) ∙ bytes.complete (code c))
         (λ e. ap (same c) (sym (injective c d a b (bytes.sound (code c) (code d) e))) ∙ decided.complete c)
 
-    pub codes-tell : (c : C) (cs : List C) → P c → All P cs → Tells code same c cs
-    codes-tell c [] a h u k = elim k [ ]
-    codes-tell c (d ∷ cs) a h u (here e) = rw e (same_codes c d a h.0)
-    codes-tell c (d ∷ cs) a h u (there k) = codes-tell c cs a h.1 u k
+    pub codes_tell : (c : C) (cs : List C) → P c → All P cs → Tells code same c cs
+    codes_tell c [] a h u k = elim k [ ]
+    codes_tell c (d ∷ cs) a h u (here e) = rw e (same_codes c d a h.0)
+    codes_tell c (d ∷ cs) a h u (there k) = codes_tell c cs a h.1 u k

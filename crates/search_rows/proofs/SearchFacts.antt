@@ -10,8 +10,8 @@ use Rattle.automata.specs.Lists.{Decides}
 use Rattle.automata.specs.Explore.{insert_all, edges, reached}
 use Rattle.automata.specs.Search.{Search, note_all, search_from, searched}
 use Rattle.automata.proofs.AppendFacts
-use Rattle.automata.proofs.SearchFacts.{insert_all-begins, insert_all_append, note_all_append, note_all_length, searched_reached}
-use Rattle.automata.proofs.SearchedEdges.{searched_edges}
+use Rattle.automata.proofs.SearchFacts.{insert_all-begins, insert_all_append, note_all_append, note_all_length, searched-reached}
+use Rattle.automata.proofs.SearchedEdges.{searched-edges}
 
 -- one element more in a list that is counted
 pub count_more : {A : Type 0} (n : ℕ) (xs : List A) (x : A) → n ≡ length xs → n + 1 ≡ length (xs ++ (x ∷ []))
@@ -43,6 +43,6 @@ module _ {C L : Type 0} (same : C → C → Bool) (decided : Decides same) where
       → length (searched same out starts k).vertices ≤ k
       → searched same out starts k ≡ record { vertices = reached same out cap starts; edges = edges same out (reached same out cap starts) }
   searched_whole out starts cap k small all =
-      let e : reached same out cap starts ≡ (searched same out starts k).vertices = searched_reached same decided out starts cap k small all in
-      let f : edges same out (searched same out starts k).vertices ≡ (searched same out starts k).edges = searched_edges same decided out starts k all in
+      let e : reached same out cap starts ≡ (searched same out starts k).vertices = searched-reached same decided out starts cap k small all in
+      let f : edges same out (searched same out starts k).vertices ≡ (searched same out starts k).edges = searched-edges same decided out starts k all in
       λ i. record { vertices = sym e i; edges = (sym f ∙ ap (edges same out) (sym e)) i }

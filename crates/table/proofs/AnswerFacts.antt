@@ -5,29 +5,29 @@ use Prim.Native.Nat.{ℕ, ◌≤◌, ◌<◌}
 use native.Mathlib.Omega.{arith}
 use Rattle.automata.specs.Answer.{◌>>=◌, Answer, ok, refused, forget, check, require, beside}
 use Rattle.automata.proofs.AnswerFacts.{refused≢ok, forget-beside}
-use Rattle.table.specs.Answers.{refusalNumber, judgedAs}
+use Rattle.table.specs.Answers.{refusal_number, judged_as}
 use Rattle.table.specs.declared.answer.Refusal.{Refusal}
 use Rattle.table.specs.declared.answer.Judged.{Judged}
 use Rattle.table.specs.declared.answer.Judged.TheVariants.{Fine, Refused}
 
 -- the second counts where the first is fine
-pub both_fine : (a b : Judged) → a ≡ Fine → judgedAs b ≡ forget (beside (judgedAs a) (judgedAs b))
+pub both_fine : (a b : Judged) → a ≡ Fine → judged_as b ≡ forget (beside (judged_as a) (judged_as b))
 both_fine a Fine e = rw e
 both_fine a (Refused n) e = rw e
 
 module _ (a b : Judged) (m : Refusal) (e : a ≡ Refused m) where
   -- the first counts where the second is fine
-  pub both_first : b ≡ Fine → refused (refusalNumber m) ≡ forget (beside (judgedAs a) (judgedAs b))
+  pub both_first : b ≡ Fine → refused (refusal_number m) ≡ forget (beside (judged_as a) (judged_as b))
   both_first f = rw (e, f)
 
-  module _ (n : Refusal) (f : b ≡ Refused n) (x y : ℕ) (p : x ≡ refusalNumber m) (q : y ≡ refusalNumber n) where
+  module _ (n : Refusal) (f : b ≡ Refused n) (x y : ℕ) (p : x ≡ refusal_number m) (q : y ≡ refusal_number n) where
     -- of two refusals the lesser counts
-    pub both-lesser : x < y → refused (refusalNumber m) ≡ forget (beside (judgedAs a) (judgedAs b))
+    pub both-lesser : x < y → refused (refusal_number m) ≡ forget (beside (judged_as a) (judged_as b))
     both-lesser h = rw (e, f) (ap refused (omega arith))
 
     -- the second where it is no greater
-    pub both-other : y ≤ x → refused (refusalNumber n) ≡ forget (beside (judgedAs a) (judgedAs b))
-    both-other h = rw (e, f) (ap refused (omega arith))
+    pub both_other : y ≤ x → refused (refusal_number n) ≡ forget (beside (judged_as a) (judged_as b))
+    both_other h = rw (e, f) (ap refused (omega arith))
 
 -- ---- answers without their values
 

@@ -21,7 +21,7 @@ use Rattle.automata.proofs.RecordFacts.{take_drop_take}
 use Rattle.automata.specs.Layout.{arc_size, state_size, label_size, labels_size, weight_size, labels_end, labels_place, content_place, target_place}
 use Rattle.table.specs.Region.{part}
 use Rattle.table.specs.Endian.{le}
-use Rattle.table.specs.Answers.{judgedAs}
+use Rattle.table.specs.Answers.{judged_as}
 use Rattle.table.specs.Judging.{read_weight, read_state, read_label, labels_read, read_labels, read_arc}
 use Rattle.table.specs.declared.answer.Judged.{Judged}
 use Rattle.table.proofs.RegionFacts.{part_suc, length_part, get_d_part}
@@ -149,30 +149,30 @@ module _ (x : List ℕ) (l : length x ≡ label_size) (u : ℕ) (m : u ≡ min (
 
   module _ (z : Bool) (q : z ≡ all is_zero (take (label_size - (1 + u)) (drop (1 + u) x))) (f : not s ≡ false) where
     -- a byte past it that is not 0
-    pub label-padding : not z ≡ true → refused 2 ≡ forget (read_label x)
-    label-padding g = rw (label_is x u l m, ← p, ← q, not-false s f, not-true z g)
+    pub label_padding : not z ≡ true → refused 2 ≡ forget (read_label x)
+    label_padding g = rw (label_is x u l m, ← p, ← q, not-false s f, not-true z g)
 
     -- the length itself
-    pub label-length : not z ≡ false → (j : Answer (Unit {0})) → j ≡ require (leb (get_or x 0 0) 8) size → j ≡ forget (read_label x)
-    label-length g j e = e ∙ rw (label_is x u l m, ← p, ← q, not-false s f, not-false z g) (forget-check (leb (get_or x 0 0) 8) size _)
+    pub label_length : not z ≡ false → (j : Answer (Unit {0})) → j ≡ require (leb (get_or x 0 0) 8) size → j ≡ forget (read_label x)
+    label_length g j e = e ∙ rw (label_is x u l m, ← p, ← q, not-false s f, not-false z g) (forget-check (leb (get_or x 0 0) 8) size _)
 
 -- ---- labels side by side
 
 -- a turn of the loop over the labels
-pub labels_turn : (x : List ℕ) (at left : ℕ) (j k next : Judged) → 0 < left → judgedAs k ≡ forget (read_label (take (at + label_size - at) (drop at x)))
-    → judgedAs next ≡ forget (beside (judgedAs j) (judgedAs k))
-    → forget (beside (judgedAs next) (labels_read (left - 1) (drop (at + label_size) x))) ≡ forget (beside (judgedAs j) (labels_read left (drop at x)))
+pub labels_turn : (x : List ℕ) (at left : ℕ) (j k next : Judged) → 0 < left → judged_as k ≡ forget (read_label (take (at + label_size - at) (drop at x)))
+    → judged_as next ≡ forget (beside (judged_as j) (judged_as k))
+    → forget (beside (judged_as next) (labels_read (left - 1) (drop (at + label_size) x))) ≡ forget (beside (judged_as j) (labels_read left (drop at x)))
 unfolding labels_read read_label
 labels_turn x at zero j k next h e f = absurd (omega arith)
 labels_turn x at (suc left) j k next h e f =
     let s : suc left - 1 ≡ left = omega arith in
     let n : at + label_size - at ≡ label_size = omega arith in
-    rw (s, f, e, n, ← drop-drop label_size at x) (beside-next (judgedAs j) (read_label (take label_size (drop at x))) (labels_read left (drop label_size (drop at x))) (λ p. p.0 ∷ p.1))
+    rw (s, f, e, n, ← drop-drop label_size at x) (beside-next (judged_as j) (read_label (take label_size (drop at x))) (labels_read left (drop label_size (drop at x))) (λ p. p.0 ∷ p.1))
 
 -- its end
-pub labels_end_lem : (x : List ℕ) (at left : ℕ) (j : Judged) → left ≡ 0 → judgedAs j ≡ forget (beside (judgedAs j) (labels_read left (drop at x)))
+pub labels_end_lem : (x : List ℕ) (at left : ℕ) (j : Judged) → left ≡ 0 → judged_as j ≡ forget (beside (judged_as j) (labels_read left (drop at x)))
 unfolding labels_read
-labels_end_lem x at left j e = rw e (beside-last (judgedAs j) _)
+labels_end_lem x at left j e = rw e (beside-last (judged_as j) _)
 
 -- its start
 pub labels_start_lem : (x : List ℕ) (n : ℕ) → forget (beside (ok (tt {0})) (labels_read n (drop 0 x))) ≡ forget (labels_read n x)

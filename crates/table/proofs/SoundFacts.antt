@@ -48,12 +48,12 @@ module _ (m : Memory) (s : Sound m) (k : ℕ) where
   -- ---- a state
   module _ (h : k < m.states) where
     -- its number is one of the table's
-    state-there : k < length (table_of m).states
-    state-there = subst (λ (n : ℕ). k < n) (sound_holds m s).states h
+    state_there : k < length (table_of m).states
+    state_there = subst (λ (n : ℕ). k < n) (sound_holds m s).states h
 
     -- it is well-formed
-    state-formed : (d : State ℕ) → WellFormedState (get_or (table_of m).states k d)
-    state-formed d = All_at WellFormedState (table_of m).states d k (sound_well_formed m s).states state-there
+    state_formed : (d : State ℕ) → WellFormedState (get_or (table_of m).states k d)
+    state_formed d = All_at WellFormedState (table_of m).states d k (sound_well_formed m s).states state_there
 
     -- its bytes are those that are written for it
     pub state-bytes : (d : State ℕ) → part (state_size * k) state_size m.state_bytes ≡ state_record.write (get_or (table_of m).states k d)
@@ -61,16 +61,16 @@ module _ (m : Memory) (s : Sound m) (k : ℕ) where
     state-bytes d =
         let q = get_or (table_of m).states k d in
         let e : state_size * k ≡ k * state_size + 0 = omega arith in
-        let n : length (state_record.write q) ≤ state_size = omega (arith, state_record_lawful.sized q (state-formed d)) in
+        let n : length (state_record.write q) ≤ state_size = omega (arith, state_record_lawful.sized q (state_formed d)) in
         ap (λ (i : ℕ). take state_size (drop i m.state_bytes)) e
         ∙ state_field m (table_of m) (sound_well_formed m s) (sound_holds m s) k d h 0 state_size (omega arith) ∙ take_all state_size (state_record.write q) n
 
     -- and it is loaded from them
-    pub state-loaded : get_elem? (table_of m).states k ≡ some (state_as (state_at (state_size * k) m.state_bytes))
-    state-loaded =
+    pub state_loaded : get_elem? (table_of m).states k ≡ some (state_as (state_at (state_size * k) m.state_bytes))
+    state_loaded =
         let d : State ℕ = state_as (state_at (state_size * k) m.state_bytes) in
-        element (table_of m).states k d state-there
-        ∙ ap some (sym (state_decoded (state_size * k) m.state_bytes (get_or (table_of m).states k d) (state-formed d) (state-bytes d)))
+        element (table_of m).states k d state_there
+        ∙ ap some (sym (state_decoded (state_size * k) m.state_bytes (get_or (table_of m).states k d) (state_formed d) (state-bytes d)))
 
   -- ---- an arc
   module _ (h : k < m.arcs) where
@@ -79,8 +79,8 @@ module _ (m : Memory) (s : Sound m) (k : ℕ) where
     arc_there = subst (λ (n : ℕ). k < n) (sound_holds m s).arcs h
 
     -- it is well-formed
-    arc-formed : (d : Arc ℕ) → WellFormedArc m.tapes m.states (get_or (table_of m).arcs k d)
-    arc-formed d =
+    arc_formed : (d : Arc ℕ) → WellFormedArc m.tapes m.states (get_or (table_of m).arcs k d)
+    arc_formed d =
         let a = get_or (table_of m).arcs k d in
         subst (λ (n : ℕ). WellFormedArc n m.states a) (sym (sound_holds m s).tapes)
         (subst (λ (n : ℕ). WellFormedArc (table_of m).tapes n a) (sym (sound_holds m s).states)
@@ -93,36 +93,36 @@ module _ (m : Memory) (s : Sound m) (k : ℕ) where
         let a = get_or (table_of m).arcs k d in
         let e : arc_size * k ≡ k * arc_size + 0 = omega arith in
         let l : length ((arc_record m.tapes m.states).write a) ≡ arc_size =
-        (arc_record_lawful m.tapes m.states (few_states m s)).sized a (arc-formed d) ∙ arc_record-width m.tapes m.states (few_tapes m s) in
+        (arc_record_lawful m.tapes m.states (few_states m s)).sized a (arc_formed d) ∙ arc_record-width m.tapes m.states (few_tapes m s) in
         ap (λ (i : ℕ). take arc_size (drop i m.arc_bytes)) e
         ∙ arc_field m (table_of m) (sound_well_formed m s) (sound_holds m s) k d h 0 arc_size (omega arith)
         ∙ ap₂ (λ (t n : ℕ). take arc_size ((arc_record t n).write a)) (sym (sound_holds m s).tapes) (sym (sound_holds m s).states)
         ∙ take_all arc_size ((arc_record m.tapes m.states).write a) (omega (arith, l))
 
     -- the arc by value stands for it
-    arc-same : (d : Arc ℕ) → arc_as m.tapes (arc_at (arc_size * k) m.arc_bytes) ≡ get_or (table_of m).arcs k d
-    arc-same d = arc_decoded m.tapes m.states (arc_size * k) m.arc_bytes (get_or (table_of m).arcs k d) (few_tapes m s) (few_states m s) (arc-formed d) (arc-bytes d)
+    arc_same : (d : Arc ℕ) → arc_as m.tapes (arc_at (arc_size * k) m.arc_bytes) ≡ get_or (table_of m).arcs k d
+    arc_same d = arc_decoded m.tapes m.states (arc_size * k) m.arc_bytes (get_or (table_of m).arcs k d) (few_tapes m s) (few_states m s) (arc_formed d) (arc-bytes d)
 
     -- and it is loaded from them
-    pub arc-loaded : get_elem? (table_of m).arcs k ≡ some (arc_as m.tapes (arc_at (arc_size * k) m.arc_bytes))
-    arc-loaded =
+    pub arc_loaded : get_elem? (table_of m).arcs k ≡ some (arc_as m.tapes (arc_at (arc_size * k) m.arc_bytes))
+    arc_loaded =
         let d : Arc ℕ = arc_as m.tapes (arc_at (arc_size * k) m.arc_bytes) in
-        element (table_of m).arcs k d arc_there ∙ ap some (sym (arc-same d))
+        element (table_of m).arcs k d arc_there ∙ ap some (sym (arc_same d))
 
     -- what is loaded is stored again as it was
-    pub arc-canonical : Canonical m.tapes (arc_at (arc_size * k) m.arc_bytes).content
-    arc-canonical =
+    pub arc_canonical : Canonical m.tapes (arc_at (arc_size * k) m.arc_bytes).content
+    arc_canonical =
         let d : Arc ℕ = arc_as m.tapes (arc_at (arc_size * k) m.arc_bytes) in
-        canonical_decoded m.tapes m.states (arc_size * k) m.arc_bytes (get_or (table_of m).arcs k d) (few_tapes m s) (few_states m s) (arc-formed d) (arc-bytes d)
+        canonical_decoded m.tapes m.states (arc_size * k) m.arc_bytes (get_or (table_of m).arcs k d) (few_tapes m s) (few_states m s) (arc_formed d) (arc-bytes d)
 
     -- its source is a state of the table
-    pub arc-source : (arc_at (arc_size * k) m.arc_bytes).source.0 < m.states
-    arc-source =
+    pub arc_source : (arc_at (arc_size * k) m.arc_bytes).source.0 < m.states
+    arc_source =
         let d : Arc ℕ = arc_as m.tapes (arc_at (arc_size * k) m.arc_bytes) in
-        subst (λ (a : Arc ℕ). a.source < m.states) (sym (arc-same d)) (arc-formed d).source
+        subst (λ (a : Arc ℕ). a.source < m.states) (sym (arc_same d)) (arc_formed d).source
 
     -- and so is its target
-    pub arc-target : (arc_at (arc_size * k) m.arc_bytes).target.0 < m.states
-    arc-target =
+    pub arc_target : (arc_at (arc_size * k) m.arc_bytes).target.0 < m.states
+    arc_target =
         let d : Arc ℕ = arc_as m.tapes (arc_at (arc_size * k) m.arc_bytes) in
-        subst (λ (a : Arc ℕ). a.target < m.states) (sym (arc-same d)) (arc-formed d).target
+        subst (λ (a : Arc ℕ). a.target < m.states) (sym (arc_same d)) (arc_formed d).target

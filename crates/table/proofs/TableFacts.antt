@@ -31,17 +31,17 @@ module _ (tapes states arcs : ℕ) where
 
   module _ (a : 1 ≤ tapes) where
     -- too many tapes
-    pub many-tapes : 8 < tapes → false ≡ counts_fit tapes states arcs
-    many-tapes h = rw (le-leb 1 tapes a, lt-leb tapes 8 h)
+    pub many_tapes : 8 < tapes → false ≡ counts_fit tapes states arcs
+    many_tapes h = rw (le-leb 1 tapes a, lt-leb tapes 8 h)
 
     module _ (b : tapes ≤ 8) where
       -- too many states
-      pub many-states : 1024 < states → false ≡ counts_fit tapes states arcs
-      many-states h = rw (le-leb 1 tapes a, le-leb tapes 8 b, lt-leb states 1024 h)
+      pub many_states : 1024 < states → false ≡ counts_fit tapes states arcs
+      many_states h = rw (le-leb 1 tapes a, le-leb tapes 8 b, lt-leb states 1024 h)
 
       -- the arcs decide
-      pub arcs-decide : states ≤ 1024 → leb arcs 8192 ≡ counts_fit tapes states arcs
-      arcs-decide h = rw (le-leb 1 tapes a, le-leb tapes 8 b, le-leb states 1024 h)
+      pub arcs_decide : states ≤ 1024 → leb arcs 8192 ≡ counts_fit tapes states arcs
+      arcs_decide h = rw (le-leb 1 tapes a, le-leb tapes 8 b, le-leb states 1024 h)
 
   -- counts in range have at most eight tapes
   pub tapes_fit : (b : Bool) → b ≡ counts_fit tapes states arcs → not b ≡ false → tapes ≤ 8
@@ -63,14 +63,14 @@ module _ (x : List ℕ) (at : ℕ) (h : at ≤ length x) where
 
   module _ (left : ℕ) (p : 0 < left) (j : Answer (Unit {0})) (e : j ≡ first_state (drop at x)) where
     -- a refusal ends the run
-    pub states-stop : (n : ℕ) → j ≡ refused n → j ≡ states_judged left (drop at x)
+    pub states_stop : (n : ℕ) → j ≡ refused n → j ≡ states_judged left (drop at x)
     unfolding first_state states_judged
-    states-stop n f = f ∙ many_stop state_record (drop at x) left n p (sym e ∙ f)
+    states_stop n f = f ∙ many_stop state_record (drop at x) left n p (sym e ∙ f)
 
     -- behind a record that is fine the rest counts
-    pub states-next : j ≡ ok tt → (at + state_size ≤ length x) × (states_judged (left - 1) (drop (at + state_size) x) ≡ states_judged left (drop at x))
+    pub states_next : j ≡ ok tt → (at + state_size ≤ length x) × (states_judged (left - 1) (drop (at + state_size) x) ≡ states_judged left (drop at x))
     unfolding first_state states_judged
-    states-next f = at_next state_record state_size refl x at h left p (sym e ∙ f)
+    states_next f = at_next state_record state_size refl x at h left p (sym e ∙ f)
 
 -- none left
 pub states_done : (n : ℕ) (x : List ℕ) → n ≡ 0 → ok tt ≡ states_judged n x
@@ -93,14 +93,14 @@ module _ (tapes states : ℕ) (w : tapes ≤ 8) (x : List ℕ) (at : ℕ) (h : a
 
   module _ (left : ℕ) (p : 0 < left) (j : Answer (Unit {0})) (e : j ≡ first_arc tapes states (drop at x)) where
     -- a refusal ends the run
-    pub arcs-stop : (n : ℕ) → j ≡ refused n → j ≡ arcs_judged tapes states left (drop at x)
+    pub arcs_stop : (n : ℕ) → j ≡ refused n → j ≡ arcs_judged tapes states left (drop at x)
     unfolding first_arc arcs_judged
-    arcs-stop n f = f ∙ many_stop (arc_record tapes states) (drop at x) left n p (sym e ∙ f)
+    arcs_stop n f = f ∙ many_stop (arc_record tapes states) (drop at x) left n p (sym e ∙ f)
 
     -- behind a record that is fine the rest counts
-    pub arcs-next : j ≡ ok tt → (at + arc_size ≤ length x) × (arcs_judged tapes states (left - 1) (drop (at + arc_size) x) ≡ arcs_judged tapes states left (drop at x))
+    pub arcs_next : j ≡ ok tt → (at + arc_size ≤ length x) × (arcs_judged tapes states (left - 1) (drop (at + arc_size) x) ≡ arcs_judged tapes states left (drop at x))
     unfolding first_arc arcs_judged
-    arcs-next f = at_next (arc_record tapes states) arc_size (arc_record-width tapes states w) x at h left p (sym e ∙ f)
+    arcs_next f = at_next (arc_record tapes states) arc_size (arc_record-width tapes states w) x at h left p (sym e ∙ f)
 
 -- none left
 pub arcs_done : (tapes states n : ℕ) (x : List ℕ) → n ≡ 0 → ok tt ≡ arcs_judged tapes states n x
@@ -126,23 +126,23 @@ module _ (m : Memory) (b : Bool) (e : b ≡ counts_fit m.tapes m.states m.arcs) 
 
   module _ (f : not b ≡ false) (j : Answer (Unit {0})) (g : j ≡ states_judged m.states m.state_bytes) where
     -- the judgement of the states is that of reading them all
-    all-states : j ≡ forget (read_all state_record m.states m.state_bytes)
+    all_states : j ≡ forget (read_all state_record m.states m.state_bytes)
     unfolding states_judged
-    all-states = g ∙ sym (forget_map (read_many state_record m.states m.state_bytes) (λ p. p.0))
+    all_states = g ∙ sym (forget_map (read_many state_record m.states m.state_bytes) (λ p. p.0))
 
     -- states that are refused
-    pub table-states : (n : ℕ) → j ≡ refused n → j ≡ forget (decode_table m)
-    table-states n h = h ∙ sym (table_is f ∙ go (read_all state_record m.states m.state_bytes) (read_all (arc_record m.tapes m.states) m.arcs m.arc_bytes) (sym all-states ∙ h))
+    pub table_states : (n : ℕ) → j ≡ refused n → j ≡ forget (decode_table m)
+    table_states n h = h ∙ sym (table_is f ∙ go (read_all state_record m.states m.state_bytes) (read_all (arc_record m.tapes m.states) m.arcs m.arc_bytes) (sym all_states ∙ h))
       where
         go : (s : Answer (List (State ℕ))) (a : Answer (List (Arc ℕ))) → forget s ≡ refused n → forget (s >>= λ states. a) ≡ refused n
         go (ok s) a k = absurd (refused≢ok (sym k))
         go (refused i) a k = k
 
     -- states that are fine
-    pub table-arcs : j ≡ ok tt → (k : Answer (Unit {0})) → k ≡ arcs_judged m.tapes m.states m.arcs m.arc_bytes → k ≡ forget (decode_table m)
+    pub table_arcs : j ≡ ok tt → (k : Answer (Unit {0})) → k ≡ arcs_judged m.tapes m.states m.arcs m.arc_bytes → k ≡ forget (decode_table m)
     unfolding arcs_judged
-    table-arcs h k p =
-        let s = forget-ok (read_all state_record m.states m.state_bytes) (sym all-states ∙ h) in
+    table_arcs h k p =
+        let s = forget-ok (read_all state_record m.states m.state_bytes) (sym all_states ∙ h) in
         p ∙ sym (forget_map (read_many (arc_record m.tapes m.states) m.arcs m.arc_bytes) (λ p. p.0)) ∙ sym (table_is f ∙ (rw s.1))
 
 -- a table that is not refused stands in memory

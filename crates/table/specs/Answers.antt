@@ -13,35 +13,35 @@ use Rattle.table.specs.declared.answer.TableAnswer.{TableAnswer}
 use Rattle.table.specs.declared.answer.TableAnswer.TheVariants as table
 
 -- the number of each refusal
-abbrev pub refusalNumber : Refusal → ℕ
-refusalNumber Short = refusal.short
-refusalNumber Form = refusal.form
-refusalNumber Size = refusal.size
-refusalNumber State = refusal.state
-refusalNumber Tape = refusal.tape
-refusalNumber Pairs = refusal.pairs
-refusalNumber Limit = refusal.limit
-refusalNumber StatesFull = refusal.states_full
-refusalNumber ArcsFull = refusal.arcs_full
-refusalNumber Delay = refusal.delay
-refusalNumber Weight = refusal.weight
-refusalNumber Width = refusal.width
-refusalNumber Space = refusal.space
-refusalNumber Path = refusal.path
+abbrev pub refusal_number : Refusal → ℕ
+refusal_number Short = refusal.short
+refusal_number Form = refusal.form
+refusal_number Size = refusal.size
+refusal_number State = refusal.state
+refusal_number Tape = refusal.tape
+refusal_number Pairs = refusal.pairs
+refusal_number Limit = refusal.limit
+refusal_number StatesFull = refusal.states_full
+refusal_number ArcsFull = refusal.arcs_full
+refusal_number Delay = refusal.delay
+refusal_number Weight = refusal.weight
+refusal_number Width = refusal.width
+refusal_number Space = refusal.space
+refusal_number Path = refusal.path
 
 -- a judgement: nothing, or a refusal
-abbrev pub judgedAs : Judged → Answer (Unit {0})
-judgedAs judged.Fine = ok tt
-judgedAs (judged.Refused r) = refused (refusalNumber r)
+abbrev pub judged_as : Judged → Answer (Unit {0})
+judged_as judged.Fine = ok tt
+judged_as (judged.Refused r) = refused (refusal_number r)
 
 -- the counts of a table
-abbrev pub countsAs : Counts → TableCounts
-countsAs c = record { tapes = c.tapes; states = c.states; arcs = c.arcs }
+abbrev pub counts_as : Counts → TableCounts
+counts_as c = record { tapes = c.tapes; states = c.states; arcs = c.arcs }
 
 -- the answer of a call that makes a table
-abbrev pub tableAs : TableAnswer → Answer TableCounts
-tableAs (table.Table c) = ok (countsAs c)
-tableAs (table.Refused r) = refused (refusalNumber r)
+abbrev pub table_as : TableAnswer → Answer TableCounts
+table_as (table.Table c) = ok (counts_as c)
+table_as (table.Refused r) = refused (refusal_number r)
 
 -- a table lent: its counts and the bytes of its records
 abbrev pub lent : Counts → List ℕ → List ℕ → automata.Memory

@@ -1,7 +1,7 @@
 // What a call answers: the fourteen refusals, a judgement, and the counts of a table.
 ghost use Rattle.std.specs.Prelude.{◌≡◌};
 ghost use Rattle.automata.specs.Answer.{forget, beside};
-ghost use Rattle.table.specs.Answers.{refusalNumber, judgedAs};
+ghost use Rattle.table.specs.Answers.{refusal_number, judged_as};
 
 // The refusals of document 01's list, in its order, numbers 1 to 13, and 14 of document 02 (request 2.3).
 #[derive(Drop)]
@@ -24,7 +24,7 @@ pub enum Refusal {
 
 // The number of a refusal.
 pub fn refusal_number(r: Refusal) -> u8
-    ensures { result ≡ refusalNumber r }
+    ensures { result ≡ refusal_number r }
 {
     match r {
         Refusal::Short => 1,
@@ -53,7 +53,7 @@ pub enum Judged {
 
 // Two parts side by side: the lesser refusal counts.
 pub fn both(a: Judged, b: Judged) -> Judged
-    ensures { judgedAs result ≡ forget (beside (judgedAs a) (judgedAs b)) }
+    ensures { judged_as result ≡ forget (beside (judged_as a) (judged_as b)) }
 {
     let Judged::Refused(m) = a else {
         return b;

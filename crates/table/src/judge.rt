@@ -7,7 +7,7 @@ ghost use Rattle.automata.specs.Answer.{forget, require};
 ghost use Rattle.automata.specs.Memory.{is_zero, decode_table};
 ghost use Rattle.automata.specs.Layout.{arc_size, state_size, label_size, labels_size, weight_size};
 ghost use Rattle.table.specs.Region.{part};
-ghost use Rattle.table.specs.Answers.{refusalNumber, judgedAs, lent};
+ghost use Rattle.table.specs.Answers.{refusal_number, judged_as, lent};
 ghost use Rattle.table.specs.Judging.{read_weight, read_state, read_label, labels_read, read_labels, read_arc, first_state, states_judged, first_arc, arcs_judged};
 
 use crate::answer::{Counts, Judged, Refusal, both};
@@ -21,7 +21,7 @@ use crate::symbol::has_number;
 
 // Fine where the test passes, else the refusal.
 fn demand(passes: bool, refusal: Refusal) -> Judged
-    ensures { judgedAs result ≡ require passes (refusalNumber refusal) }
+    ensures { judged_as result ≡ require passes (refusal_number refusal) }
 {
     if passes {
         return Judged::Fine;
@@ -32,7 +32,7 @@ fn demand(passes: bool, refusal: Refusal) -> Judged
 // The weight in the five bytes at a place.
 fn judge_weight(bytes: &[u8], at: usize) -> Judged
     requires { at + weight_size ≤ length bytes.now }
-    ensures { judgedAs result ≡ forget (read_weight (part at weight_size bytes.now)) }
+    ensures { judged_as result ≡ forget (read_weight (part at weight_size bytes.now)) }
 {
     let flag = bytes[at];
     let n = get32(bytes, at + AMOUNT_PLACE);
@@ -48,7 +48,7 @@ fn judge_weight(bytes: &[u8], at: usize) -> Judged
 // The record of a state at a place.
 fn judge_state_record(bytes: &[u8], at: usize) -> Judged
     requires { at + state_size ≤ length bytes.now }
-    ensures { judgedAs result ≡ forget (read_state (part at state_size bytes.now)) }
+    ensures { judged_as result ≡ forget (read_state (part at state_size bytes.now)) }
 {
     both(
         judge_weight(bytes, at),
@@ -93,7 +93,7 @@ fn within(len: u8) -> usize
 // The label in the nine bytes of a slice.
 fn judge_label(label: &[u8]) -> Judged
     requires { length label.now ≡ label_size }
-    ensures { judgedAs result ≡ forget (read_label label.now) }
+    ensures { judged_as result ≡ forget (read_label label.now) }
 {
     let len = label[0];
     let end = SYMBOLS_PLACE + within(len);
@@ -109,7 +109,7 @@ fn judge_label(label: &[u8]) -> Judged
 // The labels of an arc on so many tapes, side by side.
 fn judge_labels(labels: &[u8], tapes: usize) -> Judged
     requires { length labels.now ≡ tapes * label_size }
-    ensures { judgedAs result ≡ forget (labels_read tapes labels.now) }
+    ensures { judged_as result ≡ forget (labels_read tapes labels.now) }
 {
     let mut judged = Judged::Fine;
     let mut left = tapes;
@@ -125,7 +125,7 @@ fn judge_labels(labels: &[u8], tapes: usize) -> Judged
 // The bytes of an arc's labels: unused tapes are zero.
 fn judge_tapes(labels: &[u8], tapes: usize) -> Judged
     requires { (length labels.now ≡ labels_size) × (tapes ≤ 8) }
-    ensures { judgedAs result ≡ forget (read_labels tapes labels.now) }
+    ensures { judged_as result ≡ forget (read_labels tapes labels.now) }
 {
     let end = tapes * LABEL_SIZE;
     let used = judge_labels(&labels[0..end], tapes);
@@ -136,7 +136,7 @@ fn judge_tapes(labels: &[u8], tapes: usize) -> Judged
 // The record of an arc of a table with so many tapes and states.
 fn judge_arc_record(arc: &[u8], tapes: usize, states: usize) -> Judged
     requires { (length arc.now ≡ arc_size) × (tapes ≤ 8) }
-    ensures { judgedAs result ≡ forget (read_arc tapes states arc.now) }
+    ensures { judged_as result ≡ forget (read_arc tapes states arc.now) }
 {
     let source = demand((get16(arc, 0) as usize) < states, Refusal::State);
     let target = demand((get16(arc, TARGET_PLACE) as usize) < states, Refusal::State);
@@ -148,7 +148,7 @@ fn judge_arc_record(arc: &[u8], tapes: usize, states: usize) -> Judged
 // The same, with the quick test first.
 fn judge_arc(arc: &[u8], tapes: usize, states: usize) -> Judged
     requires { (length arc.now ≡ arc_size) × (tapes ≤ 8) }
-    ensures { judgedAs result ≡ forget (read_arc tapes states arc.now) }
+    ensures { judged_as result ≡ forget (read_arc tapes states arc.now) }
 {
     if good_arc(arc, tapes, states) {
         return Judged::Fine;
@@ -159,7 +159,7 @@ fn judge_arc(arc: &[u8], tapes: usize, states: usize) -> Judged
 // The record of a state at a place of a slice, which may end before it.
 fn judge_state_at(states: &[u8], at: usize) -> Judged
     requires { at ≤ length states.now }
-    ensures { judgedAs result ≡ first_state (drop at states.now) }
+    ensures { judged_as result ≡ first_state (drop at states.now) }
 {
     if states.len() - at < STATE_SIZE {
         return Judged::Refused(Refusal::Short);
@@ -169,7 +169,7 @@ fn judge_state_at(states: &[u8], at: usize) -> Judged
 
 // So many records of states. The first refusal counts.
 fn judge_states(states: &[u8], count: usize) -> Judged
-    ensures { judgedAs result ≡ states_judged count states.now }
+    ensures { judged_as result ≡ states_judged count states.now }
 {
     let mut left = count;
     let mut at = 0;
@@ -187,7 +187,7 @@ fn judge_states(states: &[u8], count: usize) -> Judged
 // The record of an arc at a place of a slice, which may end before it.
 fn judge_arc_at(arcs: &[u8], at: usize, tapes: usize, states: usize) -> Judged
     requires { (at ≤ length arcs.now) × (tapes ≤ 8) }
-    ensures { judgedAs result ≡ first_arc tapes states (drop at arcs.now) }
+    ensures { judged_as result ≡ first_arc tapes states (drop at arcs.now) }
 {
     if arcs.len() - at < ARC_SIZE {
         return Judged::Refused(Refusal::Short);
@@ -198,7 +198,7 @@ fn judge_arc_at(arcs: &[u8], at: usize, tapes: usize, states: usize) -> Judged
 // So many records of arcs. The first refusal counts.
 fn judge_arcs(arcs: &[u8], count: usize, tapes: usize, states: usize) -> Judged
     requires { tapes ≤ 8 }
-    ensures { judgedAs result ≡ arcs_judged tapes states count arcs.now }
+    ensures { judged_as result ≡ arcs_judged tapes states count arcs.now }
 {
     let mut left = count;
     let mut at = 0;
@@ -231,7 +231,7 @@ fn counts_fit(counts: Counts) -> bool
 
 // A table in memory: its first refusal, if it has one.
 pub fn judge(counts: Counts, states: &[u8], arcs: &[u8]) -> Judged
-    ensures { judgedAs result ≡ forget (decode_table (lent counts states.now arcs.now)) }
+    ensures { judged_as result ≡ forget (decode_table (lent counts states.now arcs.now)) }
 {
     if !counts_fit(counts) {
         return Judged::Refused(Refusal::Size);

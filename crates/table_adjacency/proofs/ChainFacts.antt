@@ -33,9 +33,9 @@ chain-none arcs q k (suc n) e = absurd (omega arith)
 
 -- ---- the lists
 
-module _ (m n : ℕ) (arcs : List ℕ) (forStates forArcs : ℕ) (c : Chainable m n arcs forStates forArcs) (filled : List ℕ) (e : filled ≡ replicate forStates n) where
-  filled_long : length filled ≡ forStates
-  filled_long = ap length e ∙ length-replicate forStates n
+module _ (m n : ℕ) (arcs : List ℕ) (for_states for_arcs : ℕ) (c : Chainable m n arcs for_states for_arcs) (filled : List ℕ) (e : filled ≡ replicate for_states n) where
+  filled_long : length filled ≡ for_states
+  filled_long = ap length e ∙ length-replicate for_states n
 
   -- before any arc
   pub chained_none : (next : List ℕ) → n ≤ length next → ChainedFrom n (length filled) n arcs filled next
@@ -43,7 +43,7 @@ module _ (m n : ℕ) (arcs : List ℕ) (forStates forArcs : ℕ) (c : Chainable 
     states_fit = omega arith;
     arcs_fit = b;
     firsts = λ q h.
-        ap (λ (z : List ℕ). get_or z q 0) e ∙ get_or-replicate forStates q n 0 (omega (arith, filled_long))
+        ap (λ (z : List ℕ). get_or z q 0) e ∙ get_or-replicate for_states q n 0 (omega (arith, filled_long))
         ∙ sym (ap (first_or n) (chain-none arcs q n (n - n) (omega arith)));
     nexts = λ j l h. absurd (omega arith);
   }
@@ -75,7 +75,7 @@ chained_more k m n arcs first next b c q e h =
       arcs_fit = let l = length-set next k (get_or first q 0) in omega (arith, l, c.arcs_fit);
       firsts = λ x g. elim (ℕ_discrete x q) [
         | yes p ↦
-            ap (getD' (set first q k)) p ∙ get_or-set_same first q k 0 (omega (arith, c.states_fit))
+            ap (get_d' (set first q k)) p ∙ get_or-set_same first q k 0 (omega (arith, c.states_fit))
             ∙ sym (ap (λ (i : ℕ). first_or n (chain arcs x k i)) s ∙ ap (first_or n) (chain_here arcs x k (n - (k + 1)) (sym e ∙ sym p)))
         | no p ↦
             get_or-set_other first q x k 0 p ∙ c.firsts x g
@@ -83,15 +83,15 @@ chained_more k m n arcs first next b c q e h =
       ];
       nexts = λ j l g. elim (ℕ_discrete j k) [
         | yes p ↦
-            ap (getD' (set next k (get_or first q 0))) p ∙ get_or-set_same next k (get_or first q 0) 0 (omega (arith, c.arcs_fit)) ∙ c.firsts q h
+            ap (get_d' (set next k (get_or first q 0))) p ∙ get_or-set_same next k (get_or first q 0) 0 (omega (arith, c.arcs_fit)) ∙ c.firsts q h
             ∙ ap (λ (z : ℕ). first_or n (chain arcs z (k + 1) (n - (k + 1)))) e
             ∙ ap (λ (i : ℕ). first_or n (chain arcs (source_of arcs i) (i + 1) (n - (i + 1)))) (sym p)
         | no p ↦ get_or-set_other next k j (get_or first q 0) 0 p ∙ c.nexts j (omega arith) g
       ];
     }
   where
-    getD' : List ℕ → ℕ → ℕ
-    getD' xs i = get_or xs i 0
+    get_d' : List ℕ → ℕ → ℕ
+    get_d' xs i = get_or xs i 0
 
 -- the same, counted down
 pub chained_back : (i m n : ℕ) (arcs first next : List ℕ) → 0 < i → i ≤ n → ChainedFrom i m n arcs first next → (q : ℕ) → q ≡ source_of arcs (i - 1) → q < m
@@ -149,12 +149,12 @@ module _ (m n : ℕ) (arcs first next : List ℕ) (c : Chained m n arcs first ne
     states_fit = c.states_fit;
     arcs_fit = c.arcs_fit;
     sources = s;
-    firsts = λ q h. first-in q 0 (get_or first q 0) (first-arc q h);
-    nexts = λ j h e. first-in (source_of arcs j) (j + 1) (get_or next j 0) (next-arc (source_of arcs j) j h refl);
+    firsts = λ q h. first_in_lem q 0 (get_or first q 0) (first-arc q h);
+    nexts = λ j h e. first_in_lem (source_of arcs j) (j + 1) (get_or next j 0) (next-arc (source_of arcs j) j h refl);
   }
     where
-      first-in : (q k j : ℕ) → First arcs q n k j → FirstIn arcs next q n k j
-      first-in q k j f = record { behind = f.behind; within = f.within; between = λ i l h e. f.between i l h; leaves = λ h. (all_in j h, f.leaves h) }
+      first_in_lem : (q k j : ℕ) → First arcs q n k j → FirstIn arcs next q n k j
+      first_in_lem q k j f = record { behind = f.behind; within = f.within; between = λ i l h e. f.between i l h; leaves = λ h. (all_in j h, f.leaves h) }
 
 -- ---- going along a chain
 

@@ -96,15 +96,15 @@ module _ (m n : ℕ) (arcs first next : List ℕ) (q : ℕ) (seen₀ marks₀ : 
     pub state-goes : j < get_or next j 0
     state-goes = let f = following.behind in omega (arith, f)
 
-    pub state-bound : get_or next j 0 ≤ 8192
-    state-bound = let f = following.within in omega (arith, f, k.few)
+    pub state_bound : get_or next j 0 ≤ 8192
+    state_bound = let f = following.within in omega (arith, f, k.few)
 
     -- the target has its place
     pub target_fits : (x : ℕ) → x ≡ target_of arcs j → x < length seen
     target_fits x e = let f = k.targets j h in omega (arith, f, e, t.marked.seen_fits)
 
-    pub mark-requires : (x : ℕ) → x ≡ target_of arcs j → (q < 1024) × (x < length seen) × (j < length marks)
-    mark-requires x e = (omega (arith, b, k.few_states), target_fits x e, omega (arith, h, t.marked.marks_fit))
+    pub mark_requires : (x : ℕ) → x ≡ target_of arcs j → (q < 1024) × (x < length seen) × (j < length marks)
+    mark_requires x e = (omega (arith, b, k.few_states), target_fits x e, omega (arith, h, t.marked.marks_fit))
 
     pub state-next : (x : ℕ) → x ≡ target_of arcs j → (seen₁ marks₁ : List ℕ) → MarksArc q x j seen marks seen₁ marks₁ → Marking m n arcs q seen₀ marks₀ seen₁ marks₁ (get_or next j 0)
     state-next x e seen₁ marks₁ z =
@@ -218,8 +218,8 @@ module _ (arcs : List ℕ) (j : ℕ) (first next : List ℕ) where
     meaning = meant;
   }
     where
-      was-in : in_chain next j ≡ true
-      was-in = lt-ltb 0 (get_or next j 0) (omega (arith, e))
+      was_in : in_chain next j ≡ true
+      was_in = lt-ltb 0 (get_or next j 0) (omega (arith, e))
 
       meant : (m n : ℕ) → j < n → source_of arcs j < m → LinkedFrom (j + 1) m n arcs first next
           → LinkedFrom j m n arcs (set first q j) (set next j (get_or first q 0)) × SameMarks next (set next j (get_or first q 0))
@@ -230,7 +230,7 @@ module _ (arcs : List ℕ) (j : ℕ) (first next : List ℕ) where
           let r = length-set next j (get_or first q 0) in
           let is : in_chain after j ≡ true = mark_there next j (get_or first q 0) (let x = at.behind in omega (arith, x)) bj in
           let same : SameMarks next after = λ i. elim (ℕ_discrete i j) [
-            | yes p ↦ ap (in_chain after) p ∙ is ∙ sym was-in ∙ ap (in_chain next) (sym p)
+            | yes p ↦ ap (in_chain after) p ∙ is ∙ sym was_in ∙ ap (in_chain next) (sym p)
             | no p ↦ ap (ltb 0) (get_or-set_other next j i (get_or first q 0) 0 p)
           ] in (
             record {
@@ -286,13 +286,13 @@ module _ (m n : ℕ) (arcs : List ℕ) (size : ℕ) (next₀ : List ℕ) (k : Ch
     source_fits : 0 < j → source_of arcs (j - 1) < length filled
     source_fits b = let s = k.sources (j - 1) (omega (arith, b, t.within)) in omega (arith, s, filled_long, k.states_fit)
 
-    pub link-requires : 0 < j → (j - 1 < 8192) × (arc_size * (j - 1) + arc_size ≤ length arcs) × (source_of arcs (j - 1) < length first) × (j - 1 < length next)
-    link-requires b =
+    pub link_requires : 0 < j → (j - 1 < 8192) × (arc_size * (j - 1) + arc_size ≤ length arcs) × (source_of arcs (j - 1) < length first) × (j - 1 < length next)
+    link_requires b =
         let s = source_fits b in
         (omega (arith, b, t.within, k.few), omega (arith, b, t.within, k.whole), omega (arith, s, t.same_first), omega (arith, b, t.within, t.linked.arcs_fit))
 
-    pub link-next : 0 < j → (first₁ next₁ : List ℕ) → LinksArc arcs (j - 1) first next first₁ next₁ → Linking n arcs next₀ filled first₁ next₁ (j - 1)
-    link-next b first₁ next₁ z =
+    pub link_next : 0 < j → (first₁ next₁ : List ℕ) → LinksArc arcs (j - 1) first next first₁ next₁ → Linking n arcs next₀ filled first₁ next₁ (j - 1)
+    link_next b first₁ next₁ z =
         let s : j ≡ j - 1 + 1 = omega arith in
         let y = z.meaning (length filled) n (omega (arith, b, t.within)) (source_fits b) (subst (λ (i : ℕ). LinkedFrom i (length filled) n arcs first next) s t.linked) in
         record {
@@ -303,8 +303,8 @@ module _ (m n : ℕ) (arcs : List ℕ) (size : ℕ) (next₀ : List ℕ) (k : Ch
           same_marks = λ i. y.1 i ∙ t.same_marks i;
         }
 
-    pub link-end : j ≤ 0 → LinksAll m n arcs next₀ first next
-    link-end b =
+    pub link_end : j ≤ 0 → LinksAll m n arcs next₀ first next
+    link_end b =
         let o : j ≡ 0 = omega arith in
         let l = subst (λ (i : ℕ). LinkedFrom i (length filled) n arcs first next) o t.linked in
         record {

@@ -27,12 +27,12 @@ abbrev pub Chained : ℕ → ℕ → List ℕ → List ℕ → List ℕ → Type
 Chained m n arcs first next = ChainedFrom 0 m n arcs first next
 
 -- n arcs of m states may be chained in lists of two lengths
-pub record Chainable (m n : ℕ) (arcs : List ℕ) (forStates forArcs : ℕ) : Type 0 where
+pub record Chainable (m n : ℕ) (arcs : List ℕ) (for_states for_arcs : ℕ) : Type 0 where
   pub whole : arc_size * n ≤ length arcs
   pub few : n ≤ 8192
   pub sources : (j : ℕ) → j < n → source_of arcs j < m
-  pub states_fit : m ≤ forStates
-  pub arcs_fit : n ≤ forArcs
+  pub states_fit : m ≤ for_states
+  pub arcs_fit : n ≤ for_arcs
 
 -- ---- chains of some of the arcs
 

@@ -24,12 +24,12 @@ pub record Marked (m n : ℕ) (arcs seen marks : List ℕ) : Type 0 where
   pub sound : (t q : ℕ) → get_or seen t 0 ≡ q + 1 → Between arcs marks n q t
 
 -- the arc with number j, from q to t, was looked at
-pub record MarksArc (q t j : ℕ) (seen marks seenAfter marksAfter : List ℕ) : Type 0 where
-  pub same_seen : length seenAfter ≡ length seen
-  pub same_marks : length marksAfter ≡ length marks
-  pub grown : Grown marks marksAfter
+pub record MarksArc (q t j : ℕ) (seen marks seen_after marks_after : List ℕ) : Type 0 where
+  pub same_seen : length seen_after ≡ length seen
+  pub same_marks : length marks_after ≡ length marks
+  pub grown : Grown marks marks_after
   pub meaning : (m n : ℕ) (arcs : List ℕ) → Marked m n arcs seen marks → j < n → source_of arcs j ≡ q → target_of arcs j ≡ t
-      → Marked m n arcs seenAfter marksAfter × Between arcs marksAfter n q t
+      → Marked m n arcs seen_after marks_after × Between arcs marks_after n q t
 
 -- the arcs may be marked: all of them stand in the chains of their sources
 pub record Markable (m n : ℕ) (arcs first next : List ℕ) : Type 0 where
@@ -41,21 +41,21 @@ pub record Markable (m n : ℕ) (arcs first next : List ℕ) : Type 0 where
   pub chained : Chained m n arcs first next
 
 -- those of the state q were looked at
-pub record MarksState (m n : ℕ) (arcs : List ℕ) (q : ℕ) (seen marks seenAfter marksAfter : List ℕ) : Type 0 where
-  pub same_seen : length seenAfter ≡ length seen
-  pub same_marks : length marksAfter ≡ length marks
-  pub grown : Grown marks marksAfter
-  pub marked : Marked m n arcs seenAfter marksAfter
-  pub covered : (j : ℕ) → j < n → source_of arcs j ≡ q → Between arcs marksAfter n q (target_of arcs j)
+pub record MarksState (m n : ℕ) (arcs : List ℕ) (q : ℕ) (seen marks seen_after marks_after : List ℕ) : Type 0 where
+  pub same_seen : length seen_after ≡ length seen
+  pub same_marks : length marks_after ≡ length marks
+  pub grown : Grown marks marks_after
+  pub marked : Marked m n arcs seen_after marks_after
+  pub covered : (j : ℕ) → j < n → source_of arcs j ≡ q → Between arcs marks_after n q (target_of arcs j)
 
 -- each arc has one in a chain, or marked to be, between the same states
 abbrev pub Covers : ℕ → List ℕ → List ℕ → Type 0
 Covers n arcs next = (j : ℕ) → j < n → Between arcs next n (source_of arcs j) (target_of arcs j)
 
 -- those of all states were
-pub record MarksAll (n : ℕ) (arcs marks marksAfter : List ℕ) : Type 0 where
-  pub same_marks : length marksAfter ≡ length marks
-  pub covers : Covers n arcs marksAfter
+pub record MarksAll (n : ℕ) (arcs marks marks_after : List ℕ) : Type 0 where
+  pub same_marks : length marks_after ≡ length marks
+  pub covers : Covers n arcs marks_after
 
 -- ---- linking what is marked
 
@@ -71,16 +71,16 @@ abbrev pub SameMarks : List ℕ → List ℕ → Type 0
 SameMarks next after = (i : ℕ) → in_chain after i ≡ in_chain next i
 
 -- the arc with number j was linked, where it is marked
-pub record LinksArc (arcs : List ℕ) (j : ℕ) (first next firstAfter nextAfter : List ℕ) : Type 0 where
-  pub same_first : length firstAfter ≡ length first
-  pub same_next : length nextAfter ≡ length next
-  pub meaning : (m n : ℕ) → j < n → source_of arcs j < m → LinkedFrom (j + 1) m n arcs first next → LinkedFrom j m n arcs firstAfter nextAfter × SameMarks next nextAfter
+pub record LinksArc (arcs : List ℕ) (j : ℕ) (first next first_after next_after : List ℕ) : Type 0 where
+  pub same_first : length first_after ≡ length first
+  pub same_next : length next_after ≡ length next
+  pub meaning : (m n : ℕ) → j < n → source_of arcs j < m → LinkedFrom (j + 1) m n arcs first next → LinkedFrom j m n arcs first_after next_after × SameMarks next next_after
 
 -- all were
-pub record LinksAll (m n : ℕ) (arcs next firstAfter nextAfter : List ℕ) : Type 0 where
-  pub same_next : length nextAfter ≡ length next
-  pub linked : Linked m n arcs firstAfter nextAfter
-  pub same_marks : SameMarks next nextAfter
+pub record LinksAll (m n : ℕ) (arcs next first_after next_after : List ℕ) : Type 0 where
+  pub same_next : length next_after ≡ length next
+  pub linked : Linked m n arcs first_after next_after
+  pub same_marks : SameMarks next next_after
 
 -- the whole: chains in which each arc has one between the same states
 pub record LinksDistinct (m n : ℕ) (arcs first next : List ℕ) : Type 0 where

@@ -24,13 +24,13 @@ use Rattle.automata.specs.Calls.Outcome.{TableCounts, space_of, put, made_of, sl
 use Rattle.automata.proofs.AnswerFacts.{bind_ok, judge-ok}
 use Rattle.automata.proofs.TestFacts.{T_true, ltb_true, ltb_false, ltb_of_lt, ltb_of_le}
 use Rattle.automata.proofs.MaskFacts.{droppable_mask}
-use Rattle.automata.proofs.CallTests.{drop_tape, drop-passed}
+use Rattle.automata.proofs.CallTests.{drop_tape, drop_passed}
 use Rattle.automata.proofs.CallFacts.{put_refused}
 use Rattle.automata.proofs.TapeTables.{fitted-ok}
 use Rattle.automata.proofs.SoundFacts.{sound, table_of_is, sound_decoded, sound_well_formed, sound_holds}
 use Rattle.automata.proofs.MemoryFacts.{decode_reads}
 use Rattle.automata.specs.Layout.{arc_size, state_size}
-use Rattle.table.specs.Answers.{judgedAs, refusalNumber}
+use Rattle.table.specs.Answers.{judged_as, refusal_number}
 use Rattle.table.specs.declared.answer.Refusal.{Refusal}
 use Rattle.table.specs.declared.answer.Judged.{Judged}
 use Rattle.table.specs.declared.answer.Judged.TheVariants.{Fine, Refused}
@@ -40,9 +40,9 @@ use Rattle.tapes_records.specs.Choice.{tapes_left, Droppable}
 use Rattle.intersect_room.specs.Room.{lent_space}
 use Rattle.tapes_records.specs.Results.{fitting, Copied}
 use Rattle.tapes_records.proofs.ChoiceFacts.{left_few}
-use Rattle.tapes.proofs.TapesFacts.{length-projected}
+use Rattle.tapes.proofs.TapesFacts.{length_projected}
 use Rattle.tapes.proofs.DropFacts.{left-named, without-chosen}
-use Rattle.tapes_records.proofs.RoomFacts.{forget-refused, next-refused, fitted_counts, copied-holds, copied-put}
+use Rattle.tapes_records.proofs.RoomFacts.{forget-refused, next-refused, fitted_counts, copied_holds, copied_put}
 
 -- ---- the mask
 
@@ -65,57 +65,57 @@ marks_within n mask few byte h =
     sym (droppable_mask n mask few byte ∙ ap (λ b. and b (ltb (ones mask) n)) (ltb_of_lt (rw one-mul at k)))
 
 -- ---- the judgement
-module _ (m : Memory) (mask : ℕ) (space : Space) (j : Judged) (e : judgedAs j ≡ forget (decode_table m)) where
+module _ (m : Memory) (mask : ℕ) (space : Space) (j : Judged) (e : judged_as j ≡ forget (decode_table m)) where
   -- the table is refused
-  pub drop_table_judged : (why : Refusal) → j ≡ Refused why → judgedAs j ≡ forget (drop_answer m mask space)
+  pub drop_table_judged : (why : Refusal) → j ≡ Refused why → judged_as j ≡ forget (drop_answer m mask space)
   unfolding drop_answer
   drop_table_judged why h = next-refused (decode_table m) (λ A. drop_tapes space (in_mask mask) A) j why e h
 
   module _ (h : j ≡ Fine) where
-    pub drop-sound : Sound m
-    drop-sound = judged_sound m (sym e ∙ ap judgedAs h)
+    pub drop_sound : Sound m
+    drop_sound = judged_sound m (sym e ∙ ap judged_as h)
 
-    drop-is : drop_answer m mask space ≡ drop_tapes space (in_mask mask) (table_of m)
+    drop_is : drop_answer m mask space ≡ drop_tapes space (in_mask mask) (table_of m)
     unfolding drop_answer
-    drop-is = ap (λ (a : Answer (Automaton ℕ)). a >>= λ A. drop_tapes space (in_mask mask) A) (sound_decoded m drop-sound)
+    drop_is = ap (λ (a : Answer (Automaton ℕ)). a >>= λ A. drop_tapes space (in_mask mask) A) (sound_decoded m drop_sound)
 
     -- the mask is refused
-    pub drop-marks-judged : (b : Bool) → b ≡ droppable (in_mask mask) m.tapes → not b ≡ true → refused refusal.tape ≡ forget (drop_answer m mask space)
-    drop-marks-judged b f g =
-        let d : droppable (in_mask mask) (table_of m).tapes ≡ false = ap (droppable (in_mask mask)) (sym (sound_holds m drop-sound).tapes) ∙ sym f ∙ not-true b g in
-        sym (ap forget (drop-is ∙ drop_tape space (table_of m) (in_mask mask) d))
+    pub drop_marks_judged : (b : Bool) → b ≡ droppable (in_mask mask) m.tapes → not b ≡ true → refused refusal.tape ≡ forget (drop_answer m mask space)
+    drop_marks_judged b f g =
+        let d : droppable (in_mask mask) (table_of m).tapes ≡ false = ap (droppable (in_mask mask)) (sym (sound_holds m drop_sound).tapes) ∙ sym f ∙ not-true b g in
+        sym (ap forget (drop_is ∙ drop_tape space (table_of m) (in_mask mask) d))
 
     -- the space decides
-    pub drop-space-judged : (b : Bool) → b ≡ droppable (in_mask mask) m.tapes → not b ≡ false → (r : Answer (Unit {0})) → r ≡ fitting m.states m.arcs space
+    pub drop_space_judged : (b : Bool) → b ≡ droppable (in_mask mask) m.tapes → not b ≡ false → (r : Answer (Unit {0})) → r ≡ fitting m.states m.arcs space
         → r ≡ forget (drop_answer m mask space)
-    drop-space-judged b f g r z =
-        let t = sound_holds m drop-sound in
+    drop_space_judged b f g r z =
+        let t = sound_holds m drop_sound in
         let A = without (in_mask mask) (table_of m) in
         let d : droppable (in_mask mask) (table_of m).tapes ≡ true = ap (droppable (in_mask mask)) (sym t.tapes) ∙ sym f ∙ not-false b g in
         z ∙ ap₂ (λ (i k : ℕ). fitting i k space) t.states (t.arcs ∙ sym (length-map (table_of m).arcs (relabelled_arc (drop_at (in_mask mask)))))
-        ∙ fitted_counts space A ∙ sym (ap forget (drop-is ∙ drop-passed space (table_of m) (in_mask mask) d))
+        ∙ fitted_counts space A ∙ sym (ap forget (drop_is ∙ drop_passed space (table_of m) (in_mask mask) d))
 
 -- ---- the copy
 
-module _ (m : Memory) (mask : ℕ) (d : Droppable m mask) (oldStates oldArcs newStates newArcs : List ℕ) (c : Copied m 0 0 oldStates oldArcs newStates newArcs) where
+module _ (m : Memory) (mask : ℕ) (d : Droppable m mask) (old_states old_arcs new_states new_arcs : List ℕ) (c : Copied m 0 0 old_states old_arcs new_states new_arcs) where
   -- the copy
   abbrev copy : Memory
-  copy = memory_of m.tapes m.states m.arcs newStates newArcs
+  copy = memory_of m.tapes m.states m.arcs new_states new_arcs
 
   -- holds the table
   copy_decoded : decode_table copy ≡ ok (table_of m)
   copy_decoded =
       let w = sound_well_formed m d.sound in
-      decode_reads copy (table_of m) w (copied-holds m (table_of m) w (sound_holds m d.sound) oldStates oldArcs newStates newArcs c)
+      decode_reads copy (table_of m) w (copied_holds m (table_of m) w (sound_holds m d.sound) old_states old_arcs new_states new_arcs c)
 
   -- of which the marked tapes may be dropped
   pub copy_droppable : Droppable copy mask
   copy_droppable = record { sound = sound copy (table_of m) copy_decoded; marks = d.marks }
 
   -- dropped in place there, they are dropped
-  pub copy_dropped : (r : Answer TableCounts) (states arcs : List ℕ) → state_size * m.states ≤ length oldStates → arc_size * m.arcs ≤ length oldArcs
-      → made_of r states arcs ≡ drop_step copy (in_mask mask) (slices_of newStates newArcs)
-      → made_of r states arcs ≡ put (ok (without (in_mask mask) (table_of m))) (slices_of oldStates oldArcs)
+  pub copy_dropped : (r : Answer TableCounts) (states arcs : List ℕ) → state_size * m.states ≤ length old_states → arc_size * m.arcs ≤ length old_arcs
+      → made_of r states arcs ≡ drop_step copy (in_mask mask) (slices_of new_states new_arcs)
+      → made_of r states arcs ≡ put (ok (without (in_mask mask) (table_of m))) (slices_of old_states old_arcs)
   unfolding drop_step
   copy_dropped r states arcs s a e =
       let A = table_of m in
@@ -125,30 +125,30 @@ module _ (m : Memory) (mask : ℕ) (d : Droppable m mask) (oldStates oldArcs new
       let b = left_few (in_mask mask) 0 A.tapes in
       let l : length (encode_arcs (without (in_mask mask) A)) ≡ arc_size * m.arcs =
       ap (λ (R : Automaton ℕ). length (encode_arcs R)) (without-chosen (in_mask mask) A w)
-      ∙ length-projected m A w h js (omega (arith, b, w.counts.tapes_fit)) (left-named (in_mask mask) 0 A.tapes m.tapes (omega (arith, h.tapes))) in
-      e ∙ ap (λ (x : Answer (Automaton ℕ)). put (x >>= λ K. ok (without (in_mask mask) K)) (slices_of newStates newArcs)) copy_decoded
-      ∙ copied-put m A w h oldStates oldArcs newStates newArcs c (without (in_mask mask) A) refl l s a
+      ∙ length_projected m A w h js (omega (arith, b, w.counts.tapes_fit)) (left-named (in_mask mask) 0 A.tapes m.tapes (omega (arith, h.tapes))) in
+      e ∙ ap (λ (x : Answer (Automaton ℕ)). put (x >>= λ K. ok (without (in_mask mask) K)) (slices_of new_states new_arcs)) copy_decoded
+      ∙ copied_put m A w h old_states old_arcs new_states new_arcs c (without (in_mask mask) A) refl l s a
 
 -- ---- the whole call
 
-module _ (m : Memory) (mask : ℕ) (oldStates oldArcs : List ℕ) (j : Judged)
-    (e : judgedAs j ≡ forget (drop_answer m mask (lent_space (length oldStates / state_size) (length oldArcs / arc_size)))) where
+module _ (m : Memory) (mask : ℕ) (old_states old_arcs : List ℕ) (j : Judged)
+    (e : judged_as j ≡ forget (drop_answer m mask (lent_space (length old_states / state_size) (length old_arcs / arc_size)))) where
   -- a refusal
-  pub drop_refused : (why : Refusal) → j ≡ Refused why → made_of (refused (refusalNumber why)) oldStates oldArcs ≡ drop_outcome m mask (slices_of oldStates oldArcs)
+  pub drop_refused : (why : Refusal) → j ≡ Refused why → made_of (refused (refusal_number why)) old_states old_arcs ≡ drop_outcome m mask (slices_of old_states old_arcs)
   unfolding drop_outcome
   drop_refused why h =
-      let s = slices_of oldStates oldArcs in
-      sym (put_refused s (refusalNumber why))
-      ∙ ap (λ (a : Answer (Automaton ℕ)). put a s) (sym (forget-refused (drop_answer m mask (space_of s)) (refusalNumber why) (sym e ∙ ap judgedAs h)))
+      let s = slices_of old_states old_arcs in
+      sym (put_refused s (refusal_number why))
+      ∙ ap (λ (a : Answer (Automaton ℕ)). put a s) (sym (forget-refused (drop_answer m mask (space_of s)) (refusal_number why) (sym e ∙ ap judged_as h)))
 
   module _ (h : j ≡ Fine) where
     -- what the judgement told
-    drop-told : Droppable m mask × (state_size * m.states ≤ length oldStates) × (arc_size * m.arcs ≤ length oldArcs)
-        × (drop_answer m mask (lent_space (length oldStates / state_size) (length oldArcs / arc_size)) ≡ ok (without (in_mask mask) (table_of m)))
+    drop_told : Droppable m mask × (state_size * m.states ≤ length old_states) × (arc_size * m.arcs ≤ length old_arcs)
+        × (drop_answer m mask (lent_space (length old_states / state_size) (length old_arcs / arc_size)) ≡ ok (without (in_mask mask) (table_of m)))
     unfolding drop_answer drop_tapes
-    drop-told =
-        let space = lent_space (length oldStates / state_size) (length oldArcs / arc_size) in
-        let a = forget-ok (drop_answer m mask space) (sym e ∙ ap judgedAs h) in
+    drop_told =
+        let space = lent_space (length old_states / state_size) (length old_arcs / arc_size) in
+        let a = forget-ok (drop_answer m mask space) (sym e ∙ ap judged_as h) in
         let p = bind_ok (decode_table m) (λ A. drop_tapes space (in_mask mask) A) a.0 a.1 in
         let A = p.0 in
         let q = judge-ok (droppable (in_mask mask) A.tapes) _ _ a.0 p.2 in
@@ -166,11 +166,11 @@ module _ (m : Memory) (mask : ℕ) (oldStates oldArcs : List ℕ) (j : Judged)
         )
 
     -- what the copy asks
-    pub drop-ready : Droppable m mask × (state_size * m.states ≤ length oldStates) × (arc_size * m.arcs ≤ length oldArcs)
-    drop-ready = (drop-told.0, drop-told.1, drop-told.2)
+    pub drop_ready : Droppable m mask × (state_size * m.states ≤ length old_states) × (arc_size * m.arcs ≤ length old_arcs)
+    drop_ready = (drop_told.0, drop_told.1, drop_told.2)
 
     -- and what it leaves
-    pub drop-done : (r : Answer TableCounts) (states arcs : List ℕ) → made_of r states arcs ≡ put (ok (without (in_mask mask) (table_of m))) (slices_of oldStates oldArcs)
-        → made_of r states arcs ≡ drop_outcome m mask (slices_of oldStates oldArcs)
+    pub drop_done : (r : Answer TableCounts) (states arcs : List ℕ) → made_of r states arcs ≡ put (ok (without (in_mask mask) (table_of m))) (slices_of old_states old_arcs)
+        → made_of r states arcs ≡ drop_outcome m mask (slices_of old_states old_arcs)
     unfolding drop_outcome
-    drop-done r states arcs f = f ∙ ap (λ (a : Answer (Automaton ℕ)). put a (slices_of oldStates oldArcs)) (sym drop-told.3)
+    drop_done r states arcs f = f ∙ ap (λ (a : Answer (Automaton ℕ)). put a (slices_of old_states old_arcs)) (sym drop_told.3)

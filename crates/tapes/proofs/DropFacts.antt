@@ -31,7 +31,7 @@ use Rattle.table.proofs.SoundFacts.{few_tapes}
 use Rattle.tapes_records.specs.Choice.{Choice, tapes_left, Droppable}
 use Rattle.tapes_records.specs.Rewritten.{rewritten, chosen_arc}
 use Rattle.tapes_records.proofs.ChoiceFacts.{left_few}
-use Rattle.tapes.proofs.TapesFacts.{Named, chosen-in-place}
+use Rattle.tapes.proofs.TapesFacts.{Named, chosen_in_place}
 
 -- ---- strings
 
@@ -145,7 +145,7 @@ dropped_in_place m mask left kept arcs2 d byte e f g =
     let slices = slices_of m.state_bytes m.arc_bytes in
     let b = left_few (in_mask mask) 0 m.tapes in
     ap (λ (k : ℕ). made_of (ok (record { tapes = k; states = m.states; arcs = m.arcs })) m.state_bytes arcs2) q
-    ∙ chosen-in-place m T w h js (omega (arith, b, few_tapes m s)) (left-named (in_mask mask) 0 m.tapes m.tapes (omega arith)) arcs2
+    ∙ chosen_in_place m T w h js (omega (arith, b, few_tapes m s)) (left-named (in_mask mask) 0 m.tapes m.tapes (omega arith)) arcs2
     (g ∙ ap (λ (x : List ℕ). splice 0 (rewritten (chosen_arc x) m.arcs m.arc_bytes) m.arc_bytes) e)
     ∙ ap (λ (n : ℕ). put (ok (projected (tapes_left (in_mask mask) 0 n) T)) slices) h.tapes
     ∙ ap (λ (A : Automaton ℕ). put (ok A) slices) (sym (without-chosen (in_mask mask) T w))

@@ -27,7 +27,7 @@ use Rattle.automata.proofs.TapeTables.{fitted-ok}
 use Rattle.automata.proofs.SoundFacts.{sound, table_of_is, sound_decoded, sound_well_formed, sound_holds}
 use Rattle.automata.specs.Layout.{arc_size, state_size}
 use Rattle.table.specs.Region.{splice}
-use Rattle.table.specs.Answers.{judgedAs, refusalNumber}
+use Rattle.table.specs.Answers.{judged_as, refusal_number}
 use Rattle.table.specs.declared.answer.Refusal.{Refusal}
 use Rattle.table.specs.declared.answer.Judged.{Judged}
 use Rattle.table.specs.declared.answer.Judged.TheVariants.{Fine, Refused}
@@ -38,8 +38,8 @@ use Rattle.tapes_records.specs.Choice.{Choice}
 use Rattle.tapes_records.specs.Rewritten.{rewritten, chosen_arc}
 use Rattle.intersect_room.specs.Room.{lent_space}
 use Rattle.tapes_records.specs.Results.{fitting, Copied, Choosable}
-use Rattle.tapes.proofs.TapesFacts.{Named, length-projected, chosen-in-place}
-use Rattle.tapes_records.proofs.RoomFacts.{forget-refused, next-refused, fitted_counts, copied-holds, copied-put}
+use Rattle.tapes.proofs.TapesFacts.{Named, length_projected, chosen_in_place}
+use Rattle.tapes_records.proofs.RoomFacts.{forget-refused, next-refused, fitted_counts, copied_holds, copied_put}
 
 -- ---- the choice
 
@@ -73,74 +73,74 @@ choice_named m js c = record {
 }
 
 -- ---- the copy
-module _ (m : Memory) (js : List ℕ) (c : Choosable m js) (oldStates oldArcs newStates newArcs : List ℕ) (k : Copied m 0 0 oldStates oldArcs newStates newArcs) where
+module _ (m : Memory) (js : List ℕ) (c : Choosable m js) (old_states old_arcs new_states new_arcs : List ℕ) (k : Copied m 0 0 old_states old_arcs new_states new_arcs) where
   -- chosen there, the tapes are chosen
-  pub copy_chosen : (arcs : List ℕ) → state_size * m.states ≤ length oldStates → arc_size * m.arcs ≤ length oldArcs
-      → arcs ≡ splice 0 (rewritten (chosen_arc (take (length js) js)) m.arcs newArcs) newArcs
-      → made_of (ok (record { tapes = length js; states = m.states; arcs = m.arcs })) newStates arcs ≡ put (ok (projected js (table_of m))) (slices_of oldStates oldArcs)
+  pub copy_chosen : (arcs : List ℕ) → state_size * m.states ≤ length old_states → arc_size * m.arcs ≤ length old_arcs
+      → arcs ≡ splice 0 (rewritten (chosen_arc (take (length js) js)) m.arcs new_arcs) new_arcs
+      → made_of (ok (record { tapes = length js; states = m.states; arcs = m.arcs })) new_states arcs ≡ put (ok (projected js (table_of m))) (slices_of old_states old_arcs)
   copy_chosen arcs s a e =
       let A = table_of m in
       let w = sound_well_formed m c.sound in
       let h = sound_holds m c.sound in
       let n = choosable-named m js c in
-      chosen-in-place (memory_of m.tapes m.states m.arcs newStates newArcs) A w (copied-holds m A w h oldStates oldArcs newStates newArcs k) js c.few n arcs
-      (e ∙ ap (λ (x : List ℕ). splice 0 (rewritten (chosen_arc x) m.arcs newArcs) newArcs) (take_all (length js) js (omega arith)))
-      ∙ copied-put m A w h oldStates oldArcs newStates newArcs k (projected js A) refl (length-projected m A w h js c.few n) s a
+      chosen_in_place (memory_of m.tapes m.states m.arcs new_states new_arcs) A w (copied_holds m A w h old_states old_arcs new_states new_arcs k) js c.few n arcs
+      (e ∙ ap (λ (x : List ℕ). splice 0 (rewritten (chosen_arc x) m.arcs new_arcs) new_arcs) (take_all (length js) js (omega arith)))
+      ∙ copied_put m A w h old_states old_arcs new_states new_arcs k (projected js A) refl (length_projected m A w h js c.few n) s a
 
 -- ---- the judgement
-module _ (m : Memory) (js : List ℕ) (space : Space) (j : Judged) (e : judgedAs j ≡ forget (decode_table m)) where
+module _ (m : Memory) (js : List ℕ) (space : Space) (j : Judged) (e : judged_as j ≡ forget (decode_table m)) where
   -- the table is refused
-  pub project-table_judged : (why : Refusal) → j ≡ Refused why → judgedAs j ≡ forget (project_answer m js space)
+  pub project-table_judged : (why : Refusal) → j ≡ Refused why → judged_as j ≡ forget (project_answer m js space)
   unfolding project_answer
   project-table_judged why h = next-refused (decode_table m) (λ A. project space js A) j why e h
 
   module _ (h : j ≡ Fine) where
-    project-sound : Sound m
-    project-sound = judged_sound m (sym e ∙ ap judgedAs h)
+    project_sound : Sound m
+    project_sound = judged_sound m (sym e ∙ ap judged_as h)
 
-    project-is : project_answer m js space ≡ project space js (table_of m)
+    project_is : project_answer m js space ≡ project space js (table_of m)
     unfolding project_answer
-    project-is = ap (λ (a : Answer (Automaton ℕ)). a >>= λ A. project space js A) (sound_decoded m project-sound)
+    project_is = ap (λ (a : Answer (Automaton ℕ)). a >>= λ A. project space js A) (sound_decoded m project_sound)
 
     -- too many tapes are chosen
-    pub project-width-judged : 8 < length js → refused refusal.width ≡ forget (project_answer m js space)
-    project-width-judged l = sym (ap forget (project-is ∙ project-width space (table_of m) js (lt-leb (length js) 8 l)))
+    pub project-width_judged : 8 < length js → refused refusal.width ≡ forget (project_answer m js space)
+    project-width_judged l = sym (ap forget (project_is ∙ project-width space (table_of m) js (lt-leb (length js) 8 l)))
 
     module _ (l : length js ≤ 8) (b : Bool) (f : b ≡ choosable js m.tapes) where
       -- the choice is refused
-      pub project-choice-judged : not b ≡ true → refused refusal.tape ≡ forget (project_answer m js space)
-      project-choice-judged g =
-          let d : choosable js (table_of m).tapes ≡ false = ap (choosable js) (sym (sound_holds m project-sound).tapes) ∙ sym f ∙ not-true b g in
-          sym (ap forget (project-is ∙ project-tape space (table_of m) js (le-leb (length js) 8 l) d))
+      pub project_choice_judged : not b ≡ true → refused refusal.tape ≡ forget (project_answer m js space)
+      project_choice_judged g =
+          let d : choosable js (table_of m).tapes ≡ false = ap (choosable js) (sym (sound_holds m project_sound).tapes) ∙ sym f ∙ not-true b g in
+          sym (ap forget (project_is ∙ project-tape space (table_of m) js (le-leb (length js) 8 l) d))
 
       -- the space decides
-      pub project-space-judged : not b ≡ false → (r : Answer (Unit {0})) → r ≡ fitting m.states m.arcs space → r ≡ forget (project_answer m js space)
-      project-space-judged g r z =
-          let t = sound_holds m project-sound in
+      pub project-space_judged : not b ≡ false → (r : Answer (Unit {0})) → r ≡ fitting m.states m.arcs space → r ≡ forget (project_answer m js space)
+      project-space_judged g r z =
+          let t = sound_holds m project_sound in
           let d : choosable js (table_of m).tapes ≡ true = ap (choosable js) (sym t.tapes) ∙ sym f ∙ not-false b g in
           z ∙ ap₂ (λ (i k : ℕ). fitting i k space) t.states (t.arcs ∙ sym (length-map (table_of m).arcs (relabelled_arc (chosen js))))
-          ∙ fitted_counts space (projected js (table_of m)) ∙ sym (ap forget (project-is ∙ project-passed space (table_of m) js (le-leb (length js) 8 l) d))
+          ∙ fitted_counts space (projected js (table_of m)) ∙ sym (ap forget (project_is ∙ project-passed space (table_of m) js (le-leb (length js) 8 l) d))
 
 -- ---- the whole call
 
-module _ (m : Memory) (js : List ℕ) (oldStates oldArcs : List ℕ) (j : Judged)
-    (e : judgedAs j ≡ forget (project_answer m js (lent_space (length oldStates / state_size) (length oldArcs / arc_size)))) where
+module _ (m : Memory) (js : List ℕ) (old_states old_arcs : List ℕ) (j : Judged)
+    (e : judged_as j ≡ forget (project_answer m js (lent_space (length old_states / state_size) (length old_arcs / arc_size)))) where
   -- a refusal
-  pub project-refused : (why : Refusal) → j ≡ Refused why → made_of (refused (refusalNumber why)) oldStates oldArcs ≡ project_outcome m js (slices_of oldStates oldArcs)
+  pub project-refused : (why : Refusal) → j ≡ Refused why → made_of (refused (refusal_number why)) old_states old_arcs ≡ project_outcome m js (slices_of old_states old_arcs)
   unfolding project_outcome
   project-refused why h =
-      let s = slices_of oldStates oldArcs in
-      sym (put_refused s (refusalNumber why))
-      ∙ ap (λ (a : Answer (Automaton ℕ)). put a s) (sym (forget-refused (project_answer m js (space_of s)) (refusalNumber why) (sym e ∙ ap judgedAs h)))
+      let s = slices_of old_states old_arcs in
+      sym (put_refused s (refusal_number why))
+      ∙ ap (λ (a : Answer (Automaton ℕ)). put a s) (sym (forget-refused (project_answer m js (space_of s)) (refusal_number why) (sym e ∙ ap judged_as h)))
 
   module _ (h : j ≡ Fine) where
     -- what the judgement told
-    project-told : Choosable m js × (state_size * m.states ≤ length oldStates) × (arc_size * m.arcs ≤ length oldArcs)
-        × (project_answer m js (lent_space (length oldStates / state_size) (length oldArcs / arc_size)) ≡ ok (projected js (table_of m)))
+    project-told : Choosable m js × (state_size * m.states ≤ length old_states) × (arc_size * m.arcs ≤ length old_arcs)
+        × (project_answer m js (lent_space (length old_states / state_size) (length old_arcs / arc_size)) ≡ ok (projected js (table_of m)))
     unfolding project_answer project
     project-told =
-        let space = lent_space (length oldStates / state_size) (length oldArcs / arc_size) in
-        let a = forget-ok (project_answer m js space) (sym e ∙ ap judgedAs h) in
+        let space = lent_space (length old_states / state_size) (length old_arcs / arc_size) in
+        let a = forget-ok (project_answer m js space) (sym e ∙ ap judged_as h) in
         let p = bind_ok (decode_table m) (λ A. project space js A) a.0 a.1 in
         let A = p.0 in
         let o = judge-ok (leb (length js) 8) _ _ a.0 p.2 in
@@ -163,11 +163,11 @@ module _ (m : Memory) (js : List ℕ) (oldStates oldArcs : List ℕ) (j : Judged
         )
 
     -- what the copy asks
-    pub project-ready : Choosable m js × (state_size * m.states ≤ length oldStates) × (arc_size * m.arcs ≤ length oldArcs)
-    project-ready = (project-told.0, project-told.1, project-told.2)
+    pub project_ready : Choosable m js × (state_size * m.states ≤ length old_states) × (arc_size * m.arcs ≤ length old_arcs)
+    project_ready = (project-told.0, project-told.1, project-told.2)
 
     -- and what it leaves
-    pub project-done : (r : Answer TableCounts) (states arcs : List ℕ) → made_of r states arcs ≡ put (ok (projected js (table_of m))) (slices_of oldStates oldArcs)
-        → made_of r states arcs ≡ project_outcome m js (slices_of oldStates oldArcs)
+    pub project_done : (r : Answer TableCounts) (states arcs : List ℕ) → made_of r states arcs ≡ put (ok (projected js (table_of m))) (slices_of old_states old_arcs)
+        → made_of r states arcs ≡ project_outcome m js (slices_of old_states old_arcs)
     unfolding project_outcome
-    project-done r states arcs f = f ∙ ap (λ (a : Answer (Automaton ℕ)). put a (slices_of oldStates oldArcs)) (sym project-told.3)
+    project_done r states arcs f = f ∙ ap (λ (a : Answer (Automaton ℕ)). put a (slices_of old_states old_arcs)) (sym project-told.3)

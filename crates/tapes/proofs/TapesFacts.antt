@@ -14,7 +14,7 @@ use Rattle.automata.specs.Tapes.{chosen}
 use Rattle.automata.specs.Projection.{relabelled_arc, projected}
 use Rattle.automata.specs.Answer.{ok}
 use Rattle.automata.specs.Calls.Outcome.{overwrite, put, made_of, slices_of}
-use Rattle.automata.proofs.RecordFacts.{All_at, Sized, record-at, chunks-writeAll}
+use Rattle.automata.proofs.RecordFacts.{All_at, Sized, record_at_lem, chunks_write_all}
 use Rattle.automata.proofs.FormatFacts.{all_sized, length_many}
 use Rattle.automata.proofs.MemoryFacts.{label_record_lawful, arc_record_lawful, arc_record-width, length_encode_states, length_encode_arcs}
 use Rattle.automata.proofs.CallFacts.{put-ok}
@@ -42,7 +42,7 @@ unfolding part
 label_chosen ls rest j v p q =
     let e : label_size * (j - 1) ≡ (j - 1) * label_size = omega arith in
     ap (λ (k : ℕ). take label_size (drop k (write_all label_record.write ls ++ rest))) e
-    ∙ record-at label_record.write label_size [] (j - 1) ls rest (all_sized label_record_lawful ls v) (omega arith)
+    ∙ record_at_lem label_record.write label_size [] (j - 1) ls rest (all_sized label_record_lawful ls v) (omega arith)
 
 -- the labels on the tapes of a list
 labels_chosen : (ls : List (List ℕ)) (rest js : List ℕ) → All Label ls → Named (length ls) js
@@ -100,7 +100,7 @@ module _ (m : Memory) (T : Automaton ℕ) (w : WellFormed T) (h : Holds m T) whe
   arcs_cut =
       let rest = drop (m.arcs * arc_size) m.arc_bytes in
       ap₂ (λ (n : ℕ) (x : List ℕ). chunks arc_size n x) h.arcs (sym (take-append-drop (m.arcs * arc_size) m.arc_bytes) ∙ ap (λ (x : List ℕ). x ++ rest) h.arc_bytes)
-      ∙ chunks-writeAll (arc_record T.tapes (length T.states)).write arc_size T.arcs rest arcs_sized
+      ∙ chunks_write_all (arc_record T.tapes (length T.states)).write arc_size T.arcs rest arcs_sized
 
   -- the states stand where they would be written
   pub states_stand : overwrite (encode_states T) m.state_bytes ≡ m.state_bytes
@@ -118,17 +118,17 @@ module _ (m : Memory) (T : Automaton ℕ) (w : WellFormed T) (h : Holds m T) whe
         ∙ arcs_rewritten T.tapes (length T.states) js w.counts.tapes_fit short (subst (λ (n : ℕ). Named n js) h.tapes named) T.arcs w.arcs
 
     -- they take up as many bytes as before
-    pub length-projected : length (encode_arcs (projected js T)) ≡ arc_size * m.arcs
-    length-projected =
+    pub length_projected : length (encode_arcs (projected js T)) ≡ arc_size * m.arcs
+    length_projected =
         let e = ap length h.arc_bytes ∙ length_encode_arcs T w in
         let t : length (take (m.arcs * arc_size) m.arc_bytes) ≡ min (m.arcs * arc_size) (length m.arc_bytes) = length-take (m.arcs * arc_size) m.arc_bytes in
         ap length (sym table-rewritten)
         ∙ length_rewritten (chosen_arc js) (λ arc. length_chosen_arc js arc short) m.arcs m.arc_bytes (omega (arith, e, t, h.arcs))
 
     -- chosen in place
-    pub chosen-in-place : (arcs2 : List ℕ) → arcs2 ≡ splice 0 (rewritten (chosen_arc js) m.arcs m.arc_bytes) m.arc_bytes
+    pub chosen_in_place : (arcs2 : List ℕ) → arcs2 ≡ splice 0 (rewritten (chosen_arc js) m.arcs m.arc_bytes) m.arc_bytes
         → made_of (ok (record { tapes = length js; states = m.states; arcs = m.arcs })) m.state_bytes arcs2 ≡ put (ok (projected js T)) (slices_of m.state_bytes m.arc_bytes)
-    chosen-in-place arcs2 e =
+    chosen_in_place arcs2 e =
         let f : arcs2 ≡ overwrite (encode_arcs (projected js T)) m.arc_bytes =
         e ∙ ap (λ (x : List ℕ). splice 0 x m.arc_bytes) table-rewritten ∙ splice_front (encode_arcs (projected js T)) m.arc_bytes in
         let g : m.arcs ≡ length (map (relabelled_arc (chosen js)) T.arcs) = h.arcs ∙ sym (length-map T.arcs (relabelled_arc (chosen js))) in

@@ -27,7 +27,7 @@ use Rattle.automata.proofs.TapeTables.{fitted-ok}
 use Rattle.automata.proofs.SoundFacts.{sound, table_of_is, sound_decoded, sound_well_formed, sound_holds}
 use Rattle.automata.specs.Layout.{arc_size, state_size}
 use Rattle.table.specs.Region.{splice}
-use Rattle.table.specs.Answers.{judgedAs, refusalNumber}
+use Rattle.table.specs.Answers.{judged_as, refusal_number}
 use Rattle.table.specs.declared.answer.Refusal.{Refusal}
 use Rattle.table.specs.declared.answer.Judged.{Judged}
 use Rattle.table.specs.declared.answer.Judged.TheVariants.{Fine, Refused}
@@ -39,7 +39,7 @@ use Rattle.tapes_records.specs.Rewritten.{rewritten, raised_arc}
 use Rattle.intersect_room.specs.Room.{lent_space}
 use Rattle.tapes_records.specs.Results.{fitting, Copies, Copied, Raisable, AllRaisable, Appends}
 use Rattle.tapes.proofs.TapesFacts.{arcs_cut}
-use Rattle.tapes_records.proofs.RoomFacts.{forget-refused, next-refused, fitted_counts, states-copied, arcs-copied, states_length, arcs_length}
+use Rattle.tapes_records.proofs.RoomFacts.{forget-refused, next-refused, fitted_counts, states_copied, arcs_copied, states_length, arcs_length}
 use Rattle.tapes_records.proofs.RaiseFacts.{arcs_shifted, arcs_raisable, length_raised_arc}
 use Rattle.tapes_records.proofs.RewriteFacts.{length_rewritten}
 
@@ -67,8 +67,8 @@ module _ (one two : Memory) (states arcs : ℕ) (p : Appends one two states arcs
     arcs_fit = omega (arith, p.arcs_fit, f, h);
   }
 
-module _ (one two : Memory) (oldStates oldArcs : List ℕ) (p : Appends one two (length oldStates) (length oldArcs)) (states1 arcs1 states2 arcs2 : List ℕ)
-    (c : Copied one 0 0 oldStates oldArcs states1 arcs1) (d : Copied two (state_size * one.states) (arc_size * one.arcs) states1 arcs1 states2 arcs2) where
+module _ (one two : Memory) (old_states old_arcs : List ℕ) (p : Appends one two (length old_states) (length old_arcs)) (states1 arcs1 states2 arcs2 : List ℕ)
+    (c : Copied one 0 0 old_states old_arcs states1 arcs1) (d : Copied two (state_size * one.states) (arc_size * one.arcs) states1 arcs1 states2 arcs2) where
   -- the two tables
   abbrev A : Automaton ℕ
   A = table_of one
@@ -93,28 +93,28 @@ module _ (one two : Memory) (oldStates oldArcs : List ℕ) (p : Appends one two 
   tapes_equal = sym hb.tapes ∙ sym p.equal_tapes ∙ ha.tapes
 
   -- the states of both
-  pub states_appended : states2 ≡ overwrite (encode_states (appended A B)) oldStates
+  pub states_appended : states2 ≡ overwrite (encode_states (appended A B)) old_states
   states_appended =
       let l = states_length one A wa ha in
       let k = states_length two B wb hb in
       let f = p.states_fit in
-      splice-behind 0 (state_size * one.states) (encode_states A) (encode_states B) oldStates states1 states2 (states-copied one A wa ha 0 0 oldStates oldArcs states1 arcs1 c)
-      (states-copied two B wb hb (state_size * one.states) (arc_size * one.arcs) states1 arcs1 states2 arcs2 d) (omega (arith, l)) (omega (arith, l, k, f))
-      ∙ ap (λ (x : List ℕ). splice 0 x oldStates) (sym (write_all_append state_record.write A.states B.states))
-      ∙ splice_front (encode_states (appended A B)) oldStates
+      splice-behind 0 (state_size * one.states) (encode_states A) (encode_states B) old_states states1 states2 (states_copied one A wa ha 0 0 old_states old_arcs states1 arcs1 c)
+      (states_copied two B wb hb (state_size * one.states) (arc_size * one.arcs) states1 arcs1 states2 arcs2 d) (omega (arith, l)) (omega (arith, l, k, f))
+      ∙ ap (λ (x : List ℕ). splice 0 x old_states) (sym (write_all_append state_record.write A.states B.states))
+      ∙ splice_front (encode_states (appended A B)) old_states
 
   -- the arcs of the first
-  first_arcs : arcs1 ≡ splice 0 (encode_arcs A) oldArcs
-  first_arcs = arcs-copied one A wa ha 0 0 oldStates oldArcs states1 arcs1 c
+  first_arcs : arcs1 ≡ splice 0 (encode_arcs A) old_arcs
+  first_arcs = arcs_copied one A wa ha 0 0 old_states old_arcs states1 arcs1 c
 
-  first_length : length arcs1 ≡ length oldArcs
-  first_length = ap length first_arcs ∙ length_splice 0 (encode_arcs A) oldArcs (omega (arith, arcs_length one A wa ha, p.arcs_fit))
+  first_length : length arcs1 ≡ length old_arcs
+  first_length = ap length first_arcs ∙ length_splice 0 (encode_arcs A) old_arcs (omega (arith, arcs_length one A wa ha, p.arcs_fit))
 
   -- those of the second behind them
   second_arcs : arcs2 ≡ splice (arc_size * one.arcs) (encode_arcs B) arcs1
-  second_arcs = arcs-copied two B wb hb (state_size * one.states) (arc_size * one.arcs) states1 arcs1 states2 arcs2 d
+  second_arcs = arcs_copied two B wb hb (state_size * one.states) (arc_size * one.arcs) states1 arcs1 states2 arcs2 d
 
-  second_length : length arcs2 ≡ length oldArcs
+  second_length : length arcs2 ≡ length old_arcs
   second_length =
       ap length second_arcs
       ∙ length_splice (arc_size * one.arcs) (encode_arcs B) arcs1 (omega (arith, arcs_length two B wb hb, p.arcs_fit, first_length)) ∙ first_length
@@ -152,7 +152,7 @@ module _ (one two : Memory) (oldStates oldArcs : List ℕ) (p : Appends one two 
 
   -- the arcs of both
   arcs_appended : (arcs3 : List ℕ) → arcs3 ≡ splice (arc_size * one.arcs) (rewritten (raised_arc one.states) two.arcs (drop (arc_size * one.arcs) arcs2)) arcs2
-      → arcs3 ≡ overwrite (encode_arcs (appended A B)) oldArcs
+      → arcs3 ≡ overwrite (encode_arcs (appended A B)) old_arcs
   arcs_appended arcs3 e =
       let x = encode_arcs A in
       let y = encode_arcs B in
@@ -163,70 +163,70 @@ module _ (one two : Memory) (oldStates oldArcs : List ℕ) (p : Appends one two 
       (omega (arith, length-drop (arc_size * one.arcs) arcs2, second_length, p.arcs_fit)) in
       let f : arcs3 ≡ splice (arc_size * one.arcs) z arcs1 =
       e ∙ ap (splice (arc_size * one.arcs) z) second_arcs ∙ splice-twice (arc_size * one.arcs) y z arcs1 (ly ∙ sym lz) (omega (arith, ly, first_length, p.arcs_fit)) in
-      splice-behind 0 (arc_size * one.arcs) x z oldArcs arcs1 arcs3 first_arcs f (omega (arith, lx)) (omega (arith, lx, lz, p.arcs_fit))
-      ∙ ap (λ (u : List ℕ). splice 0 (x ++ u) oldArcs) second_raised
-      ∙ ap (λ (u : List ℕ). splice 0 u oldArcs) (sym (write_all_append (arc_record A.tapes (length (A.states ++ B.states))).write A.arcs (map (shifted (length A.states)) B.arcs)))
-      ∙ splice_front (encode_arcs (appended A B)) oldArcs
+      splice-behind 0 (arc_size * one.arcs) x z old_arcs arcs1 arcs3 first_arcs f (omega (arith, lx)) (omega (arith, lx, lz, p.arcs_fit))
+      ∙ ap (λ (u : List ℕ). splice 0 (x ++ u) old_arcs) second_raised
+      ∙ ap (λ (u : List ℕ). splice 0 u old_arcs) (sym (write_all_append (arc_record A.tapes (length (A.states ++ B.states))).write A.arcs (map (shifted (length A.states)) B.arcs)))
+      ∙ splice_front (encode_arcs (appended A B)) old_arcs
 
   -- the union stands there
   pub union-made : (by : ℕ) (arcs3 : List ℕ) → by ≡ one.states
       → arcs3 ≡ splice (arc_size * one.arcs) (rewritten (raised_arc by) two.arcs (drop (arc_size * one.arcs) arcs2)) arcs2
-      → made_of (ok (record { tapes = one.tapes; states = one.states + two.states; arcs = one.arcs + two.arcs })) states2 arcs3 ≡ put (ok (appended A B)) (slices_of oldStates oldArcs)
+      → made_of (ok (record { tapes = one.tapes; states = one.states + two.states; arcs = one.arcs + two.arcs })) states2 arcs3 ≡ put (ok (appended A B)) (slices_of old_states old_arcs)
   union-made by arcs3 b e =
       let s : one.states + two.states ≡ length (A.states ++ B.states) = ap₂ (λ (i k : ℕ). i + k) ha.states hb.states ∙ sym (length-append A.states B.states) in
       let a : one.arcs + two.arcs ≡ length (A.arcs ++ map (shifted (length A.states)) B.arcs) =
       ap₂ (λ (i k : ℕ). i + k) ha.arcs (hb.arcs ∙ sym (length-map B.arcs (shifted (length A.states)))) ∙ sym (length-append A.arcs (map (shifted (length A.states)) B.arcs)) in
       let f = arcs_appended arcs3 (e ∙ ap (λ (k : ℕ). splice (arc_size * one.arcs) (rewritten (raised_arc k) two.arcs (drop (arc_size * one.arcs) arcs2)) arcs2) b) in
-      (λ i. made_of (ok (record { tapes = ha.tapes i; states = s i; arcs = a i })) (states_appended i) (f i)) ∙ sym (put-ok (slices_of oldStates oldArcs) (appended A B))
+      (λ i. made_of (ok (record { tapes = ha.tapes i; states = s i; arcs = a i })) (states_appended i) (f i)) ∙ sym (put-ok (slices_of old_states old_arcs) (appended A B))
 
 -- ---- the judgement
 
-module _ (one two : Memory) (space : Space) (j : Judged) (e : judgedAs j ≡ forget (decode_table one)) where
+module _ (one two : Memory) (space : Space) (j : Judged) (e : judged_as j ≡ forget (decode_table one)) where
   -- the first table is refused
-  pub union-first_judged : (why : Refusal) → j ≡ Refused why → judgedAs j ≡ forget (union_answer one two space)
+  pub union-first_judged : (why : Refusal) → j ≡ Refused why → judged_as j ≡ forget (union_answer one two space)
   unfolding union_answer
   union-first_judged why h = next-refused (decode_table one) (λ A. decode_table two >>= λ B. union space A B) j why e h
 
-  module _ (h : j ≡ Fine) (k : Judged) (f : judgedAs k ≡ forget (decode_table two)) where
-    one-sound : Sound one
-    one-sound = judged_sound one (sym e ∙ ap judgedAs h)
+  module _ (h : j ≡ Fine) (k : Judged) (f : judged_as k ≡ forget (decode_table two)) where
+    one_sound : Sound one
+    one_sound = judged_sound one (sym e ∙ ap judged_as h)
 
-    one-is : union_answer one two space ≡ (decode_table two >>= λ B. union space (table_of one) B)
+    one_is : union_answer one two space ≡ (decode_table two >>= λ B. union space (table_of one) B)
     unfolding union_answer
-    one-is = ap (λ (a : Answer (Automaton ℕ)). a >>= λ A. decode_table two >>= λ B. union space A B) (sound_decoded one one-sound)
+    one_is = ap (λ (a : Answer (Automaton ℕ)). a >>= λ A. decode_table two >>= λ B. union space A B) (sound_decoded one one_sound)
 
     -- the second is
-    pub union-second-judged : (why : Refusal) → k ≡ Refused why → judgedAs k ≡ forget (union_answer one two space)
-    union-second-judged why g = next-refused (decode_table two) (λ B. union space (table_of one) B) k why f g ∙ ap forget (sym one-is)
+    pub union_second_judged : (why : Refusal) → k ≡ Refused why → judged_as k ≡ forget (union_answer one two space)
+    union_second_judged why g = next-refused (decode_table two) (λ B. union space (table_of one) B) k why f g ∙ ap forget (sym one_is)
 
     module _ (g : k ≡ Fine) where
-      two-sound : Sound two
-      two-sound = judged_sound two (sym f ∙ ap judgedAs g)
+      two_sound : Sound two
+      two_sound = judged_sound two (sym f ∙ ap judged_as g)
 
       two_is : union_answer one two space ≡ union space (table_of one) (table_of two)
-      two_is = one-is ∙ ap (λ (a : Answer (Automaton ℕ)). a >>= λ B. union space (table_of one) B) (sound_decoded two two-sound)
+      two_is = one_is ∙ ap (λ (a : Answer (Automaton ℕ)). a >>= λ B. union space (table_of one) B) (sound_decoded two two_sound)
 
       -- the counts of both are small
-      pub sums-small : (one.states + two.states ≤ 2048) × (one.arcs + two.arcs ≤ 16384)
-      sums-small = (
-        omega (arith, few_states one one-sound, few_states two two-sound),
-        omega (arith, few_arcs one one-sound, few_arcs two two-sound),
+      pub sums_small : (one.states + two.states ≤ 2048) × (one.arcs + two.arcs ≤ 16384)
+      sums_small = (
+        omega (arith, few_states one one_sound, few_states two two_sound),
+        omega (arith, few_arcs one one_sound, few_arcs two two_sound),
       )
 
       -- the tape counts are unequal
-      pub union-tapes-judged : (one.tapes ≡ two.tapes → ⊥) → refused refusal.tape ≡ forget (union_answer one two space)
-      union-tapes-judged n =
+      pub union_tapes_judged : (one.tapes ≡ two.tapes → ⊥) → refused refusal.tape ≡ forget (union_answer one two space)
+      union_tapes_judged n =
           let d : eqb (table_of one).tapes (table_of two).tapes ≡ false =
-          ap₂ eqb (sym (sound_holds one one-sound).tapes) (sym (sound_holds two two-sound).tapes) ∙ ne_eqb one.tapes two.tapes n in
+          ap₂ eqb (sym (sound_holds one one_sound).tapes) (sym (sound_holds two two_sound).tapes) ∙ ne_eqb one.tapes two.tapes n in
           sym (ap forget (two_is ∙ union-tape space (table_of one) (table_of two) d))
 
       -- the space decides
-      pub union-space-judged : one.tapes ≡ two.tapes → (r : Answer (Unit {0})) → r ≡ fitting (one.states + two.states) (one.arcs + two.arcs) space → r ≡ forget (union_answer one two space)
-      union-space-judged n r z =
+      pub union-space_judged : one.tapes ≡ two.tapes → (r : Answer (Unit {0})) → r ≡ fitting (one.states + two.states) (one.arcs + two.arcs) space → r ≡ forget (union_answer one two space)
+      union-space_judged n r z =
           let P = table_of one in
           let Q = table_of two in
-          let s = sound_holds one one-sound in
-          let t = sound_holds two two-sound in
+          let s = sound_holds one one_sound in
+          let t = sound_holds two two_sound in
           let d : eqb P.tapes Q.tapes ≡ true = ap₂ eqb (sym s.tapes) (sym t.tapes) ∙ eq-eqb one.tapes two.tapes n in
           let x : one.states + two.states ≡ length (P.states ++ Q.states) = ap₂ (λ (i k : ℕ). i + k) s.states t.states ∙ sym (length-append P.states Q.states) in
           let y : one.arcs + two.arcs ≡ length (P.arcs ++ map (shifted (length P.states)) Q.arcs) =
@@ -279,31 +279,31 @@ union-answered one two states arcs U a =
 
 -- ---- the whole call
 
-module _ (one two : Memory) (oldStates oldArcs : List ℕ) (j : Judged)
-    (e : judgedAs j ≡ forget (union_answer one two (lent_space (length oldStates / state_size) (length oldArcs / arc_size)))) where
+module _ (one two : Memory) (old_states old_arcs : List ℕ) (j : Judged)
+    (e : judged_as j ≡ forget (union_answer one two (lent_space (length old_states / state_size) (length old_arcs / arc_size)))) where
   -- a refusal
-  pub union-refused : (why : Refusal) → j ≡ Refused why → made_of (refused (refusalNumber why)) oldStates oldArcs ≡ union_outcome one two (slices_of oldStates oldArcs)
+  pub union-refused : (why : Refusal) → j ≡ Refused why → made_of (refused (refusal_number why)) old_states old_arcs ≡ union_outcome one two (slices_of old_states old_arcs)
   unfolding union_outcome
   union-refused why h =
-      let s = slices_of oldStates oldArcs in
-      sym (put_refused s (refusalNumber why))
-      ∙ ap (λ (a : Answer (Automaton ℕ)). put a s) (sym (forget-refused (union_answer one two (space_of s)) (refusalNumber why) (sym e ∙ ap judgedAs h)))
+      let s = slices_of old_states old_arcs in
+      sym (put_refused s (refusal_number why))
+      ∙ ap (λ (a : Answer (Automaton ℕ)). put a s) (sym (forget-refused (union_answer one two (space_of s)) (refusal_number why) (sym e ∙ ap judged_as h)))
 
   module _ (h : j ≡ Fine) where
     -- what the judgement told
-    union-told : Appends one two (length oldStates) (length oldArcs)
-        × (union_answer one two (lent_space (length oldStates / state_size) (length oldArcs / arc_size)) ≡ ok (appended (table_of one) (table_of two)))
+    union-told : Appends one two (length old_states) (length old_arcs)
+        × (union_answer one two (lent_space (length old_states / state_size) (length old_arcs / arc_size)) ≡ ok (appended (table_of one) (table_of two)))
     union-told =
-        let (U, a) = forget-ok (union_answer one two (lent_space (length oldStates / state_size) (length oldArcs / arc_size))) (sym e ∙ ap judgedAs h) in
-        let t = union-answered one two (length oldStates) (length oldArcs) U a in
+        let (U, a) = forget-ok (union_answer one two (lent_space (length old_states / state_size) (length old_arcs / arc_size))) (sym e ∙ ap judged_as h) in
+        let t = union-answered one two (length old_states) (length old_arcs) U a in
         (t.0, a ∙ ap ok t.1)
 
     -- what the copies ask
-    pub union-ready : Appends one two (length oldStates) (length oldArcs)
-    union-ready = union-told.0
+    pub union_ready : Appends one two (length old_states) (length old_arcs)
+    union_ready = union-told.0
 
     -- and what they leave
-    pub union-done : (r : Answer TableCounts) (states arcs : List ℕ) → made_of r states arcs ≡ put (ok (appended (table_of one) (table_of two))) (slices_of oldStates oldArcs)
-        → made_of r states arcs ≡ union_outcome one two (slices_of oldStates oldArcs)
+    pub union_done : (r : Answer TableCounts) (states arcs : List ℕ) → made_of r states arcs ≡ put (ok (appended (table_of one) (table_of two))) (slices_of old_states old_arcs)
+        → made_of r states arcs ≡ union_outcome one two (slices_of old_states old_arcs)
     unfolding union_outcome
-    union-done r states arcs f = f ∙ ap (λ (a : Answer (Automaton ℕ)). put a (slices_of oldStates oldArcs)) (sym union-told.1)
+    union_done r states arcs f = f ∙ ap (λ (a : Answer (Automaton ℕ)). put a (slices_of old_states old_arcs)) (sym union-told.1)

@@ -7,7 +7,7 @@ ghost use Rattle.automata.specs.Calls.Drop.{in_mask, drop_answer, drop_outcome};
 ghost use Rattle.automata.specs.Calls.JoinSteps.{drop_step};
 ghost use Rattle.automata.specs.Calls.Outcome.{put, made_of, slices_of};
 ghost use Rattle.automata.specs.Layout.{arc_size, state_size};
-ghost use Rattle.table.specs.Answers.{lent, countsAs, judgedAs, tableAs};
+ghost use Rattle.table.specs.Answers.{lent, counts_as, judged_as, table_as};
 ghost use Rattle.tapes_records.specs.Choice.{Droppable};
 ghost use Rattle.intersect_room.specs.Room.{lent_space};
 
@@ -21,7 +21,7 @@ use tapes_records::room::{copy_table, fits};
 // The table in `states` and `arcs` without the tapes that the mask marks, where it stands: a step of a join.
 pub fn drop_in_place(counts: Counts, mask: u8, states: &[u8], arcs: &mut [u8]) -> Counts
     requires { Droppable (lent counts states.now arcs.old) mask }
-    ensures { made_of (ok (countsAs result)) states.now arcs.new
+    ensures { made_of (ok (counts_as result)) states.now arcs.new
         ≡ drop_step (lent counts states.now arcs.old) (in_mask mask)
         (slices_of states.now arcs.old) }
 {
@@ -56,7 +56,7 @@ fn judge_drop(
     lent_states: usize,
     lent_arcs: usize,
 ) -> Judged
-    ensures { judgedAs result ≡ forget (drop_answer (lent counts states.now arcs.now) mask
+    ensures { judged_as result ≡ forget (drop_answer (lent counts states.now arcs.now) mask
         (lent_space lent_states lent_arcs)) }
 {
     let judged = judge(counts, states, arcs);
@@ -81,7 +81,7 @@ fn drop_copy(
     requires { Droppable (lent counts states.now arcs.now) mask
         × (state_size * counts.states ≤ length out_states.old)
         × (arc_size * counts.arcs ≤ length out_arcs.old) }
-    ensures { made_of (ok (countsAs result)) out_states.new out_arcs.new
+    ensures { made_of (ok (counts_as result)) out_states.new out_arcs.new
         ≡ put (ok (without (in_mask mask) (table_of (lent counts states.now arcs.now))))
         (slices_of out_states.old out_arcs.old) }
 {
@@ -99,7 +99,7 @@ pub fn drop_tapes(
     out_states: &mut [u8],
     out_arcs: &mut [u8],
 ) -> TableAnswer
-    ensures { made_of (tableAs result) out_states.new out_arcs.new
+    ensures { made_of (table_as result) out_states.new out_arcs.new
         ≡ drop_outcome (lent counts states.now arcs.now) mask
         (slices_of out_states.old out_arcs.old) }
 {

@@ -7,7 +7,7 @@ ghost use Rattle.automata.specs.Projection.{is_tape, choosable, projected};
 ghost use Rattle.automata.specs.Calls.Project.{project_answer, project_outcome};
 ghost use Rattle.automata.specs.Calls.Outcome.{put, made_of, slices_of};
 ghost use Rattle.automata.specs.Layout.{arc_size, state_size};
-ghost use Rattle.table.specs.Answers.{lent, countsAs, judgedAs, tableAs};
+ghost use Rattle.table.specs.Answers.{lent, counts_as, judged_as, table_as};
 ghost use Rattle.intersect_room.specs.Room.{lent_space};
 ghost use Rattle.tapes_records.specs.Results.{Choosable};
 
@@ -49,7 +49,7 @@ fn judge_choice(
     lent_states: usize,
     lent_arcs: usize,
 ) -> Judged
-    ensures { judgedAs result ≡ forget (project_answer (lent counts states.now arcs.now)
+    ensures { judged_as result ≡ forget (project_answer (lent counts states.now arcs.now)
         tapes.now (lent_space lent_states lent_arcs)) }
 {
     let judged = judge(counts, states, arcs);
@@ -77,7 +77,7 @@ fn choose_copy(
     requires { Choosable (lent counts states.now arcs.now) tapes.now
         × (state_size * counts.states ≤ length out_states.old)
         × (arc_size * counts.arcs ≤ length out_arcs.old) }
-    ensures { made_of (ok (countsAs result)) out_states.new out_arcs.new
+    ensures { made_of (ok (counts_as result)) out_states.new out_arcs.new
         ≡ put (ok (projected tapes.now (table_of (lent counts states.now arcs.now))))
         (slices_of out_states.old out_arcs.old) }
 {
@@ -100,7 +100,7 @@ pub fn project(
     out_states: &mut [u8],
     out_arcs: &mut [u8],
 ) -> TableAnswer
-    ensures { made_of (tableAs result) out_states.new out_arcs.new
+    ensures { made_of (table_as result) out_states.new out_arcs.new
         ≡ project_outcome (lent counts states.now arcs.now) tapes.now
         (slices_of out_states.old out_arcs.old) }
 {

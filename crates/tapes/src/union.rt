@@ -5,7 +5,7 @@ ghost use Rattle.automata.specs.Memory.{table_of};
 ghost use Rattle.automata.specs.Union.{appended};
 ghost use Rattle.automata.specs.Calls.Union.{union_answer, union_outcome};
 ghost use Rattle.automata.specs.Calls.Outcome.{put, made_of, slices_of};
-ghost use Rattle.table.specs.Answers.{lent, countsAs, judgedAs, tableAs};
+ghost use Rattle.table.specs.Answers.{lent, counts_as, judged_as, table_as};
 ghost use Rattle.intersect_room.specs.Room.{lent_space};
 ghost use Rattle.tapes_records.specs.Results.{Appends};
 
@@ -26,7 +26,7 @@ fn judge_union(
     lent_states: usize,
     lent_arcs: usize,
 ) -> Judged
-    ensures { judgedAs result ≡ forget (union_answer
+    ensures { judged_as result ≡ forget (union_answer
         (lent first first_states.now first_arcs.now)
         (lent second second_states.now second_arcs.now)
         (lent_space lent_states lent_arcs)) }
@@ -60,7 +60,7 @@ fn append(
     requires { Appends (lent first first_states.now first_arcs.now)
         (lent second second_states.now second_arcs.now) (length out_states.old)
         (length out_arcs.old) }
-    ensures { made_of (ok (countsAs result)) out_states.new out_arcs.new
+    ensures { made_of (ok (counts_as result)) out_states.new out_arcs.new
         ≡ put (ok (appended (table_of (lent first first_states.now first_arcs.now))
         (table_of (lent second second_states.now second_arcs.now))))
         (slices_of out_states.old out_arcs.old) }
@@ -96,7 +96,7 @@ pub fn union(
     out_states: &mut [u8],
     out_arcs: &mut [u8],
 ) -> TableAnswer
-    ensures { made_of (tableAs result) out_states.new out_arcs.new
+    ensures { made_of (table_as result) out_states.new out_arcs.new
         ≡ union_outcome (lent first first_states.now first_arcs.now)
         (lent second second_states.now second_arcs.now)
         (slices_of out_states.old out_arcs.old) }

@@ -21,7 +21,7 @@ use Rattle.automata.proofs.MemoryFacts.{length_encode_states, length_encode_arcs
 use Rattle.automata.proofs.CallFacts.{put-ok}
 use Rattle.automata.specs.Layout.{arc_size, state_size}
 use Rattle.table.specs.Region.{splice}
-use Rattle.table.specs.Answers.{judgedAs, refusalNumber}
+use Rattle.table.specs.Answers.{judged_as, refusal_number}
 use Rattle.table.specs.declared.answer.Refusal.{Refusal}
 use Rattle.table.specs.declared.answer.Judged.{Judged}
 use Rattle.table.specs.declared.answer.Judged.TheVariants.{Refused}
@@ -37,11 +37,11 @@ forget-refused (ok v) n e = absurd (refused≢ok (sym e))
 forget-refused (refused k) n e = let i : k ≡ n = cc in ap refused i
 
 -- what is refused is refused whatever would come next
-pub next-refused : {A B : Type 0} (a : Answer A) (f : A → Answer B) (j : Judged) (why : Refusal) → judgedAs j ≡ forget a → j ≡ Refused why → judgedAs j ≡ forget (a >>= f)
+pub next-refused : {A B : Type 0} (a : Answer A) (f : A → Answer B) (j : Judged) (why : Refusal) → judged_as j ≡ forget a → j ≡ Refused why → judged_as j ≡ forget (a >>= f)
 next-refused a f j why e h =
-    let n = refusalNumber why in
-    let r : a ≡ refused n = forget-refused a n (sym e ∙ ap judgedAs h) in
-    ap judgedAs h ∙ ap (λ x. forget (x >>= f)) (sym r)
+    let n = refusal_number why in
+    let r : a ≡ refused n = forget-refused a n (sym e ∙ ap judged_as h) in
+    ap judged_as h ∙ ap (λ x. forget (x >>= f)) (sym r)
 
 -- ---- the space lent
 
@@ -78,14 +78,14 @@ pub copy_ready : (m : Memory) → Sound m → (states arcs : ℕ) → state_size
 copy_ready m s states arcs e f = record { states_lent = states_lent_lem m s; arcs_lent = arcs_lent_lem m s; states_fit = omega (arith, e); arcs_fit = omega (arith, f) }
 
 -- what the copying calls leave
-pub table_copied : (m : Memory) (state_at arc_at : ℕ) (oldStates oldArcs newStates newArcs : List ℕ) → newStates ≡ splice state_at (take (state_size * m.states - 0) (drop 0 m.state_bytes)) oldStates
-    → newArcs ≡ splice arc_at (take (arc_size * m.arcs - 0) (drop 0 m.arc_bytes)) oldArcs → Copied m state_at arc_at oldStates oldArcs newStates newArcs
-table_copied m state_at arc_at oldStates oldArcs newStates newArcs e f =
+pub table_copied : (m : Memory) (state_at arc_at : ℕ) (old_states old_arcs new_states new_arcs : List ℕ) → new_states ≡ splice state_at (take (state_size * m.states - 0) (drop 0 m.state_bytes)) old_states
+    → new_arcs ≡ splice arc_at (take (arc_size * m.arcs - 0) (drop 0 m.arc_bytes)) old_arcs → Copied m state_at arc_at old_states old_arcs new_states new_arcs
+table_copied m state_at arc_at old_states old_arcs new_states new_arcs e f =
     let s : state_size * m.states - 0 ≡ m.states * state_size = omega arith in
     let a : arc_size * m.arcs - 0 ≡ m.arcs * arc_size = omega arith in
     record {
-      states = e ∙ ap (λ (n : ℕ). splice state_at (take n m.state_bytes) oldStates) s;
-      arcs = f ∙ ap (λ (n : ℕ). splice arc_at (take n m.arc_bytes) oldArcs) a;
+      states = e ∙ ap (λ (n : ℕ). splice state_at (take n m.state_bytes) old_states) s;
+      arcs = f ∙ ap (λ (n : ℕ). splice arc_at (take n m.arc_bytes) old_arcs) a;
     }
 
 -- bytes over the front of bytes of the same length
@@ -95,12 +95,12 @@ over-twice x y old e h =
 
 module _ (m : Memory) (T : Automaton ℕ) (w : WellFormed T) (h : Holds m T) where
   -- a table's records, wherever they are copied
-  module _ (state_at arc_at : ℕ) (oldStates oldArcs newStates newArcs : List ℕ) (c : Copied m state_at arc_at oldStates oldArcs newStates newArcs) where
-    pub states-copied : newStates ≡ splice state_at (encode_states T) oldStates
-    states-copied = c.states ∙ ap (λ (x : List ℕ). splice state_at x oldStates) h.state_bytes
+  module _ (state_at arc_at : ℕ) (old_states old_arcs new_states new_arcs : List ℕ) (c : Copied m state_at arc_at old_states old_arcs new_states new_arcs) where
+    pub states_copied : new_states ≡ splice state_at (encode_states T) old_states
+    states_copied = c.states ∙ ap (λ (x : List ℕ). splice state_at x old_states) h.state_bytes
 
-    pub arcs-copied : newArcs ≡ splice arc_at (encode_arcs T) oldArcs
-    arcs-copied = c.arcs ∙ ap (λ (x : List ℕ). splice arc_at x oldArcs) h.arc_bytes
+    pub arcs_copied : new_arcs ≡ splice arc_at (encode_arcs T) old_arcs
+    arcs_copied = c.arcs ∙ ap (λ (x : List ℕ). splice arc_at x old_arcs) h.arc_bytes
 
   pub states_length : length (encode_states T) ≡ state_size * m.states
   states_length = length_encode_states T w ∙ omega (arith, h.states)
@@ -109,27 +109,27 @@ module _ (m : Memory) (T : Automaton ℕ) (w : WellFormed T) (h : Holds m T) whe
   arcs_length = length_encode_arcs T w ∙ omega (arith, h.arcs)
 
   -- a table copied over the front of two slices
-  module _ (oldStates oldArcs newStates newArcs : List ℕ) (c : Copied m 0 0 oldStates oldArcs newStates newArcs) where
+  module _ (old_states old_arcs new_states new_arcs : List ℕ) (c : Copied m 0 0 old_states old_arcs new_states new_arcs) where
     -- it stands there
-    pub copied-holds : Holds (memory_of m.tapes m.states m.arcs newStates newArcs) T
-    copied-holds = record {
+    pub copied_holds : Holds (memory_of m.tapes m.states m.arcs new_states new_arcs) T
+    copied_holds = record {
       tapes = h.tapes;
       states = h.states;
       arcs = h.arcs;
-      state_bytes = ap (take (m.states * state_size)) (states-copied 0 0 oldStates oldArcs newStates newArcs c ∙ splice_front (encode_states T) oldStates)
-          ∙ take_at (encode_states T) (drop (length (encode_states T)) oldStates) (m.states * state_size) (omega (arith, states_length));
-      arc_bytes = ap (take (m.arcs * arc_size)) (arcs-copied 0 0 oldStates oldArcs newStates newArcs c ∙ splice_front (encode_arcs T) oldArcs)
-          ∙ take_at (encode_arcs T) (drop (length (encode_arcs T)) oldArcs) (m.arcs * arc_size) (omega (arith, arcs_length));
+      state_bytes = ap (take (m.states * state_size)) (states_copied 0 0 old_states old_arcs new_states new_arcs c ∙ splice_front (encode_states T) old_states)
+          ∙ take_at (encode_states T) (drop (length (encode_states T)) old_states) (m.states * state_size) (omega (arith, states_length));
+      arc_bytes = ap (take (m.arcs * arc_size)) (arcs_copied 0 0 old_states old_arcs new_states new_arcs c ∙ splice_front (encode_arcs T) old_arcs)
+          ∙ take_at (encode_arcs T) (drop (length (encode_arcs T)) old_arcs) (m.arcs * arc_size) (omega (arith, arcs_length));
     }
 
     -- a table of the same size that is put there is put as if nothing had been copied
-    pub copied-put : (R : Automaton ℕ) → encode_states R ≡ encode_states T → length (encode_arcs R) ≡ arc_size * m.arcs → state_size * m.states ≤ length oldStates → arc_size * m.arcs ≤ length oldArcs
-        → put (ok R) (slices_of newStates newArcs) ≡ put (ok R) (slices_of oldStates oldArcs)
-    copied-put R e l s a =
-        let x : overwrite (encode_states R) newStates ≡ overwrite (encode_states R) oldStates =
-        ap (overwrite (encode_states R)) (states-copied 0 0 oldStates oldArcs newStates newArcs c)
-        ∙ over-twice (encode_states R) (encode_states T) oldStates (ap length e) (omega (arith, states_length)) in
-        let y : overwrite (encode_arcs R) newArcs ≡ overwrite (encode_arcs R) oldArcs =
-        ap (overwrite (encode_arcs R)) (arcs-copied 0 0 oldStates oldArcs newStates newArcs c)
-        ∙ over-twice (encode_arcs R) (encode_arcs T) oldArcs (omega (arith, l, arcs_length)) (omega (arith, arcs_length)) in
-        put-ok (slices_of newStates newArcs) R ∙ (λ i. made_of (ok (counts_of R)) (x i) (y i)) ∙ sym (put-ok (slices_of oldStates oldArcs) R)
+    pub copied_put : (R : Automaton ℕ) → encode_states R ≡ encode_states T → length (encode_arcs R) ≡ arc_size * m.arcs → state_size * m.states ≤ length old_states → arc_size * m.arcs ≤ length old_arcs
+        → put (ok R) (slices_of new_states new_arcs) ≡ put (ok R) (slices_of old_states old_arcs)
+    copied_put R e l s a =
+        let x : overwrite (encode_states R) new_states ≡ overwrite (encode_states R) old_states =
+        ap (overwrite (encode_states R)) (states_copied 0 0 old_states old_arcs new_states new_arcs c)
+        ∙ over-twice (encode_states R) (encode_states T) old_states (ap length e) (omega (arith, states_length)) in
+        let y : overwrite (encode_arcs R) new_arcs ≡ overwrite (encode_arcs R) old_arcs =
+        ap (overwrite (encode_arcs R)) (arcs_copied 0 0 old_states old_arcs new_states new_arcs c)
+        ∙ over-twice (encode_arcs R) (encode_arcs T) old_arcs (omega (arith, l, arcs_length)) (omega (arith, arcs_length)) in
+        put-ok (slices_of new_states new_arcs) R ∙ (λ i. made_of (ok (counts_of R)) (x i) (y i)) ∙ sym (put-ok (slices_of old_states old_arcs) R)

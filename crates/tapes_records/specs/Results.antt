@@ -23,9 +23,9 @@ pub record Copies (m : Memory) (state_at arc_at states arcs : ℕ) : Type 0 wher
   pub arcs_fit : arc_at + arc_size * m.arcs ≤ arcs
 
 -- the records of a table stand behind these places now
-pub record Copied (m : Memory) (state_at arc_at : ℕ) (oldStates oldArcs newStates newArcs : List ℕ) : Type 0 where
-  pub states : newStates ≡ splice state_at (take (m.states * state_size) m.state_bytes) oldStates
-  pub arcs : newArcs ≡ splice arc_at (take (m.arcs * arc_size) m.arc_bytes) oldArcs
+pub record Copied (m : Memory) (state_at arc_at : ℕ) (old_states old_arcs new_states new_arcs : List ℕ) : Type 0 where
+  pub states : new_states ≡ splice state_at (take (m.states * state_size) m.state_bytes) old_states
+  pub arcs : new_arcs ≡ splice arc_at (take (m.arcs * arc_size) m.arc_bytes) old_arcs
 
 -- a table of which the tapes of a list may be chosen
 pub record Choosable (m : Memory) (tapes : List ℕ) : Type 0 where

@@ -1,6 +1,6 @@
 // The space of a result: whether it fits, and the records of a table copied into it.
 ghost use Rattle.std.specs.Prelude.{◌≡◌, length};
-ghost use Rattle.table.specs.Answers.{lent, judgedAs};
+ghost use Rattle.table.specs.Answers.{lent, judged_as};
 ghost use Rattle.intersect_room.specs.Room.{lent_space};
 ghost use Rattle.tapes_records.specs.Results.{fitting, Copies, Copied};
 
@@ -10,7 +10,7 @@ use table::layout::{ARC_SIZE, STATE_SIZE};
 
 // Whether so many states and arcs fit the space lent and the greatest table.
 pub fn fits(states: usize, arcs: usize, lent_states: usize, lent_arcs: usize) -> Judged
-    ensures { judgedAs result ≡ fitting states arcs (lent_space lent_states lent_arcs) }
+    ensures { judged_as result ≡ fitting states arcs (lent_space lent_states lent_arcs) }
 {
     if lent_states < states {
         return Judged::Refused(Refusal::StatesFull);

@@ -5,9 +5,9 @@ ghost use Rattle.automata.specs.Calls.Outcome.{slices_of, made_of};
 ghost use Rattle.automata.specs.Calls.Read.{read_outcome};
 ghost use Rattle.automata.specs.Calls.Write.{write_outcome};
 ghost use Rattle.automata.specs.Layout.{arc_width, header_width, label_width, state_width};
-ghost use Rattle.table.specs.Answers.{tableAs, judgedAs, lent};
+ghost use Rattle.table.specs.Answers.{table_as, judged_as, lent};
 ghost use Rattle.text_lines.specs.Lines.{header_as};
-ghost use Rattle.text.specs.Answers.{countsAnswer, writtenAs, refusedBy, written_of};
+ghost use Rattle.text.specs.Answers.{counts_answer, written_as, refused_by, written_of};
 
 use table::answer::{Counts, Judged, Refusal, TableAnswer};
 use table::judge::judge;
@@ -19,7 +19,7 @@ use text_store::store::{store_arcs, store_states};
 
 // What is answered of a text that was judged.
 fn answer_of(header: HeaderLine) -> TableAnswer
-    ensures { tableAs result ≡ countsAnswer (header_as header) }
+    ensures { table_as result ≡ counts_answer (header_as header) }
 {
     match header {
         HeaderLine::Counts(c) => TableAnswer::Table(c),
@@ -30,7 +30,7 @@ fn answer_of(header: HeaderLine) -> TableAnswer
 // The call `read`: the table that a text describes, as records in the slices lent. The whole text is judged before a
 // record is stored.
 pub fn read(text: &[u8], states: &mut [u8], arcs: &mut [u8]) -> TableAnswer
-    ensures { made_of (tableAs result) states.new arcs.new
+    ensures { made_of (table_as result) states.new arcs.new
         ≡ read_outcome text.now (slices_of states.old arcs.old) }
 {
     let judged = judge_text(text, states.len() / STATE_SIZE, arcs.len() / ARC_SIZE);
@@ -58,7 +58,7 @@ pub enum WriteAnswer {
 
 // The refusal of a table that was judged; no bytes where it is fine.
 fn refused_by(judged: Judged) -> WriteAnswer
-    ensures { writtenAs result ≡ refusedBy (judgedAs judged) }
+    ensures { written_as result ≡ refused_by (judged_as judged) }
 {
     match judged {
         Judged::Fine => WriteAnswer::Bytes(0),
@@ -80,7 +80,7 @@ fn text_length(counts: Counts) -> usize
 // The call `write`: the text of a table in memory, in the output lent. The table is judged first, then the room in the
 // output.
 pub fn write(counts: Counts, states: &[u8], arcs: &[u8], output: &mut [u8]) -> WriteAnswer
-    ensures { written_of (writtenAs result) output.new
+    ensures { written_of (written_as result) output.new
         ≡ write_outcome (lent counts states.now arcs.now) output.old }
 {
     let judged = judge(counts, states, arcs);

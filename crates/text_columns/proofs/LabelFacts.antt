@@ -16,7 +16,7 @@ use Rattle.automata.specs.Decimal.{decimal}
 use Rattle.automata.specs.Symbols.{is_symbol}
 use Rattle.automata.specs.TableText.{after_blanks}
 use Rattle.automata.specs.Layout.{label_width}
-use Rattle.table.specs.Answers.{judgedAs}
+use Rattle.table.specs.Answers.{judged_as}
 use Rattle.table.proofs.AnswerFacts.{beside-next, beside_first, beside-last}
 use Rattle.table.specs.declared.answer.Refusal.{Refusal}
 use Rattle.text_columns.specs.declared.decimal.Number.{Number}
@@ -118,19 +118,19 @@ module _ (x : List ℕ) (i before : ℕ) (f : Bool) where
 -- ---- labels, one after the other
 
 -- a turn of the loop over the labels
-pub labels_turn : (x : List ℕ) (at left : ℕ) (j k next : Judged) → 0 < left → judgedAs k ≡ forget (read_label (take (at + label_width - at) (drop at x)))
-    → judgedAs next ≡ forget (beside (judgedAs j) (judgedAs k))
-    → forget (beside (judgedAs next) (labels_read (left - 1) (drop (at + label_width) x))) ≡ forget (beside (judgedAs j) (labels_read left (drop at x)))
+pub labels_turn : (x : List ℕ) (at left : ℕ) (j k next : Judged) → 0 < left → judged_as k ≡ forget (read_label (take (at + label_width - at) (drop at x)))
+    → judged_as next ≡ forget (beside (judged_as j) (judged_as k))
+    → forget (beside (judged_as next) (labels_read (left - 1) (drop (at + label_width) x))) ≡ forget (beside (judged_as j) (labels_read left (drop at x)))
 unfolding labels_read read_label
 labels_turn x at zero j k next h e f = absurd (omega arith)
 labels_turn x at (suc left) j k next h e f =
     let s : suc left - 1 ≡ left = omega arith in
     let n : at + label_width - at ≡ label_width = omega arith in
-    rw (s, f, e, n, ← drop-drop label_width at x) (beside-next (judgedAs j) (read_label (take label_width (drop at x))) (labels_read left (drop label_width (drop at x))) (λ p. p.0 ∷ p.1))
+    rw (s, f, e, n, ← drop-drop label_width at x) (beside-next (judged_as j) (read_label (take label_width (drop at x))) (labels_read left (drop label_width (drop at x))) (λ p. p.0 ∷ p.1))
 
-pub labels_end_lem : (x : List ℕ) (at left : ℕ) (j : Judged) → left ≡ 0 → judgedAs j ≡ forget (beside (judgedAs j) (labels_read left (drop at x)))
+pub labels_end_lem : (x : List ℕ) (at left : ℕ) (j : Judged) → left ≡ 0 → judged_as j ≡ forget (beside (judged_as j) (labels_read left (drop at x)))
 unfolding labels_read
-labels_end_lem x at left j e = rw e (beside-last (judgedAs j) _)
+labels_end_lem x at left j e = rw e (beside-last (judged_as j) _)
 
 pub labels_start_lem : (x : List ℕ) (n : ℕ) → forget (beside (ok (tt {0})) (labels_read n (drop 0 x))) ≡ forget (labels_read n x)
 labels_start_lem x n = beside_first (labels_read n x)

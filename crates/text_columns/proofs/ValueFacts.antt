@@ -14,7 +14,7 @@ use Rattle.automata.specs.Refusal.{form, size, state}
 use Rattle.automata.specs.Symbols.{is_digit}
 use Rattle.automata.specs.Decimal.{with_digit, leading_column}
 use Rattle.automata.specs.TableText.{absent}
-use Rattle.automata.proofs.TestFacts.{and_T, and_true, sameList→eq}
+use Rattle.automata.proofs.TestFacts.{and_T, and_true, same_list→eq}
 use Rattle.automata.proofs.AnswerFacts.{check-ok, bind_ok}
 use Rattle.automata.specs.Layout.{amount_width}
 use Rattle.text_columns.specs.Columns.{last_column, read_decimal, read_state_number, read_present, read_weight, absent_mark, columns_value, columns_weight}
@@ -96,7 +96,7 @@ unfolding columns_weight absent_mark
 weight_value x o l e = go (same_list x absent) refl (sym (weight_is x) ∙ e)
   where
     go : (b : Bool) → same_list x absent ≡ b → if b (ok none) (read_present x >>= λ a. ok (some a)) ≡ ok o → columns_weight x ≡ o
-    go true t f = let q : none ≡ o = cc in let p : x ≡ absent = sameList→eq x absent (rw t tt) in rw p q
+    go true t f = let q : none ≡ o = cc in let p : x ≡ absent = same_list→eq x absent (rw t tt) in rw p q
     go false t f =
         let k = bind_ok (read_present x) (λ a. ok (some a)) o f in
         let v = present_value x k.0 l k.1 in

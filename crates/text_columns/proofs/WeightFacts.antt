@@ -14,7 +14,7 @@ use Rattle.automata.specs.Lists.{if, and, same_list}
 use Rattle.automata.specs.Answer.{◌>>=◌, Answer, ok, refused, check, forget}
 use Rattle.automata.specs.Decimal.{decimal}
 use Rattle.automata.specs.TableText.{absent}
-use Rattle.automata.proofs.TestFacts.{T_false, sameList→eq}
+use Rattle.automata.proofs.TestFacts.{T_false, same_list→eq}
 use Rattle.automata.proofs.AnswerFacts.{forget_map}
 use Rattle.automata.specs.Layout.{amount_width}
 use Rattle.table.specs.declared.answer.Refusal.{Refusal}
@@ -62,7 +62,7 @@ take_blanks (c ∷ x) = go (eqb c 32) refl (take_blanks x)
 module _ (x : List ℕ) (l : length x ≡ amount_width) where
   pub absent_other : (blank_count x ≡ 9 → ⊥) → false ≡ absent_mark x
   unfolding absent_mark blank_count
-  absent_other h = sym (T_false (same_list x absent) (λ t. h (ap blank_count (sameList→eq x absent t))))
+  absent_other h = sym (T_false (same_list x absent) (λ t. h (ap blank_count (same_list→eq x absent t))))
 
   pub absent-last : blank_count x ≡ 9 → eqb (get_or x 9 0) 45 ≡ absent_mark x
   unfolding absent_mark

@@ -10,7 +10,7 @@ use Rattle.automata.specs.Decimal.{blank, with_digit, decimal, leading}
 use Rattle.automata.specs.TableFormat.{weight_number, state_number}
 use Rattle.automata.specs.TableText.{absent, weight_columns, label_columns}
 use Rattle.automata.specs.Layout.{amount_width, number_width}
-use Rattle.table.specs.Answers.{refusalNumber}
+use Rattle.table.specs.Answers.{refusal_number}
 use Rattle.text_columns.specs.declared.decimal.Number.{Number}
 use Rattle.text_columns.specs.declared.decimal.Number.TheVariants.{Value, Refused}
 
@@ -19,7 +19,7 @@ use Rattle.text_columns.specs.declared.decimal.Number.TheVariants.{Value, Refuse
 -- a number, or a refusal
 abbrev pub number_as : Number → Answer ℕ
 number_as (Value n) = ok n
-number_as (Refused r) = refused (refusalNumber r)
+number_as (Refused r) = refused (refusal_number r)
 
 -- the number alone, 0 where it is refused
 abbrev pub number_of : Number → ℕ

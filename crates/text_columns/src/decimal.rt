@@ -5,7 +5,7 @@ ghost use Rattle.automata.specs.Symbols.{is_digit};
 ghost use Rattle.automata.specs.Decimal.{with_digit, leading_column};
 ghost use Rattle.automata.specs.Layout.{amount_width};
 ghost use Rattle.table.specs.Region.{splice};
-ghost use Rattle.table.specs.Answers.{judgedAs};
+ghost use Rattle.table.specs.Answers.{judged_as};
 ghost use Rattle.text_columns.specs.Columns.{number_as, number_of, last_column, read_decimal, read_state_number, columns_value, leading_text, decimal_text, leading_byte};
 
 use table::answer::{Judged, Refusal};
@@ -95,7 +95,7 @@ pub fn read_decimal(column: &[u8]) -> Number
 
 // The refusal of a number, if it is refused.
 pub fn judge_number(n: Number) -> Judged
-    ensures { judgedAs result ≡ forget (number_as n) }
+    ensures { judged_as result ≡ forget (number_as n) }
 {
     match n {
         Number::Value(_) => Judged::Fine,

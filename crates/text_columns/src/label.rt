@@ -3,7 +3,7 @@ ghost use Rattle.std.specs.Prelude.{◌≡◌, ◌*◌, length, eqb};
 ghost use Rattle.automata.specs.Answer.{forget, require};
 ghost use Rattle.automata.specs.Refusal.{form};
 ghost use Rattle.automata.specs.Layout.{label_width, newline};
-ghost use Rattle.table.specs.Answers.{judgedAs};
+ghost use Rattle.table.specs.Answers.{judged_as};
 ghost use Rattle.text_columns.specs.Columns.{may_follow, label_fits, read_label, labels_read};
 
 use table::answer::{Judged, Refusal, both};
@@ -32,7 +32,7 @@ fn label_fits(column: &[u8]) -> bool
 // The columns of a label, judged.
 fn judge_label_column(column: &[u8]) -> Judged
     requires { length column.now ≡ label_width }
-    ensures { judgedAs result ≡ forget (read_label column.now) }
+    ensures { judged_as result ≡ forget (read_label column.now) }
 {
     if label_fits(column) {
         return Judged::Fine;
@@ -43,7 +43,7 @@ fn judge_label_column(column: &[u8]) -> Judged
 // The labels of an arc on so many tapes.
 pub fn judge_label_columns(labels: &[u8], tapes: usize) -> Judged
     requires { length labels.now ≡ tapes * label_width }
-    ensures { judgedAs result ≡ forget (labels_read tapes labels.now) }
+    ensures { judged_as result ≡ forget (labels_read tapes labels.now) }
 {
     let mut judged = Judged::Fine;
     let mut left = tapes;
@@ -58,7 +58,7 @@ pub fn judge_label_columns(labels: &[u8], tapes: usize) -> Judged
 
 // The byte that ends a line.
 pub fn line_end(c: u8) -> Judged
-    ensures { judgedAs result ≡ require (eqb c newline) form }
+    ensures { judged_as result ≡ require (eqb c newline) form }
 {
     if c == NEWLINE {
         return Judged::Fine;

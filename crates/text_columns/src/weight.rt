@@ -2,7 +2,7 @@
 ghost use Rattle.std.specs.Prelude.{◌≡◌, ◌≤◌, length};
 ghost use Rattle.automata.specs.Answer.{forget};
 ghost use Rattle.automata.specs.Layout.{amount_width};
-ghost use Rattle.table.specs.Answers.{judgedAs};
+ghost use Rattle.table.specs.Answers.{judged_as};
 ghost use Rattle.table.specs.Records.{option_of};
 ghost use Rattle.text_columns.specs.Columns.{number_as, one_if, blank_count, absent_mark, read_present, read_weight, columns_weight};
 
@@ -59,7 +59,7 @@ pub fn read_present(column: &[u8]) -> Number
 // A weight that may be absent, judged.
 pub fn judge_weight(column: &[u8]) -> Judged
     requires { length column.now ≡ amount_width }
-    ensures { judgedAs result ≡ forget (read_weight column.now) }
+    ensures { judged_as result ≡ forget (read_weight column.now) }
 {
     if is_absent(column) {
         return Judged::Fine;

@@ -13,7 +13,7 @@ use Rattle.automata.proofs.AnswerFacts.{forget-beside, forget_unit, forget_map}
 use Rattle.automata.specs.Layout.{amount_width, arc_width, label_width, labels_column, newline, number_width, weight_column}
 use Rattle.text_columns.specs.declared.decimal.Number.{Number}
 use Rattle.table.specs.declared.answer.Judged.{Judged}
-use Rattle.table.specs.Answers.{judgedAs}
+use Rattle.table.specs.Answers.{judged_as}
 use Rattle.text_columns.specs.Columns.{number_as, read_state_number, read_present, labels_read}
 use Rattle.text_lines.specs.Lines.{arc_parts, read_arc_line}
 use Rattle.text_lines.proofs.LineFacts.{drop_take, line_end_is}
@@ -84,21 +84,21 @@ module _ (tapes states : ℕ) (x : List ℕ) (l : length x ≡ arc_width + tapes
 
 module _ (tapes states : ℕ) (x : List ℕ) (len : length x ≡ arc_width + tapes * label_width) (S T W : Number) (jl je j : Judged)
     (ps : number_as S ≡ read_state_number states (take number_width x)) (pt : number_as T ≡ read_state_number states (take number_width (drop number_width x))) (pw : number_as W ≡ read_present (take amount_width (drop weight_column x)))
-    (pl : judgedAs jl ≡ forget (labels_read tapes (take (length x - 1 - labels_column) (drop labels_column x)))) (pe : judgedAs je ≡ require (eqb (get_or x (length x - 1) 0) newline) form)
-    (pj : judgedAs j ≡ forget (arc_parts (number_as S) (number_as T) (number_as W) (judgedAs jl) (judgedAs je))) where
+    (pl : judged_as jl ≡ forget (labels_read tapes (take (length x - 1 - labels_column) (drop labels_column x)))) (pe : judged_as je ≡ require (eqb (get_or x (length x - 1) 0) newline) form)
+    (pj : judged_as j ≡ forget (arc_parts (number_as S) (number_as T) (number_as W) (judged_as jl) (judged_as je))) where
   last-place : length x - 1 ≡ labels_column + tapes * label_width
   last-place = omega arith
 
   label_places : length x - 1 - labels_column ≡ tapes * label_width
   label_places = omega arith
 
-  line_parts : read_arc_line tapes states x ≡ (arc_fields (number_as S) (number_as T) (number_as W) (labels_read tapes (take (tapes * label_width) (drop labels_column x))) (judgedAs je) >>= λ p. ok p.0)
+  line_parts : read_arc_line tapes states x ≡ (arc_fields (number_as S) (number_as T) (number_as W) (labels_read tapes (take (tapes * label_width) (drop labels_column x))) (judged_as je) >>= λ p. ok p.0)
   line_parts = line_is tapes states x len ∙ rw (← ps, ← pt, ← pw, pe, last-place)
 
-  judged_fields : judgedAs j ≡ forget (arc_fields (number_as S) (number_as T) (number_as W) (labels_read tapes (take (tapes * label_width) (drop labels_column x))) (judgedAs je))
-  judged_fields = pj ∙ fields_forgot (number_as S) (number_as T) (number_as W) (labels_read tapes (take (tapes * label_width) (drop labels_column x))) (judgedAs jl) (judgedAs je)
+  judged_fields : judged_as j ≡ forget (arc_fields (number_as S) (number_as T) (number_as W) (labels_read tapes (take (tapes * label_width) (drop labels_column x))) (judged_as je))
+  judged_fields = pj ∙ fields_forgot (number_as S) (number_as T) (number_as W) (labels_read tapes (take (tapes * label_width) (drop labels_column x))) (judged_as jl) (judged_as je)
       (pl ∙ ap (λ (n : ℕ). forget (labels_read tapes (take n (drop labels_column x)))) label_places)
 
-  pub arc-line_judged : judgedAs j ≡ forget (read_arc_line tapes states x)
+  pub arc-line_judged : judged_as j ≡ forget (read_arc_line tapes states x)
   arc-line_judged =
-      judged_fields ∙ sym (forget_map (arc_fields (number_as S) (number_as T) (number_as W) (labels_read tapes (take (tapes * label_width) (drop labels_column x))) (judgedAs je)) (λ p. p.0)) ∙ ap forget (sym line_parts)
+      judged_fields ∙ sym (forget_map (arc_fields (number_as S) (number_as T) (number_as W) (labels_read tapes (take (tapes * label_width) (drop labels_column x))) (judged_as je)) (λ p. p.0)) ∙ ap forget (sym line_parts)

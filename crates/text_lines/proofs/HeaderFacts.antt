@@ -19,7 +19,7 @@ use Rattle.text_columns.specs.declared.decimal.Number.TheVariants.{Value, Refuse
 use Rattle.table.specs.declared.answer.Refusal.{Refusal}
 use Rattle.table.specs.declared.answer.Judged.{Judged}
 use Rattle.table.specs.declared.answer.Judged.TheVariants as judged
-use Rattle.table.specs.Answers.{refusalNumber, judgedAs}
+use Rattle.table.specs.Answers.{refusal_number, judged_as}
 use Rattle.table.proofs.AnswerFacts.{forget-ok}
 use Rattle.text_columns.specs.Columns.{number_as, number_of, read_decimal}
 use Rattle.text_lines.specs.Lines.{read_header, counts_judged}
@@ -29,20 +29,20 @@ use Rattle.text_lines.proofs.ArcFacts.{forget-left}
 -- ---- the test of the counts
 module _ (j : Judged) (t s a : ℕ) where
   module _ (e : j ≡ judged.Fine) where
-    pub counts-none : t < 1 → refused 3 ≡ counts_judged (judgedAs j) t s a
-    counts-none h = rw (e, lt-leb 1 t h)
+    pub counts_none : t < 1 → refused 3 ≡ counts_judged (judged_as j) t s a
+    counts_none h = rw (e, lt-leb 1 t h)
 
-    pub counts-tapes : 1 ≤ t → 8 < t → refused 3 ≡ counts_judged (judgedAs j) t s a
-    counts-tapes g h = rw (e, le-leb 1 t g, lt-leb t 8 h)
+    pub counts_tapes : 1 ≤ t → 8 < t → refused 3 ≡ counts_judged (judged_as j) t s a
+    counts_tapes g h = rw (e, le-leb 1 t g, lt-leb t 8 h)
 
-    pub counts-states : 1 ≤ t → t ≤ 8 → 1024 < s → refused 3 ≡ counts_judged (judgedAs j) t s a
-    counts-states g f h = rw (e, le-leb 1 t g, le-leb t 8 f, lt-leb s 1024 h)
+    pub counts_states : 1 ≤ t → t ≤ 8 → 1024 < s → refused 3 ≡ counts_judged (judged_as j) t s a
+    counts_states g f h = rw (e, le-leb 1 t g, le-leb t 8 f, lt-leb s 1024 h)
 
-    pub counts-arcs : 1 ≤ t → t ≤ 8 → s ≤ 1024 → 8192 < a → refused 3 ≡ counts_judged (judgedAs j) t s a
-    counts-arcs g f d h = rw (e, le-leb 1 t g, le-leb t 8 f, le-leb s 1024 d, lt-leb a 8192 h)
+    pub counts_arcs : 1 ≤ t → t ≤ 8 → s ≤ 1024 → 8192 < a → refused 3 ≡ counts_judged (judged_as j) t s a
+    counts_arcs g f d h = rw (e, le-leb 1 t g, le-leb t 8 f, le-leb s 1024 d, lt-leb a 8192 h)
 
-    pub counts-fit : 1 ≤ t → t ≤ 8 → s ≤ 1024 → a ≤ 8192 → ok tt ≡ counts_judged (judgedAs j) t s a
-    counts-fit g f d h = rw (e, le-leb 1 t g, le-leb t 8 f, le-leb s 1024 d, le-leb a 8192 h)
+    pub counts_fit_lem : 1 ≤ t → t ≤ 8 → s ≤ 1024 → a ≤ 8192 → ok tt ≡ counts_judged (judged_as j) t s a
+    counts_fit_lem g f d h = rw (e, le-leb 1 t g, le-leb t 8 f, le-leb s 1024 d, le-leb a 8192 h)
 
 -- ---- the line
 abbrev fits : ℕ × (ℕ × ℕ) → Answer (ℕ × (ℕ × ℕ))
@@ -100,27 +100,27 @@ header_read T S A e h =
 
 module _ (x : List ℕ) (l : length x ≡ header_width) (T S A : Number) (jt js ja jsa jc jf je j : Judged) (nt ns na : ℕ)
     (pt : number_as T ≡ read_decimal (take tapes_width x)) (ps : number_as S ≡ read_decimal (take number_width (drop tapes_width x))) (pa : number_as A ≡ read_decimal (take number_width (drop arcs_column x)))
-    (qt : judgedAs jt ≡ forget (number_as T)) (qs : judgedAs js ≡ forget (number_as S)) (qa : judgedAs ja ≡ forget (number_as A))
-    (qsa : judgedAs jsa ≡ forget (beside (judgedAs js) (judgedAs ja))) (qc : judgedAs jc ≡ forget (beside (judgedAs jt) (judgedAs jsa)))
+    (qt : judged_as jt ≡ forget (number_as T)) (qs : judged_as js ≡ forget (number_as S)) (qa : judged_as ja ≡ forget (number_as A))
+    (qsa : judged_as jsa ≡ forget (beside (judged_as js) (judged_as ja))) (qc : judged_as jc ≡ forget (beside (judged_as jt) (judged_as jsa)))
     (vt : nt ≡ number_of T) (vs : ns ≡ number_of S) (va : na ≡ number_of A)
-    (qf : judgedAs jf ≡ counts_judged (judgedAs jc) nt ns na) (qe : judgedAs je ≡ require (eqb (get_or x header_end 0) newline) form)
-    (qj : judgedAs j ≡ forget (beside (judgedAs jf) (judgedAs je))) where
-  header_parts_lem : read_header x ≡ (header_parts (number_as T) (number_as S) (number_as A) (judgedAs je) >>= λ p. ok p.0)
+    (qf : judged_as jf ≡ counts_judged (judged_as jc) nt ns na) (qe : judged_as je ≡ require (eqb (get_or x header_end 0) newline) form)
+    (qj : judged_as j ≡ forget (beside (judged_as jf) (judged_as je))) where
+  header_parts_lem : read_header x ≡ (header_parts (number_as T) (number_as S) (number_as A) (judged_as je) >>= λ p. ok p.0)
   header_parts_lem =
       let dt : number_as T ≡ (decimal tapes_width).read (take tapes_width x) = pt ∙ decimal_at tapes_width (take tapes_width x) (length-take-le tapes_width x (omega arith)) in
       let ds : number_as S ≡ (decimal number_width).read (take number_width (drop tapes_width x)) = ps ∙ decimal_at number_width (take number_width (drop tapes_width x)) (length-take-le number_width (drop tapes_width x) (simp length-drop (omega arith))) in
       let da : number_as A ≡ (decimal number_width).read (take number_width (drop arcs_column x)) = pa ∙ decimal_at number_width (take number_width (drop arcs_column x)) (length-take-le number_width (drop arcs_column x) (simp length-drop (omega arith))) in
       header_is x l ∙ rw (← dt, ← ds, ← da, ← qe)
 
-  judged_parts : judgedAs j ≡ forget (header_parts (number_as T) (number_as S) (number_as A) (judgedAs je))
+  judged_parts : judged_as j ≡ forget (header_parts (number_as T) (number_as S) (number_as A) (judged_as je))
   judged_parts =
-      let c : judgedAs jc ≡ forget (beside (number_as T) (beside (number_as S) (number_as A))) =
+      let c : judged_as jc ≡ forget (beside (number_as T) (beside (number_as S) (number_as A))) =
       qc ∙ rw (qt, qsa, qs, qa) (ap (λ (z : Answer (Unit {0})). forget (beside (forget (number_as T)) z)) (forget-beside (number_as S) (number_as A)) ∙ forget-beside (number_as T) (beside (number_as S) (number_as A))) in
-      let f : judgedAs jf ≡ forget (beside (number_as T) (beside (number_as S) (number_as A)) >>= fits) = qf ∙ rw (c, vt, vs, va) (counts_forgot T S A) in
-      qj ∙ rw f (forget-left (beside (number_as T) (beside (number_as S) (number_as A)) >>= fits) (judgedAs je))
+      let f : judged_as jf ≡ forget (beside (number_as T) (beside (number_as S) (number_as A)) >>= fits) = qf ∙ rw (c, vt, vs, va) (counts_forgot T S A) in
+      qj ∙ rw f (forget-left (beside (number_as T) (beside (number_as S) (number_as A)) >>= fits) (judged_as je))
 
-  pub header_refused : (k : Refusal) → j ≡ judged.Refused k → refused (refusalNumber k) ≡ read_header x
-  header_refused k f = refused_map (header_parts (number_as T) (number_as S) (number_as A) (judgedAs je)) (λ p. p.0) (refusalNumber k) (sym judged_parts ∙ ap judgedAs f) ∙ sym header_parts_lem
+  pub header_refused : (k : Refusal) → j ≡ judged.Refused k → refused (refusal_number k) ≡ read_header x
+  header_refused k f = refused_map (header_parts (number_as T) (number_as S) (number_as A) (judged_as je)) (λ p. p.0) (refusal_number k) (sym judged_parts ∙ ap judged_as f) ∙ sym header_parts_lem
 
   pub header_fine : j ≡ judged.Fine → ok (nt, (ns, na)) ≡ read_header x
-  header_fine f = rw (vt, vs, va) (header_read T S A (judgedAs je) (sym judged_parts ∙ ap judgedAs f) ∙ sym header_parts_lem)
+  header_fine f = rw (vt, vs, va) (header_read T S A (judged_as je) (sym judged_parts ∙ ap judged_as f) ∙ sym header_parts_lem)

@@ -16,7 +16,7 @@ use Rattle.automata.specs.Refusal.{form}
 use Rattle.automata.proofs.AnswerFacts.{forget-beside, forget_map, forget_unit}
 use Rattle.automata.specs.Layout.{amount_width, newline, state_end, state_width}
 use Rattle.table.specs.declared.answer.Judged.{Judged}
-use Rattle.table.specs.Answers.{judgedAs}
+use Rattle.table.specs.Answers.{judged_as}
 use Rattle.text_columns.specs.Columns.{read_weight}
 use Rattle.text_lines.specs.Lines.{read_state_line}
 
@@ -57,9 +57,9 @@ state_forgets a b e =
     ∙ forget-beside (beside a b >>= λ p. ok (state_of p)) e
 
 module _ (x : List ℕ) (l : length x ≡ state_width) (ja jb jw je j : Judged)
-    (p : judgedAs ja ≡ forget (read_weight (take amount_width x))) (q : judgedAs jb ≡ forget (read_weight (take amount_width (drop amount_width x)))) (w : judgedAs jw ≡ forget (beside (judgedAs ja) (judgedAs jb)))
-    (e : judgedAs je ≡ require (eqb (get_or x state_end 0) newline) form) (h : judgedAs j ≡ forget (beside (judgedAs jw) (judgedAs je))) where
-  pub state-line_judged : judgedAs j ≡ forget (read_state_line x)
+    (p : judged_as ja ≡ forget (read_weight (take amount_width x))) (q : judged_as jb ≡ forget (read_weight (take amount_width (drop amount_width x)))) (w : judged_as jw ≡ forget (beside (judged_as ja) (judged_as jb)))
+    (e : judged_as je ≡ require (eqb (get_or x state_end 0) newline) form) (h : judged_as j ≡ forget (beside (judged_as jw) (judged_as je))) where
+  pub state-line_judged : judged_as j ≡ forget (read_state_line x)
   state-line_judged =
       let a = read_weight (take amount_width x) in
       let b = read_weight (take amount_width (drop amount_width x)) in

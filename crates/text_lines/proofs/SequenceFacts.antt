@@ -13,7 +13,7 @@ use Rattle.automata.specs.Sequence.{read_first}
 use Rattle.automata.specs.TableText.{state_line, arc_line}
 use Rattle.automata.proofs.AnswerFacts.{refused≢ok}
 use Rattle.automata.specs.Layout.{arc_width, label_width, state_width}
-use Rattle.table.specs.Answers.{refusalNumber, judgedAs}
+use Rattle.table.specs.Answers.{refusal_number, judged_as}
 use Rattle.table.proofs.SequenceFacts.{many_stop, many_none, at_short, at_value, at_next}
 use Rattle.text_lines.specs.Lines.{read_state_line, read_arc_line, first_state, states_judged, first_arc, arcs_judged}
 use Rattle.table.specs.declared.answer.Refusal.{Refusal}
@@ -37,21 +37,21 @@ module _ (text : List ℕ) (at : ℕ) (h : at ≤ length text) where
   unfolding first_state
   state-short k = at_short state_line state_width refl text at h k
 
-  pub state_judged : (j : Judged) → state_width ≤ length text - at → judgedAs j ≡ forget (read_state_line (take (at + state_width - at) (drop at text))) → judgedAs j ≡ first_state (drop at text)
+  pub state_judged : (j : Judged) → state_width ≤ length text - at → judged_as j ≡ forget (read_state_line (take (at + state_width - at) (drop at text))) → judged_as j ≡ first_state (drop at text)
   unfolding first_state read_state_line
   state_judged j k e =
       let n : at + state_width - at ≡ state_width = omega arith in
       e ∙ ap (λ (m : ℕ). forget (read_state_line (take m (drop at text)))) n ∙ at_value state_line state_width refl text at h k
 
   module _ (left : ℕ) (p : 0 < left) where
-    pub states-refused : (j : Judged) (k : Refusal) → judgedAs j ≡ first_state (drop at text) → j ≡ Refused k → judgedAs j ≡ states_judged left (drop at text)
+    pub states_refused : (j : Judged) (k : Refusal) → judged_as j ≡ first_state (drop at text) → j ≡ Refused k → judged_as j ≡ states_judged left (drop at text)
     unfolding first_state states_judged
-    states-refused j k e f = ap judgedAs f ∙ many_stop state_line (drop at text) left (refusalNumber k) p (sym e ∙ ap judgedAs f)
+    states_refused j k e f = ap judged_as f ∙ many_stop state_line (drop at text) left (refusal_number k) p (sym e ∙ ap judged_as f)
 
-    pub states-turn : (j : Judged) → judgedAs j ≡ first_state (drop at text) → j ≡ Fine
+    pub states_turn : (j : Judged) → judged_as j ≡ first_state (drop at text) → j ≡ Fine
         → (at + state_width ≤ length text) × (states_judged (left - 1) (drop (at + state_width) text) ≡ states_judged left (drop at text))
     unfolding first_state states_judged
-    states-turn j e f = at_next state_line state_width refl text at h left p (sym e ∙ ap judgedAs f)
+    states_turn j e f = at_next state_line state_width refl text at h left p (sym e ∙ ap judged_as f)
 
 pub states_done : (n : ℕ) (x : List ℕ) → n ≡ 0 → ok tt ≡ states_judged n x
 unfolding states_judged
@@ -66,22 +66,22 @@ module _ (tapes states : ℕ) (text : List ℕ) (at : ℕ) (h : at ≤ length te
   unfolding first_arc
   arc-short k = at_short (arc_line tapes states) (arc_width + tapes * label_width) width_is text at h k
 
-  pub arc_at_judged : (j : Judged) → arc_width + tapes * label_width ≤ length text - at → judgedAs j ≡ forget (read_arc_line tapes states (take (at + (arc_width + tapes * label_width) - at) (drop at text)))
-      → judgedAs j ≡ first_arc tapes states (drop at text)
+  pub arc_at_judged : (j : Judged) → arc_width + tapes * label_width ≤ length text - at → judged_as j ≡ forget (read_arc_line tapes states (take (at + (arc_width + tapes * label_width) - at) (drop at text)))
+      → judged_as j ≡ first_arc tapes states (drop at text)
   unfolding first_arc read_arc_line
   arc_at_judged j k e =
       let n : at + (arc_width + tapes * label_width) - at ≡ arc_width + tapes * label_width = omega arith in
       e ∙ ap (λ (m : ℕ). forget ((arc_line tapes states).read (take m (drop at text)))) n ∙ at_value (arc_line tapes states) (arc_width + tapes * label_width) width_is text at h k
 
   module _ (left : ℕ) (p : 0 < left) where
-    pub arcs-refused : (j : Judged) (k : Refusal) → judgedAs j ≡ first_arc tapes states (drop at text) → j ≡ Refused k → judgedAs j ≡ arcs_judged tapes states left (drop at text)
+    pub arcs_refused : (j : Judged) (k : Refusal) → judged_as j ≡ first_arc tapes states (drop at text) → j ≡ Refused k → judged_as j ≡ arcs_judged tapes states left (drop at text)
     unfolding first_arc arcs_judged
-    arcs-refused j k e f = ap judgedAs f ∙ many_stop (arc_line tapes states) (drop at text) left (refusalNumber k) p (sym e ∙ ap judgedAs f)
+    arcs_refused j k e f = ap judged_as f ∙ many_stop (arc_line tapes states) (drop at text) left (refusal_number k) p (sym e ∙ ap judged_as f)
 
-    pub arcs-turn : (j : Judged) → judgedAs j ≡ first_arc tapes states (drop at text) → j ≡ Fine
+    pub arcs_turn : (j : Judged) → judged_as j ≡ first_arc tapes states (drop at text) → j ≡ Fine
         → (at + (arc_width + tapes * label_width) ≤ length text) × (arcs_judged tapes states (left - 1) (drop (at + (arc_width + tapes * label_width)) text) ≡ arcs_judged tapes states left (drop at text))
     unfolding first_arc arcs_judged
-    arcs-turn j e f = at_next (arc_line tapes states) (arc_width + tapes * label_width) width_is text at h left p (sym e ∙ ap judgedAs f)
+    arcs_turn j e f = at_next (arc_line tapes states) (arc_width + tapes * label_width) width_is text at h left p (sym e ∙ ap judged_as f)
 
 pub arcs_done : (tapes states n : ℕ) (x : List ℕ) → n ≡ 0 → ok tt ≡ arcs_judged tapes states n x
 unfolding arcs_judged

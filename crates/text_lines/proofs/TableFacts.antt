@@ -15,7 +15,7 @@ use Rattle.automata.specs.TableText.{is_empty, header_line, state_line, arc_line
 use Rattle.automata.proofs.SequenceFacts.{first-enough, many_only}
 use Rattle.automata.proofs.TextFacts.{header_line_lawful, state_line_lawful, arc_line_lawful}
 use Rattle.automata.specs.Layout.{header_width}
-use Rattle.table.specs.Answers.{refusalNumber, judgedAs}
+use Rattle.table.specs.Answers.{refusal_number, judged_as}
 use Rattle.table.specs.declared.answer.Counts as CountsD
 use Rattle.table.specs.declared.answer.Refusal.{Refusal}
 use Rattle.table.specs.declared.answer.Judged.{Judged}
@@ -58,32 +58,32 @@ module _ (S A : ℕ) (x : List ℕ) where
   text-short h = rw (lt-leb header_width (length x) h)
 
   module _ (r : HeaderLine) (l : header_width ≤ length x) (e : header_as r ≡ read_header (take header_width x)) where
-    pub text-header : (k : Refusal) → r ≡ header.Refused k → header_as r ≡ read_counts S A x
+    pub text_header : (k : Refusal) → r ≡ header.Refused k → header_as r ≡ read_counts S A x
     unfolding read_counts read_table read_header
-    text-header k f = sym (rw (first-enough header_line x l, ← e, f))
+    text_header k f = sym (rw (first-enough header_line x l, ← e, f))
 
     module _ (c : CountsD.Counts) (f : r ≡ header.Counts c) where
       -- the counts of a header that is not refused are in range
-      pub header-bounds : Counts c.tapes c.states c.arcs
+      pub header_bounds : Counts c.tapes c.states c.arcs
       unfolding read_header
-      header-bounds = (header_line_lawful.only (take header_width x) (c.tapes, (c.states, c.arcs)) (length-take-le header_width x l) (sym e ∙ ap header_as f)).0
+      header_bounds = (header_line_lawful.only (take header_width x) (c.tapes, (c.states, c.arcs)) (length-take-le header_width x l) (sym e ∙ ap header_as f)).0
 
-      pub text-states : S < c.states → refused 8 ≡ read_counts S A x
+      pub text_states : S < c.states → refused 8 ≡ read_counts S A x
       unfolding read_counts read_table read_header
-      text-states h = sym (rw (first-enough header_line x l, ← e, f, lt-leb c.states S h))
+      text_states h = sym (rw (first-enough header_line x l, ← e, f, lt-leb c.states S h))
 
-      pub text-arcs : c.states ≤ S → A < c.arcs → refused 9 ≡ read_counts S A x
+      pub text_arcs : c.states ≤ S → A < c.arcs → refused 9 ≡ read_counts S A x
       unfolding read_counts read_table read_header
-      text-arcs g h = sym (rw (first-enough header_line x l, ← e, f, le-leb c.states S g, lt-leb c.arcs A h))
+      text_arcs g h = sym (rw (first-enough header_line x l, ← e, f, le-leb c.states S g, lt-leb c.arcs A h))
 
       module _ (g : c.states ≤ S) (h : c.arcs ≤ A) where
-        text-body : read_counts S A x ≡ (body_judged c.tapes c.states c.arcs (drop header_width x) >>= λ t. ok (c.tapes, (c.states, c.arcs)))
+        text_body : read_counts S A x ≡ (body_judged c.tapes c.states c.arcs (drop header_width x) >>= λ t. ok (c.tapes, (c.states, c.arcs)))
         unfolding read_counts read_table read_header
-        text-body = rw (first-enough header_line x l, ← e, f, le-leb c.states S g, le-leb c.arcs A h) (body_counted c.tapes c.states c.arcs (drop header_width x) header-bounds.states_fit)
+        text_body = rw (first-enough header_line x l, ← e, f, le-leb c.states S g, le-leb c.arcs A h) (body_counted c.tapes c.states c.arcs (drop header_width x) header_bounds.states_fit)
 
-        module _ (j : Judged) (p : judgedAs j ≡ body_judged c.tapes c.states c.arcs (drop header_width x)) where
-          pub text-refused : (k : Refusal) → j ≡ judged.Refused k → refused (refusalNumber k) ≡ read_counts S A x
-          text-refused k q = sym (text-body ∙ rw (← p, q))
+        module _ (j : Judged) (p : judged_as j ≡ body_judged c.tapes c.states c.arcs (drop header_width x)) where
+          pub text-refused : (k : Refusal) → j ≡ judged.Refused k → refused (refusal_number k) ≡ read_counts S A x
+          text-refused k q = sym (text_body ∙ rw (← p, q))
 
-          pub text-fine : j ≡ judged.Fine → ok (c.tapes, (c.states, c.arcs)) ≡ read_counts S A x
-          text-fine q = sym (text-body ∙ rw (← p, q))
+          pub text_fine : j ≡ judged.Fine → ok (c.tapes, (c.states, c.arcs)) ≡ read_counts S A x
+          text_fine q = sym (text_body ∙ rw (← p, q))

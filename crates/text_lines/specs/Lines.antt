@@ -6,7 +6,7 @@ use Rattle.automata.specs.Refusal.{size, form}
 use Rattle.automata.specs.Table.{counts_fit}
 use Rattle.automata.specs.Sequence.{read_first, read_many}
 use Rattle.automata.specs.TableText.{is_empty, header_line, state_line, arc_line, read_table}
-use Rattle.table.specs.Answers.{refusalNumber}
+use Rattle.table.specs.Answers.{refusal_number}
 use Rattle.text_lines.specs.declared.header.HeaderLine.{HeaderLine}
 use Rattle.text_lines.specs.declared.header.HeaderLine.TheVariants as header
 
@@ -31,7 +31,7 @@ read_arc_line tapes states x = (arc_line tapes states).read x
 -- the counts of a header, or its refusal
 abbrev pub header_as : HeaderLine → Answer (ℕ × (ℕ × ℕ))
 header_as (header.Counts c) = ok (c.tapes, (c.states, c.arcs))
-header_as (header.Refused r) = refused (refusalNumber r)
+header_as (header.Refused r) = refused (refusal_number r)
 
 -- the counts in the 16 places of a list
 unfoldable pub read_header : List ℕ → Answer (ℕ × (ℕ × ℕ))

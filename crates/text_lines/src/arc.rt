@@ -2,7 +2,7 @@
 ghost use Rattle.std.specs.Prelude.{◌≡◌, ◌+◌, ◌*◌, ◌≤◌, length, drop};
 ghost use Rattle.automata.specs.Answer.{forget};
 ghost use Rattle.automata.specs.Layout.{arc_width, label_width};
-ghost use Rattle.table.specs.Answers.{judgedAs};
+ghost use Rattle.table.specs.Answers.{judged_as};
 ghost use Rattle.text_columns.specs.Columns.{number_as};
 ghost use Rattle.text_lines.specs.Lines.{arc_parts, read_arc_line, first_arc, arcs_judged};
 
@@ -14,8 +14,8 @@ use text_columns::weight::read_present;
 
 // The parts of an arc line side by side.
 fn judge_arc(source: Number, target: Number, weight: Number, labels: Judged, end: Judged) -> Judged
-    ensures { judgedAs result ≡ forget (arc_parts (number_as source) (number_as target) (number_as weight)
-        (judgedAs labels) (judgedAs end)) }
+    ensures { judged_as result ≡ forget (arc_parts (number_as source) (number_as target) (number_as weight)
+        (judged_as labels) (judged_as end)) }
 {
     let from_weight = both(judge_number(weight), labels);
     let from_target = both(judge_number(target), from_weight);
@@ -26,7 +26,7 @@ fn judge_arc(source: Number, target: Number, weight: Number, labels: Judged, end
 // A line of an arc, judged: source, target, weight, and a label on each tape.
 fn judge_arc_line(line: &[u8], tapes: usize, states: usize) -> Judged
     requires { length line.now ≡ arc_width + tapes * label_width }
-    ensures { judgedAs result ≡ forget (read_arc_line tapes states line.now) }
+    ensures { judged_as result ≡ forget (read_arc_line tapes states line.now) }
 {
     let source = read_state_number(&line[0..NUMBER_WIDTH], states);
     let target = read_state_number(&line[NUMBER_WIDTH..12], states);
@@ -39,7 +39,7 @@ fn judge_arc_line(line: &[u8], tapes: usize, states: usize) -> Judged
 // The arc line at a place of a text.
 fn judge_arc_at(text: &[u8], at: usize, tapes: usize, states: usize) -> Judged
     requires { (at ≤ length text.now) × (tapes ≤ 8) }
-    ensures { judgedAs result ≡ first_arc tapes states (drop at text.now) }
+    ensures { judged_as result ≡ first_arc tapes states (drop at text.now) }
 {
     let width = ARC_WIDTH + tapes * LABEL_WIDTH;
     if text.len() - at < width {
@@ -51,7 +51,7 @@ fn judge_arc_at(text: &[u8], at: usize, tapes: usize, states: usize) -> Judged
 // So many arc lines from a place of a text. The first refusal counts.
 pub fn judge_arcs(text: &[u8], start: usize, count: usize, tapes: usize, states: usize) -> Judged
     requires { (start ≤ length text.now) × (tapes ≤ 8) }
-    ensures { judgedAs result ≡ arcs_judged tapes states count (drop start text.now) }
+    ensures { judged_as result ≡ arcs_judged tapes states count (drop start text.now) }
 {
     let width = ARC_WIDTH + tapes * LABEL_WIDTH;
     let mut left = count;

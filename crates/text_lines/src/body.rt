@@ -1,6 +1,6 @@
 // What follows the header of a table.
 ghost use Rattle.std.specs.Prelude.{◌≡◌, ◌≤◌, length, drop};
-ghost use Rattle.table.specs.Answers.{judgedAs};
+ghost use Rattle.table.specs.Answers.{judged_as};
 ghost use Rattle.text_lines.specs.Lines.{body_judged};
 ghost use Rattle.automata.specs.Layout.{header_width};
 
@@ -12,7 +12,7 @@ use table::layout::{ARC_WIDTH, HEADER_WIDTH, LABEL_WIDTH, STATE_WIDTH};
 // The lines of the states, those of the arcs, and nothing more.
 pub fn judge_body(text: &[u8], tapes: usize, states: usize, arcs: usize) -> Judged
     requires { (header_width ≤ length text.now) × ((tapes ≤ 8) × (states ≤ 1024)) }
-    ensures { judgedAs result ≡ body_judged tapes states arcs (drop header_width text.now) }
+    ensures { judged_as result ≡ body_judged tapes states arcs (drop header_width text.now) }
 {
     let state_lines = judge_states(text, HEADER_WIDTH, states);
     let Judged::Fine = state_lines else {

@@ -1,6 +1,6 @@
 // The header of a table: how many tapes, states and arcs it has.
 ghost use Rattle.std.specs.Prelude.{◌≡◌, length};
-ghost use Rattle.table.specs.Answers.{judgedAs};
+ghost use Rattle.table.specs.Answers.{judged_as};
 ghost use Rattle.text_lines.specs.Lines.{header_as, read_header, counts_judged};
 ghost use Rattle.automata.specs.Layout.{header_width};
 
@@ -11,7 +11,7 @@ use text_columns::label::line_end;
 
 // The counts of a header are in range, where its columns are fine.
 fn judge_counts(columns: Judged, tapes: usize, states: usize, arcs: usize) -> Judged
-    ensures { judgedAs result ≡ counts_judged (judgedAs columns) tapes states arcs }
+    ensures { judged_as result ≡ counts_judged (judged_as columns) tapes states arcs }
 {
     let Judged::Fine = columns else {
         return columns;

@@ -2,7 +2,7 @@
 ghost use Rattle.std.specs.Prelude.{◌≡◌, ◌≤◌, length, drop};
 ghost use Rattle.automata.specs.Answer.{forget};
 ghost use Rattle.automata.specs.Layout.{state_width};
-ghost use Rattle.table.specs.Answers.{judgedAs};
+ghost use Rattle.table.specs.Answers.{judged_as};
 ghost use Rattle.text_lines.specs.Lines.{read_state_line, first_state, states_judged};
 
 use table::answer::{Judged, Refusal, both};
@@ -13,7 +13,7 @@ use text_columns::weight::judge_weight;
 // A line of a state, judged: its initial and its final weight.
 fn judge_state_line(line: &[u8]) -> Judged
     requires { length line.now ≡ state_width }
-    ensures { judgedAs result ≡ forget (read_state_line line.now) }
+    ensures { judged_as result ≡ forget (read_state_line line.now) }
 {
     let initial = judge_weight(&line[0..AMOUNT_WIDTH]);
     let last = judge_weight(&line[AMOUNT_WIDTH..STATE_END]);
@@ -24,7 +24,7 @@ fn judge_state_line(line: &[u8]) -> Judged
 // The state line at a place of a text.
 fn judge_state(text: &[u8], at: usize) -> Judged
     requires { at ≤ length text.now }
-    ensures { judgedAs result ≡ first_state (drop at text.now) }
+    ensures { judged_as result ≡ first_state (drop at text.now) }
 {
     if text.len() - at < STATE_WIDTH {
         return Judged::Refused(Refusal::Short);
@@ -35,7 +35,7 @@ fn judge_state(text: &[u8], at: usize) -> Judged
 // So many state lines from a place of a text. The first refusal counts.
 pub fn judge_states(text: &[u8], start: usize, count: usize) -> Judged
     requires { start ≤ length text.now }
-    ensures { judgedAs result ≡ states_judged count (drop start text.now) }
+    ensures { judged_as result ≡ states_judged count (drop start text.now) }
 {
     let mut left = count;
     let mut at = start;

@@ -59,24 +59,24 @@ module _ (a : Answer TableCounts) (states arcs : List ℕ) where
   drop_counts m mask s e = made_fits (drop_answer m mask (space_of s)) s (λ A. drop_fits m mask (space_of s) A) e
 
   module _ (work : List ℕ) where
-    built-fits : (r : Answer (Automaton ℕ)) (s : Slices) (w : List ℕ) → ((A : Automaton ℕ) → r ≡ ok A → Storable (space_of s) A)
+    built_fits : (r : Answer (Automaton ℕ)) (s : Slices) (w : List ℕ) → ((A : Automaton ℕ) → r ≡ ok A → Storable (space_of s) A)
         → built_of a states arcs work ≡ build r s w → CountsFit a
     unfolding build
-    built-fits r s w h e = made_fits r s h (ap (λ (o : Built). o.made) e)
+    built_fits r s w h e = made_fits r s h (ap (λ (o : Built). o.made) e)
 
-    pub intersect-counts : (m : Memory) (ps : List TapePair) (s : Slices) (w : List ℕ) → built_of a states arcs work ≡ intersect_outcome m ps s w → CountsFit a
+    pub intersect_counts : (m : Memory) (ps : List TapePair) (s : Slices) (w : List ℕ) → built_of a states arcs work ≡ intersect_outcome m ps s w → CountsFit a
     unfolding intersect_outcome
-    intersect-counts m ps s w e = built-fits (intersect_answer m ps (space_of s) w) s w (λ A. intersect_fits m ps (space_of s) w A) e
+    intersect_counts m ps s w e = built_fits (intersect_answer m ps (space_of s) w) s w (λ A. intersect_fits m ps (space_of s) w A) e
 
-    pub product-counts : (m k : Memory) (s : Slices) (w : List ℕ) → built_of a states arcs work ≡ product_outcome m k s w → CountsFit a
+    pub product_counts : (m k : Memory) (s : Slices) (w : List ℕ) → built_of a states arcs work ≡ product_outcome m k s w → CountsFit a
     unfolding product_outcome
-    product-counts m k s w e = built-fits (product_answer m k (space_of s) w) s w (λ A. product_fits m k (space_of s) w A) e
+    product_counts m k s w e = built_fits (product_answer m k (space_of s) w) s w (λ A. product_fits m k (space_of s) w A) e
 
-    module _ (product_states productArcs : List ℕ) where
-      pub join-counts : (m k : Memory) (ps : List TapePair) (p s : Slices) (w : List ℕ)
-          → joined_of a states arcs product_states productArcs work ≡ join_outcome m k ps p s w → CountsFit a
+    module _ (product_states product_arcs : List ℕ) where
+      pub join_counts : (m k : Memory) (ps : List TapePair) (p s : Slices) (w : List ℕ)
+          → joined_of a states arcs product_states product_arcs work ≡ join_outcome m k ps p s w → CountsFit a
       unfolding join_outcome conclude
-      join-counts m k ps p s w e =
+      join_counts m k ps p s w e =
           made_fits (join_answer m k ps (space_of p) (space_of s) w) s (λ A. join_fits m k ps (space_of p) (space_of s) w A) (ap (λ (o : Joined). o.made) e)
 
 -- ---- writing

@@ -25,10 +25,10 @@ pub written-told : (r : ℕ) (a : Answer ℕ) (output : List ℕ) (o : Written) 
 written-told r a output o e w = ap (λ (n : ℕ). tells_written n output) w ∙ ap told_written e
 
 -- a join
-pub joined-told : (r : ℕ) (a : Answer TableCounts) (states arcs product_states productArcs work : List ℕ) (o : Joined)
-    → joined_of a states arcs product_states productArcs work ≡ o → r ≡ table_word a → tells_joined r states arcs product_states productArcs work ≡ told_joined o
-joined-told r a states arcs product_states productArcs work o e w =
-    ap (λ (n : ℕ). tells_joined n states arcs product_states productArcs work) w ∙ ap told_joined e
+pub joined-told : (r : ℕ) (a : Answer TableCounts) (states arcs product_states product_arcs work : List ℕ) (o : Joined)
+    → joined_of a states arcs product_states product_arcs work ≡ o → r ≡ table_word a → tells_joined r states arcs product_states product_arcs work ≡ told_joined o
+joined-told r a states arcs product_states product_arcs work o e w =
+    ap (λ (n : ℕ). tells_joined n states arcs product_states product_arcs work) w ∙ ap told_joined e
 
 -- a lookup
 pub found_told : (r : ℕ) (a : Answer (Option ℕ)) (work : List ℕ) (o : Found) → found_of a work ≡ o → r ≡ weight_word a → tells_found r work ≡ told_found o

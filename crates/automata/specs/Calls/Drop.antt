@@ -1,4 +1,4 @@
--- The call `dropTapes` (document 01: dropping), whose set of tapes is the mask of a byte.
+-- The call `drop_tapes` (document 01: dropping), whose set of tapes is the mask of a byte.
 use Rattle.std.specs.Prelude.{Bool, ℕ, zero, suc, ◌+◌, ◌*◌, ◌/◌, ◌%◌, ◌^◌, eqb}
 use Rattle.automata.specs.Limits.{max_tapes}
 use Rattle.automata.specs.Lists.{if}

@@ -81,12 +81,12 @@ module _ {C L : Type 0} (out : C → List (L × C)) where
         go true e r = ap suc r
         go false e r = TestFacts.false_not_true refl e
 
-    length-all : (k : ℕ) (cs : List C) → ((c : C) (s : L × C) → c ∈ cs → s ∈ out c → member same s.1 ds ≡ true)
+    length_all : (k : ℕ) (cs : List C) → ((c : C) (s : L × C) → c ∈ cs → s ∈ out c → member same s.1 ds ≡ true)
         → length (concat (map (λ v. map_maybe (edge_to same ds v.0) (out v.1)) (numbered k cs))) ≡ total (λ c. length (out c)) cs
-    length-all k [] h = refl
-    length-all k (c ∷ cs) h =
+    length_all k [] h = refl
+    length_all k (c ∷ cs) h =
         length-append (map_maybe (edge_to same ds k) (out c)) (concat (map (λ v. map_maybe (edge_to same ds v.0) (out v.1)) (numbered (suc k) cs)))
-        ∙ (λ i. length_from k (out c) (λ s m. h c s (here refl) m) i + length-all (suc k) cs (λ c s m. h c s (there m)) i)
+        ∙ (λ i. length_from k (out c) (λ s m. h c s (here refl) m) i + length_all (suc k) cs (λ c s m. h c s (there m)) i)
 
 -- ---- what is found
 
@@ -114,7 +114,7 @@ module _ {C L : Type 0} (same : C → C → Bool) (decided : Decides same) (out 
 
   count : length found ≤ cap → length (edges same out found) ≡ length (all_steps out found)
   unfolding edges
-  count h = length-all out same found 0 found
+  count h = length_all out same found 0 found
       (λ c s m k. member_complete same decided s.1 found (reached_closed same decided out from cap h c s.1 m (ListFacts.map_keeps (λ (s : L × C). s.1) (out c) k)))
       ∙ sym (length_all_steps out found)
 

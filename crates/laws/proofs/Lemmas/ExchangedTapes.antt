@@ -124,10 +124,10 @@ module _ (n m : ℕ) (ps : List Pair) (r : T (within n m ps)) where
     open S use {W, ⊕_comm}
 
     -- the sums over all that meet in t are those over all that meet the other way round
-    pub sums-exchanged : (X Y : Tuple → W → Type 0) → ((u : Tuple) (a : W) → X u a → length u ≡ n) → ((v : Tuple) (b : W) → Y v b → length v ≡ m)
+    pub sums_exchanged : (X Y : Tuple → W → Type 0) → ((u : Tuple) (a : W) → X u a → length u ≡ n) → ((v : Tuple) (b : W) → Y v b → length v ≡ m)
         → (t : Tuple) → length t ≡ n + place_after (seconds ps) m → (w : W)
         → SumsOf S X Y (λ u v. Meet ps u v t) w ↔ SumsOf S Y X (λ v u. Meet (turned ps) v u (chosen (exchanged_tapes n m ps) t)) w
-    sums-exchanged X Y wX wY t lt w = (
+    sums_exchanged X Y wX wY t lt w = (
       λ (u, v, a, b, x, y, z, e). (v, u, b, a, y, x, (meet_turned d u v (wX u a x) (wY v b y) t lt).0 z, ⊕_comm b a ∙ e),
       λ (v, u, b, a, y, x, z, e). (u, v, a, b, x, y, (meet_turned d u v (wX u a x) (wY v b y) t lt).1 z, ⊕_comm a b ∙ e),
     )

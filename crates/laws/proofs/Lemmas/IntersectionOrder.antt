@@ -93,17 +93,17 @@ module _ {W : Type 0} (A : Automaton W) (ps : List TapePair) (viable : Config �
         (ap start_key z ∙ e, subst (λ (d : Config). d ∈ starts A ps viable) (sym z) (starts_keeps A ps viable q i p (ap viable (sym z) ∙ decides.complete c v)))
 
     -- a step of the search is a step of the configurations
-    step-parts : (c : Config) (e : ℕ × Arc W) (d : Config) → ◌∈◌ {A = (ℕ × Arc W) × Config} (e, d) (out A ps viable c)
+    step_parts : (c : Config) (e : ℕ × Arc W) (d : Config) → ◌∈◌ {A = (ℕ × Arc W) × Config} (e, d) (out A ps viable c)
         → (get_elem? A.arcs e.0 ≡ some e.1) × (e.1.source ≡ c.state) × (follow ps c e.1 ≡ some d)
-    step-parts c e d m =
+    step_parts c e d m =
         let t = out_lead A ps viable c e d m in (
           t.numbered_arc,
           t.source_state,
           ap (Option.map (λ ls. record { state = e.1.target; leftovers = ls })) t.leaves ∙ (λ i. some (record { state = t.target_state i; leftovers = d.leftovers })),
         )
 
-    steps-to : (c : Config) (s : Key) (d : Config) → search_graph.Steps c s d → (config_graph A ps).Steps c s d
-    steps-to c s d (e, k, m) = let (p, f, t) = step-parts c e d m in (e.0, e.1, p, f, t, decides.sound d (step-viable c e d m), k)
+    steps_to : (c : Config) (s : Key) (d : Config) → search_graph.Steps c s d → (config_graph A ps).Steps c s d
+    steps_to c s d (e, k, m) = let (p, f, t) = step_parts c e d m in (e.0, e.1, p, f, t, decides.sound d (step-viable c e d m), k)
 
     -- and the other way round, where no step is delayed
     step-out : (cs : List Config) → delayed A ps viable cs ≡ false → (c d : Config) (e : ℕ) (a : Arc W) → c ∈ cs → get_elem? A.arcs e ≡ some a
@@ -113,46 +113,46 @@ module _ {W : Type 0} (A : Automaton W) (ps : List TapePair) (viable : Config �
         subst (λ (b : Config). ◌∈◌ {A = (ℕ × Arc W) × Config} ((e, a), b) (out A ps viable c)) (sym z)
         (rw (out_undelayed A ps viable cs c undelayed m) (candidates_keeps A ps viable c e a ls p f g (ap viable (sym z) ∙ decides.complete d v)))
 
-    steps-from : (cs : List Config) → delayed A ps viable cs ≡ false → (c : Config) (s : Key) (d : Config) → c ∈ cs
+    steps_from : (cs : List Config) → delayed A ps viable cs ≡ false → (c : Config) (s : Key) (d : Config) → c ∈ cs
         → (config_graph A ps).Steps c s d → search_graph.Steps c s d
-    steps-from cs undelayed c s d m (e, a, p, f, t, v, k) = ((e, a), k, step-out cs undelayed c d e a m p f t v)
+    steps_from cs undelayed c s d m (e, a, p, f, t, v, k) = ((e, a), k, step-out cs undelayed c d e a m p f t v)
 
     module _ (cap : ℕ) (small : length (reached_configs A ps viable cap) ≤ cap) (undelayed : delayed A ps viable (reached_configs A ps viable cap) ≡ false) where
       abbrev cs : List Config
       cs = reached_configs A ps viable cap
 
       -- the reached configurations stand in the order first reached
-      searched-ordered : Ordered search_graph (reached_configs A ps viable cap)
+      searched_ordered : Ordered search_graph (reached_configs A ps viable cap)
       unfolding reached_configs
-      searched-ordered = reached_ordered same_config configs_decided start_key arc_key (starts A ps viable) (out A ps viable) starts_increase steps_increase cap small
+      searched_ordered = reached_ordered same_config configs_decided start_key arc_key (starts A ps viable) (out A ps viable) starts_increase steps_increase cap small
 
-      pub found-ordered : Ordered (config_graph A ps) (reached_configs A ps viable cap)
-      found-ordered = ordered_iff search_graph (config_graph A ps) cs
-          (λ s c m. starts-to s c) starts_from (λ b e c m n. steps-to b e c) (λ b e c m. steps-from cs undelayed b e c m) searched-ordered
+      pub found_ordered : Ordered (config_graph A ps) (reached_configs A ps viable cap)
+      found_ordered = ordered_iff search_graph (config_graph A ps) cs
+          (λ s c m. starts-to s c) starts_from (λ b e c m n. steps_to b e c) (λ b e c m. steps_from cs undelayed b e c m) searched_ordered
 
       -- a reached configuration is viable
       reached-viable : (c : Config) → c ∈ cs → Viable A ps c
       reached-viable c m =
           let (k, e) = ListFacts.place cs m in
-          go (arrival (config_graph A ps) cs found-ordered k c e) (arrived (config_graph A ps) cs found-ordered k c e).reaches
+          go (arrival (config_graph A ps) cs found_ordered k c e) (arrived (config_graph A ps) cs found_ordered k c e).reaches
         where
           go : (x : Arrival) → Reaches (config_graph A ps) cs x c → Viable A ps c
           go (start s) (q, i, p, z, v, e) = v
           go (step i e) (b, p, (n, a, q, f, t, v, k)) = v
 
       -- what leads to a kept configuration is kept
-      kept-closed : (b : Config) (e : Key) (c : Config) → b ∈ cs → (config_graph A ps).Steps b e c → c ∈ kept A ps viable cap → b ∈ kept A ps viable cap
-      kept-closed b e c m s h =
-          let (l, _, i) = steps-from cs undelayed b e c m s in
+      kept_closed : (b : Config) (e : Key) (c : Config) → b ∈ cs → (config_graph A ps).Steps b e c → c ∈ kept A ps viable cap → b ∈ kept A ps viable cap
+      kept_closed b e c m s h =
+          let (l, _, i) = steps_from cs undelayed b e c m s in
           (kept_live A ps viable cap b).1 (Trim.goes m (ListFacts.map_keeps (λ (z : (ℕ × Arc W) × Config). z.1) (out A ps viable b) i) ((kept_live A ps viable cap c).0 h))
 
-      result-kept-ordered : Ordered (within (config_graph A ps) (kept A ps viable cap)) (kept A ps viable cap)
+      result_kept_ordered : Ordered (within (config_graph A ps) (kept A ps viable cap)) (kept A ps viable cap)
       unfolding trimmed
-      result-kept-ordered = kept_ordered (config_graph A ps) cs (coaccessible (edge_graph (edges same_config (out A ps viable) cs)) (map (accepting A) cs)) found-ordered kept-closed
+      result_kept_ordered = kept_ordered (config_graph A ps) cs (coaccessible (edge_graph (edges same_config (out A ps viable) cs)) (map (accepting A) cs)) found_ordered kept_closed
 
       gaps : ClosesGaps cs (kept A ps viable cap)
       unfolding trimmed
-      gaps = marks_close_gaps (coaccessible (edge_graph (edges same_config (out A ps viable) cs)) (map (accepting A) cs)) cs found-ordered.distinct
+      gaps = marks_close_gaps (coaccessible (edge_graph (edges same_config (out A ps viable) cs)) (map (accepting A) cs)) cs found_ordered.distinct
 
       abbrev I : Intersection W
       I = result A ps viable cap
@@ -160,54 +160,54 @@ module _ {W : Type 0} (A : Automaton W) (ps : List TapePair) (viable : Config �
       exact : Exact A ps viable cs I
       exact = result_exact A ps viable cap
 
-      state-key : (k : ℕ) (c : Config) → get_elem? (kept A ps viable cap) k ≡ some c → input_state I k ≡ start_key c
+      state_key_lem : (k : ℕ) (c : Config) → get_elem? (kept A ps viable cap) k ≡ some c → input_state I k ≡ start_key c
       unfolding assemble
-      state-key k c e = ap (λ (n : ℕ). n ∷ []) (ListFacts.place_default (map (λ (c : Config). c.state) (kept A ps viable cap)) k zero (place_map (λ (c : Config). c.state) (kept A ps viable cap) k e))
+      state_key_lem k c e = ap (λ (n : ℕ). n ∷ []) (ListFacts.place_default (map (λ (c : Config). c.state) (kept A ps viable cap)) k zero (place_map (λ (c : Config). c.state) (kept A ps viable cap) k e))
 
       starts-table : (s : Key) (k : ℕ) → (by_number (within (config_graph A ps) (kept A ps viable cap)) (kept A ps viable cap)).Starts s k
           → (table_graph I.automaton (input_state I) (input_arc I)).Starts s k
       starts-table s k (c, p, ((q, i, e, z, v, f), m)) =
-          (i, (start_weights A ps viable cap k q (p ∙ ap some z)).0 ∙ e, state-key k c p ∙ ap start_key z ∙ f)
+          (i, (start_weights A ps viable cap k q (p ∙ ap some z)).0 ∙ e, state_key_lem k c p ∙ ap start_key z ∙ f)
 
       table-starts : (s : Key) (k : ℕ) → (table_graph I.automaton (input_state I) (input_arc I)).Starts s k
           → (by_number (within (config_graph A ps) (kept A ps viable cap)) (kept A ps viable cap)).Starts s k
       table-starts s k (i, e, f) =
           let (c, p, z, q) = initial_weight A ps viable cap k i e in
           let m = ListFacts.placed (kept A ps viable cap) k p in
-          (c, p, ((c.state, i, q, z, reached-viable c (gaps.some_of c m), sym (state-key k c p) ∙ f), m))
+          (c, p, ((c.state, i, q, z, reached-viable c (gaps.some_of c m), sym (state_key_lem k c p) ∙ f), m))
 
-      steps-table : (j : ℕ) (s : Key) (k : ℕ) → (by_number (within (config_graph A ps) (kept A ps viable cap)) (kept A ps viable cap)).Steps j s k
+      steps_table : (j : ℕ) (s : Key) (k : ℕ) → (by_number (within (config_graph A ps) (kept A ps viable cap)) (kept A ps viable cap)).Steps j s k
           → (table_graph I.automaton (input_state I) (input_arc I)).Steps j s k
       unfolding assemble
-      steps-table j s k (b, c, p, q, (r, m, n)) =
-          let (e, f, i) = steps-from cs undelayed b s c (gaps.some_of b m) r in
+      steps_table j s k (b, c, p, q, (r, m, n)) =
+          let (e, f, i) = steps_from cs undelayed b s c (gaps.some_of b m) r in
           let (u, v, w) = exact.steps j k b c e p q i in
           (u, arc_of (record { from = j; label = e; to = k }), v, refl, refl, ap (λ (n : ℕ). n ∷ []) w ∙ f)
 
-      table-steps : (j : ℕ) (s : Key) (k : ℕ) → (table_graph I.automaton (input_state I) (input_arc I)).Steps j s k
+      table_steps : (j : ℕ) (s : Key) (k : ℕ) → (table_graph I.automaton (input_state I) (input_arc I)).Steps j s k
           → (by_number (within (config_graph A ps) (kept A ps viable cap)) (kept A ps viable cap)).Steps j s k
       unfolding assemble
-      table-steps j s k (m, a, p, f, t, key) =
+      table_steps j s k (m, a, p, f, t, key) =
           let (c, d, e, u, v, i, o, _) = exact.arcs m a p in (
             c,
             d,
             subst (λ (n : ℕ). get_elem? (kept A ps viable cap) n ≡ some c) f u,
             subst (λ (n : ℕ). get_elem? (kept A ps viable cap) n ≡ some d) t v,
             (
-              steps-to c s d (e, ap (λ (n : ℕ). n ∷ []) (sym o) ∙ key, i),
+              steps_to c s d (e, ap (λ (n : ℕ). n ∷ []) (sym o) ∙ key, i),
               ListFacts.placed (kept A ps viable cap) a.source u,
               ListFacts.placed (kept A ps viable cap) a.target v,
             ),
           )
 
-      table-ordered : OrderedTable I.automaton (input_state I) (input_arc I)
+      table_ordered : OrderedTable I.automaton (input_state I) (input_arc I)
       unfolding assemble
-      table-ordered = record {
+      table_ordered = record {
         states = subst (λ (n : ℕ). Ordered (table_graph I.automaton (input_state I) (input_arc I)) (range zero n)) (sym (length-map (kept A ps viable cap) (state_of A)))
             (ordered_iff (by_number (within (config_graph A ps) (kept A ps viable cap)) (kept A ps viable cap)) (table_graph I.automaton (input_state I) (input_arc I))
             (range zero (length (kept A ps viable cap)))
-            (λ s k m. starts-table s k) table-starts (λ j s k m n. steps-table j s k) (λ j s k m. table-steps j s k)
-            (numbers_ordered (within (config_graph A ps) (kept A ps viable cap)) (kept A ps viable cap) result-kept-ordered));
+            (λ s k m. starts-table s k) table-starts (λ j s k m n. steps_table j s k) (λ j s k m. table_steps j s k)
+            (numbers_ordered (within (config_graph A ps) (kept A ps viable cap)) (kept A ps viable cap) result_kept_ordered));
         arcs = λ m n a b p q h. go m n a b (arc_edge A ps viable cap m a p) (arc_edge A ps viable cap n b q) h;
       }
         where
@@ -225,34 +225,34 @@ module _ {W : Type 0} (A : Automaton W) (ps : List TapePair) (viable : Config �
       live_to c (Trim.ends m f) = (m, Order.ends f)
       live_to c (Trim.goes {d = d} m s r) =
           let (l, i) = successors_label (out A ps viable) c d s in
-          (m, Order.goes (steps-to c (arc_key l) d (l, refl, i)) (live_to d r).1)
+          (m, Order.goes (steps_to c (arc_key l) d (l, refl, i)) (live_to d r).1)
 
-      live-from : (c : Config) → c ∈ cs → Live A ps c → Coaccessible (out A ps viable) (accepting A) cs c
-      live-from c m (Order.ends f) = Trim.ends m f
-      live-from c m (Order.goes {d = d} {s = s} h r) =
+      live_from : (c : Config) → c ∈ cs → Live A ps c → Coaccessible (out A ps viable) (accepting A) cs c
+      live_from c m (Order.ends f) = Trim.ends m f
+      live_from c m (Order.goes {d = d} {s = s} h r) =
           let (k, e) = ListFacts.place cs m in
-          let (l, _, i) = steps-from cs undelayed c s d m h in
-          Trim.goes m (ListFacts.map_keeps (λ (z : (ℕ × Arc W) × Config). z.1) (out A ps viable c) i) (live-from d (found-ordered.complete (step k s) d (c, e, h)) r)
+          let (l, _, i) = steps_from cs undelayed c s d m h in
+          Trim.goes m (ListFacts.map_keeps (λ (z : (ℕ × Arc W) × Config). z.1) (out A ps viable c) i) (live_from d (found_ordered.complete (step k s) d (c, e, h)) r)
 
-      pub result-order : IntersectionOrder A ps (result A ps viable cap)
+      pub result_order : IntersectionOrder A ps (result A ps viable cap)
       unfolding assemble
-      result-order = record {
+      result_order = record {
         tapes = refl;
         reached = cs;
-        reached_ordered = found-ordered;
-        kept = λ c. (λ m. live_to c ((exact.live c).0 m), λ (m, h). (exact.live c).1 (live-from c m h));
+        reached_ordered = found_ordered;
+        kept = λ c. (λ m. live_to c ((exact.live c).0 m), λ (m, h). (exact.live c).1 (live_from c m h));
         gaps_closed = gaps;
         states = refl;
         arcs_step = λ m a e.
             let (c, d, l, u, v, i, o, w) = exact.arcs m a e in
-            let (p, f, t) = step-parts c l d i in
+            let (p, f, t) = step_parts c l d i in
             (c, d, l.1, u, v, subst (λ (n : ℕ). get_elem? A.arcs n ≡ some l.1) (sym o) p, f, t, w);
         steps_arc = λ k j c d e b u v p f t.
             let m = gaps.some_of c (ListFacts.placed (kept A ps viable cap) k u) in
             let h = reached-viable d (gaps.some_of d (ListFacts.placed (kept A ps viable cap) j v)) in
             let (n, q, o) = exact.steps k j c d (e, b) u v (step-out cs undelayed c d e b m p f t h) in
             (n, arc_of (record { from = k; label = (e, b); to = j }), q, refl, refl, refl, o);
-        result_ordered = table-ordered;
+        result_ordered = table_ordered;
       }
 
 -- A result is in the order of request 2.2.
@@ -262,4 +262,4 @@ unfolding intersect
 intersection_order {W} A ps space I formed e =
     let v = Closing.viable (closing_tables A ps) in
     let b = built_fits A ps v space I e in
-    subst (IntersectionOrder A ps) (sym b.1) (result-order A ps v (viable_decides A formed ps) (state_cap space) b.0.states b.0.undelayed)
+    subst (IntersectionOrder A ps) (sym b.1) (result_order A ps v (viable_decides A formed ps) (state_cap space) b.0.states b.0.undelayed)

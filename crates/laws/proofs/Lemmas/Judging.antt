@@ -7,7 +7,7 @@ use Prim.Native.Nat.{ℕ, ◌≤◌, ◌<◌}
 use lib.Dec.{ltb}
 use Rattle.automata.specs.Answer.{◌>>=◌, Answer, ok, refused, require, judge}
 use Rattle.automata.proofs.TestFacts
-use Rattle.automata.proofs.AnswerFacts.{judge_goes_on, then_goes_on}
+use Rattle.automata.proofs.AnswerFacts.{judge-goes_on, then_goes_on}
 
 -- the number of a refusal
 refused_injective : {X : Type 0} {n m : ℕ} → ◌≡◌ {A = Answer X} (refused n) (refused m) → n ≡ m
@@ -20,7 +20,7 @@ judge-cases true k r n e = inr (refl, e)
 judge-cases false k r n e = inl (refl, refused_injective e)
 
 pub judge_on : {X : Type 0} (b : Bool) (k : ℕ) (r : Answer X) (n : ℕ) → b ≡ true → r ≡ refused n → judge b k r ≡ refused n
-judge_on b k r n e q = judge_goes_on b k r e ∙ q
+judge_on b k r n e q = judge-goes_on b k r e ∙ q
 
 -- one answer after another: the first refuses, or it gives a value with which the second does
 pub bind-cases : {X Y : Type 0} (r : Answer X) (k : X → Answer Y) (n : ℕ) → (r >>= k) ≡ refused n → (r ≡ refused n) ⊎ ((x : X) × (r ≡ ok x) × (k x ≡ refused n))
@@ -43,6 +43,6 @@ require-cases false k f n e = inl (refl, refused_injective e)
 pub require_refuses : {X : Type 0} (b : Bool) (k : ℕ) (f : Unit {0} → Answer X) → b ≡ false → (require b k >>= f) ≡ refused k
 require_refuses b k f e = ap (λ b. require b k >>= f) e
 
-pub require_goes_on : {X : Type 0} (b : Bool) (k : ℕ) (f : Unit {0} → Answer X) (n : ℕ) → b ≡ true → f tt ≡ refused n
+pub require-goes_on : {X : Type 0} (b : Bool) (k : ℕ) (f : Unit {0} → Answer X) (n : ℕ) → b ≡ true → f tt ≡ refused n
     → (require b k >>= f) ≡ refused n
-require_goes_on b k f n e q = ap (λ b. require b k >>= f) e ∙ q
+require-goes_on b k f n e q = ap (λ b. require b k >>= f) e ∙ q

@@ -37,15 +37,15 @@ module _ {C : Type 0} where
       go false r e ih = let (k, p, q, z) = ih r e in (suc k, p, q, z)
 
 -- a marked place has fewer marked ones before it than a later place
-pub rank_strict : (marks : List Bool) (i j : ℕ) → get_or marks i false ≡ true → i < j → rank marks i < rank marks j
-rank_strict marks i j m h = let s = rank-marked marks i m in let t : rank marks (suc i) ≤ rank marks j = rank_monotone marks (suc i) j h in omega arith
+pub rank-strict : (marks : List Bool) (i j : ℕ) → get_or marks i false ≡ true → i < j → rank marks i < rank marks j
+rank-strict marks i j m h = let s = rank-marked marks i m in let t : rank marks (suc i) ≤ rank marks j = rank_monotone marks (suc i) j h in omega arith
 
 -- marked places are known by it
 pub rank_injective : (marks : List Bool) (i j : ℕ) → get_or marks i false ≡ true → get_or marks j false ≡ true → rank marks i ≡ rank marks j → i ≡ j
 rank_injective marks i j m n e = elim (compared i j) [
-  | inl h ↦ (let s = rank_strict marks i j m h in absurd (omega arith))
+  | inl h ↦ (let s = rank-strict marks i j m h in absurd (omega arith))
   | inr (inl h) ↦ h
-  | inr (inr h) ↦ (let s = rank_strict marks j i n h in absurd (omega arith))
+  | inr (inr h) ↦ (let s = rank-strict marks j i n h in absurd (omega arith))
 ]
 
 -- ---- the vertices at marked places close the gaps
@@ -58,7 +58,7 @@ marks_close_gaps marks cs dis = record {
       let (j', q, n, s) = at_marks-placed marks cs l d dl in
       let ii : i ≡ i' = PairwiseFacts.distinct-place cs dis i i' ci p in
       let jj : j ≡ j' = PairwiseFacts.distinct-place cs dis j j' dj q in (
-        λ h. let t = rank_strict marks i' j' m (omega arith) in omega arith,
+        λ h. let t = rank-strict marks i' j' m (omega arith) in omega arith,
         λ h. elim (compared i j) [
           | inl t ↦ t
           | inr (inl t) ↦ (let u : rank marks j' ≤ rank marks i' = rank_monotone marks j' i' (omega arith) in absurd (omega arith))
@@ -93,13 +93,13 @@ module _ {C : Type 0} (G : KeyedGraph C) (cs : List C) (marks : List Bool) (o : 
   renumbered_increases : (x y : Arrival) → FromMarked x → x ⊏ y → renumbered x ⊏ renumbered y
   renumbered_increases (start s) (start t) m h = h
   renumbered_increases (start s) (step j f) m h = tt
-  renumbered_increases (step i e) (step j f) m (inl h) = inl (rank_strict marks i j m h)
+  renumbered_increases (step i e) (step j f) m (inl h) = inl (rank-strict marks i j m h)
   renumbered_increases (step i e) (step j f) m (inr (p, h)) = inr (ap (rank marks) p, h)
 
   -- ... and arrivals from below
   renumbered_below : (k : ℕ) (x : Arrival) → FromMarked x → FromBelow k x → FromBelow (rank marks k) (renumbered x)
   renumbered_below k (start s) m b = tt
-  renumbered_below k (step i e) m b = rank_strict marks i k m b
+  renumbered_below k (step i e) m b = rank-strict marks i k m b
 
   -- the place of a kept vertex is marked
   marked : (i : ℕ) (c : C) → get_elem? cs i ≡ some c → c ∈ kept → get_or marks i false ≡ true
@@ -129,7 +129,7 @@ module _ {C : Type 0} (G : KeyedGraph C) (cs : List C) (marks : List Bool) (o : 
     complete = λ y c r. (back y c r).3;
     arrivals = map renumbered (at_marks marks o.arrivals);
     one_each = length-map (at_marks marks o.arrivals) renumbered ∙ length_at_marks marks o.arrivals ∙ ap (rank marks) o.one_each ∙ sym (length_at_marks marks cs);
-    first_reached = first_reached;
+    first-reached = first-reached;
     increasing = increasing;
   }
     where
@@ -151,11 +151,11 @@ module _ {C : Type 0} (G : KeyedGraph C) (cs : List C) (marks : List Bool) (o : 
           (c, p, ListFacts.placed kept (rank marks k) (at_marks-place marks cs k c p m))
 
       from-marked : (k : ℕ) (x : Arrival) → get_elem? o.arrivals k ≡ some x → get_or marks k false ≡ true → FromMarked x
-      from-marked k x e m = let (c, p, h) = vertex k x e m in (forth x c h (o.first_reached k x c e p).reaches).0
+      from-marked k x e m = let (c, p, h) = vertex k x e m in (forth x c h (o.first-reached k x c e p).reaches).0
 
-      first_reached : (r : ℕ) (y : Arrival) (c : C) → get_elem? (map renumbered (at_marks marks o.arrivals)) r ≡ some y → get_elem? kept r ≡ some c
+      first-reached : (r : ℕ) (y : Arrival) (c : C) → get_elem? (map renumbered (at_marks marks o.arrivals)) r ≡ some y → get_elem? kept r ≡ some c
           → FirstReached (within G kept) kept r y c
-      first_reached r y c e f =
+      first-reached r y c e f =
           let (k, x, p, m, z, q) = before r y e in
           let (k', p', m', z') = at_marks-placed marks cs r c f in
           let kk : k' ≡ k = rank_injective marks k' k m' m (z' ∙ sym z) in
@@ -164,7 +164,7 @@ module _ {C : Type 0} (G : KeyedGraph C) (cs : List C) (marks : List Bool) (o : 
           at : (k : ℕ) (x : Arrival) → get_elem? o.arrivals k ≡ some x → get_or marks k false ≡ true → rank marks k ≡ r → renumbered x ≡ y
               → get_elem? cs k ≡ some c → FirstReached (within G kept) kept r y c
           at k x p m z q g =
-              let h = o.first_reached k x c p g in
+              let h = o.first-reached k x c p g in
               let i : c ∈ kept = ListFacts.placed kept r f in
               let (mx, rx) = forth x c i h.reaches in
               record {

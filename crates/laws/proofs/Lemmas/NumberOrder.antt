@@ -31,7 +31,7 @@ module _ {C : Type 0} (G : KeyedGraph C) (cs : List C) where
     complete = complete;
     arrivals = o.arrivals;
     one_each = o.one_each ∙ sym (length_range zero (length cs));
-    first_reached = first_reached;
+    first-reached = first-reached;
     increasing = o.increasing;
   }
     where
@@ -56,11 +56,11 @@ module _ {C : Type 0} (G : KeyedGraph C) (cs : List C) where
           let ij : j ≡ i = omega arith in
           (b, subst (λ (n : ℕ). get_elem? cs n ≡ some b) ij u, subst (G.Steps b e) (some-injective d c (sym q ∙ p)) r)
 
-      first_reached : (k : ℕ) (x : Arrival) (m : ℕ) → get_elem? o.arrivals k ≡ some x → get_elem? ns k ≡ some m → FirstReached by_number ns k x m
-      first_reached k x m e f =
+      first-reached : (k : ℕ) (x : Arrival) (m : ℕ) → get_elem? o.arrivals k ≡ some x → get_elem? ns k ≡ some m → FirstReached by_number ns k x m
+      first-reached k x m e f =
           let (z, h) = range-placed zero (length cs) k m f in
           let (c, p) = ListFacts.place_exists cs k h in
-          let r = o.first_reached k x c e p in
+          let r = o.first-reached k x c e p in
           let km : k ≡ m = omega arith in
           subst (λ (n : ℕ). FirstReached by_number ns k x n) km
           (record { reaches = to x k c p r.reaches; first = λ y s. r.first y (from y k c p s); from_below = r.from_below })

@@ -64,23 +64,23 @@ from_below_up m n (step i e) h b = omega arith
 module _ {C : Type 0} (G : KeyedGraph C) where
   -- the first arrival at a vertex
   module _ (cs : List C) (o : Ordered G cs) (k : ℕ) (c : C) (e : get_elem? cs k ≡ some c) where
-    at-arrival : (x : Arrival) × (get_elem? o.arrivals k ≡ some x)
-    at-arrival = let b : k < length cs = ListFacts.place_bound cs k e in
+    at_arrival : (x : Arrival) × (get_elem? o.arrivals k ≡ some x)
+    at_arrival = let b : k < length cs = ListFacts.place_bound cs k e in
         let l = o.one_each in ListFacts.place_exists o.arrivals k (omega arith)
 
     -- the first arrival at a vertex
     pub arrival : Arrival
-    arrival = at-arrival.0
+    arrival = at_arrival.0
 
     pub arrived : FirstReached G cs k arrival c
     unfolding arrival
-    arrived = o.first_reached k at-arrival.0 c at-arrival.1 e
+    arrived = o.first-reached k at_arrival.0 c at_arrival.1 e
 
   pub arrivals_increase : (cs : List C) (o : Ordered G cs) (k l : ℕ) (c d : C) (p : get_elem? cs k ≡ some c) (q : get_elem? cs l ≡ some d)
       → k < l → arrival cs o k c p ⊏ arrival cs o l d q
   unfolding arrival
   arrivals_increase cs o k l c d p q h =
-      o.increasing k l _ _ (at-arrival cs o k c p).1 (at-arrival cs o l d q).1 h
+      o.increasing k l _ _ (at_arrival cs o k c p).1 (at_arrival cs o l d q).1 h
 
   -- what is reached from numbers below k, where two lists agree
   carried : (cs ds : List C) (k : ℕ) → ((j : ℕ) → j < k → get_elem? cs j ≡ get_elem? ds j)
@@ -137,15 +137,15 @@ module _ {C : Type 0} (G : KeyedGraph C) where
   agree_below cs ds o p zero j h = absurd (omega arith)
   agree_below cs ds o p (suc k) j h = elim (compared j k) [
     | inl l ↦ agree_below cs ds o p k j l
-    | inr (inl z) ↦ subst (λ (n : ℕ). get_elem? cs n ≡ get_elem? ds n) (sym z) (at-k (agree_below cs ds o p k) (get_elem? cs k) (get_elem? ds k) refl refl)
+    | inr (inl z) ↦ subst (λ (n : ℕ). get_elem? cs n ≡ get_elem? ds n) (sym z) (at_k (agree_below cs ds o p k) (get_elem? cs k) (get_elem? ds k) refl refl)
     | inr (inr l) ↦ absurd (omega arith)
   ]
     where
-      at-k : ((j : ℕ) → j < k → get_elem? cs j ≡ get_elem? ds j) → (u v : Option C) → get_elem? cs k ≡ u → get_elem? ds k ≡ v
+      at_k : ((j : ℕ) → j < k → get_elem? cs j ≡ get_elem? ds j) → (u v : Option C) → get_elem? cs k ≡ u → get_elem? ds k ≡ v
           → get_elem? cs k ≡ get_elem? ds k
-      at-k ih (some c) v e f = e ∙ sym (same_next cs ds o p k ih c e)
-      at-k ih none (some d) e f = same_next ds cs p o k (λ i l. sym (ih i l)) d f ∙ sym f
-      at-k ih none none e f = e ∙ sym f
+      at_k ih (some c) v e f = e ∙ sym (same_next cs ds o p k ih c e)
+      at_k ih none (some d) e f = same_next ds cs p o k (λ i l. sym (ih i l)) d f ∙ sym f
+      at_k ih none none e f = e ∙ sym f
 
   -- The order leaves one numbering alone.
   pub ordered_unique : (cs ds : List C) → Ordered G cs → Ordered G ds → cs ≡ ds
@@ -174,8 +174,8 @@ module _ {C : Type 0} (G H : KeyedGraph C) (cs : List C)
     complete = λ x c r. o.complete x c (from x c r);
     arrivals = o.arrivals;
     one_each = o.one_each;
-    first_reached = λ k x c e f.
-        let r = o.first_reached k x c e f in
+    first-reached = λ k x c e f.
+        let r = o.first-reached k x c e f in
         record { reaches = to x c (ListFacts.placed cs k f) r.reaches; first = λ y h. r.first y (from y c h); from_below = r.from_below };
     increasing = o.increasing;
   }
@@ -354,11 +354,11 @@ module _ {C L : Type 0} (same : C → C → Bool) (decided : Decides same) (star
       }
     where
       whole : map (λ (z : Arrival × C). z.1) (map start_arrival starts) ≡ starts
-      whole = map_map (λ (z : Arrival × C). z.1) start_arrival starts ∙ same-list starts
+      whole = map_map (λ (z : Arrival × C). z.1) start_arrival starts ∙ same_list_lem starts
         where
-          same-list : (xs : List C) → map (λ (x : C). (start_arrival x).1) xs ≡ xs
-          same-list [] = refl
-          same-list (x ∷ xs) = ap {B = List C} (λ r. x ∷ r) (same-list xs)
+          same_list_lem : (xs : List C) → map (λ (x : C). (start_arrival x).1) xs ≡ xs
+          same_list_lem [] = refl
+          same_list_lem (x ∷ xs) = ap {B = List C} (λ r. x ∷ r) (same_list_lem xs)
 
       starting : (z : Arrival) (d : C) → (z, d) ∈ map start_arrival starts → FromBelow zero z
       starting z d m = let (c, i, e) = ListFacts.map_members start_arrival starts m in
@@ -379,7 +379,7 @@ module _ {C L : Type 0} (same : C → C → Bool) (decided : Decides same) (star
   stage_next k cs c e g =
       let (xs, n) = several same decided new g.seen cs g.arrivals g.noted
       (pairwise_map (λ s t. key s.0 ≺ key t.0) (λ y z. y.0 ⊏ z.0) (step_arrival k) (λ s t h. inr (refl, h)) (out c) (steps-increase c))
-      (λ y z b d m h. earlier y z b (g.sound y b m) (by-step z d h)) (λ z d h. below z (by-step z d h)) in
+      (λ y z b d m h. earlier y z b (g.sound y b m) (by_step z d h)) (λ z d h. below z (by_step z d h)) in
       record {
         seen = g.seen ++ new;
         arrivals = xs;
@@ -397,8 +397,8 @@ module _ {C L : Type 0} (same : C → C → Bool) (decided : Decides same) (star
       more : List C
       more = insert_all same cs (successors out c)
 
-      by-step : (z : Arrival) (d : C) → (z, d) ∈ new → (f : Key) × (z ≡ step k f)
-      by-step z d m = let (s, i, q) = ListFacts.map_members (step_arrival k) (out c) m in (key s.0, ap (λ (y : Arrival × C). y.0) q)
+      by_step : (z : Arrival) (d : C) → (z, d) ∈ new → (f : Key) × (z ≡ step k f)
+      by_step z d m = let (s, i, q) = ListFacts.map_members (step_arrival k) (out c) m in (key s.0, ap (λ (y : Arrival × C). y.0) q)
 
       earlier : (y z : Arrival) (b : C) → ReachesBy k cs y b → (f : Key) × (z ≡ step k f) → y ⊏ z
       earlier y z b r (f, q) = subst (λ (w : Arrival). y ⊏ w) (sym q) (go y r)
@@ -433,12 +433,12 @@ module _ {C L : Type 0} (same : C → C → Bool) (decided : Decides same) (star
           let b_at = stood i b (omega arith) p in
           elim (compared i k) [
             | inl j ↦ Memᴰ.append_left new (g.complete (step i f) d (j, (b, b_at, (l, q, m))))
-            | inr (inl j) ↦ Memᴰ.append_right g.seen (at-k j (some-injective b c (sym b_at ∙ ap (get_elem? cs) j ∙ e)))
+            | inr (inl j) ↦ Memᴰ.append_right g.seen (at_k j (some-injective b c (sym b_at ∙ ap (get_elem? cs) j ∙ e)))
             | inr (inr j) ↦ absurd (omega arith)
           ]
         where
-          at-k : i ≡ k → b ≡ c → (step i f, d) ∈ new
-          at-k j z = subst (λ (w : Arrival × C). w ∈ new) (λ t. (step (sym j t) (q t), d))
+          at_k : i ≡ k → b ≡ c → (step i f, d) ∈ new
+          at_k j z = subst (λ (w : Arrival × C). w ∈ new) (λ t. (step (sym j t) (q t), d))
               (ListFacts.map_keeps (step_arrival k) (out c) (subst (λ (a : C). ◌∈◌ {A = L × C} (l, d) (out a)) z m))
 
   -- all vertices taken up
@@ -448,7 +448,7 @@ module _ {C L : Type 0} (same : C → C → Bool) (decided : Decides same) (star
     complete = λ x c r. g.noted.inside x c (g.complete x c (by x c r));
     arrivals = g.arrivals;
     one_each = g.noted.one_each;
-    first_reached = λ j x c e f.
+    first-reached = λ j x c e f.
         let (m, least, b) = g.noted.first j x c e f in
         record { reaches = un x c (g.sound x c m); first = λ y r. least y (g.complete y c (by y c r)); from_below = b };
     increasing = λ i j x y p q l. PairwiseFacts.pairwise_places ◌⊏◌ g.arrivals g.noted.increasing i j p q l;

@@ -17,11 +17,11 @@ use Rattle.laws.proofs.Lemmas.Ranges.{range_at, range-placed}
 use Rattle.laws.proofs.Lemmas.OrderFacts.{⊏_irreflexive, ⊏_transitive, ordered_iff, arrival, arrived, arrivals_increase}
 
 -- labels alone changed: the table is in the same order
-pub relabelled_ordered : {W : Type 0} (f : Tuple → Tuple) (n : ℕ) (A R : Automaton W) (stateKey arc_key : ℕ → Key) → LabelsOnly f n A R
-    → OrderedTable A stateKey arc_key → OrderedTable R stateKey arc_key
-relabelled_ordered {W} f n A R stateKey arc_key l o = record {
-  states = subst (λ (k : ℕ). Ordered (table_graph R stateKey arc_key) (range zero k)) (ap length (sym l.states))
-      (ordered_iff (table_graph A stateKey arc_key) (table_graph R stateKey arc_key) (range zero (size A))
+pub relabelled_ordered : {W : Type 0} (f : Tuple → Tuple) (n : ℕ) (A R : Automaton W) (state_key arc_key : ℕ → Key) → LabelsOnly f n A R
+    → OrderedTable A state_key arc_key → OrderedTable R state_key arc_key
+relabelled_ordered {W} f n A R state_key arc_key l o = record {
+  states = subst (λ (k : ℕ). Ordered (table_graph R state_key arc_key) (range zero k)) (ap length (sym l.states))
+      (ordered_iff (table_graph A state_key arc_key) (table_graph R state_key arc_key) (range zero (size A))
       (λ s k m (i, e, q). (i, ap (λ ss. bind (get_elem? ss k) (λ s. s.initial)) l.states ∙ e, q))
       (λ s k (i, e, q). (i, ap (λ ss. bind (get_elem? ss k) (λ s. s.initial)) (sym l.states) ∙ e, q))
       (λ j s k p q (m, a, e, u, v, w). (m, relabelled_arc f a, forth m a e, u, v, w))
@@ -41,28 +41,28 @@ relabelled_ordered {W} f n A R stateKey arc_key l o = record {
     back : (m : ℕ) (b : Arc W) → get_elem? R.arcs m ≡ some b → (a : Arc W) × (get_elem? A.arcs m ≡ some a) × (relabelled_arc f a ≡ b)
     back m b e = place_map⁻¹ (relabelled_arc f) A.arcs m (ap (λ es. get_elem? es m) (sym l.arcs) ∙ e)
 
-module _ {W : Type 0} (A : Automaton W) (stateKey arc_key : ℕ → Key) (formed : Formed A) (o : OrderedTable A stateKey arc_key) where
+module _ {W : Type 0} (A : Automaton W) (state_key arc_key : ℕ → Key) (formed : Formed A) (o : OrderedTable A state_key arc_key) where
   -- state number k stands at place k
   at_number : (k : ℕ) → k < size A → get_elem? (range zero (size A)) k ≡ some k
   at_number k h = let z : zero + k ≡ k = omega arith in range_at zero (size A) k h ∙ ap some z
 
   -- the first arrival at a state
   came : (k : ℕ) → k < size A → Arrival
-  came k h = arrival (table_graph A stateKey arc_key) (range zero (size A)) o.states k k (at_number k h)
+  came k h = arrival (table_graph A state_key arc_key) (range zero (size A)) o.states k k (at_number k h)
 
   -- no other comes before it
-  first : (k : ℕ) (h : k < size A) → FirstReached (table_graph A stateKey arc_key) (range zero (size A)) k (came k h) k
+  first : (k : ℕ) (h : k < size A) → FirstReached (table_graph A state_key arc_key) (range zero (size A)) k (came k h) k
   unfolding came
-  first k h = arrived (table_graph A stateKey arc_key) (range zero (size A)) o.states k k (at_number k h)
+  first k h = arrived (table_graph A state_key arc_key) (range zero (size A)) o.states k k (at_number k h)
 
   -- states with higher numbers are first reached later
   later : (k l : ℕ) (h : k < size A) (i : l < size A) → k < l → came k h ⊏ came l i
   unfolding came
-  later k l h i b = arrivals_increase (table_graph A stateKey arc_key) (range zero (size A)) o.states k l k l (at_number k h) (at_number l i) b
+  later k l h i b = arrivals_increase (table_graph A state_key arc_key) (range zero (size A)) o.states k l k l (at_number k h) (at_number l i) b
 
   -- an arc that leads to a state arrives at it
   arrives : (m : ℕ) (a : Arc W) → get_elem? A.arcs m ≡ some a
-      → Reaches (table_graph A stateKey arc_key) (range zero (size A)) (step a.source (arc_key m)) a.target
+      → Reaches (table_graph A state_key arc_key) (range zero (size A)) (step a.source (arc_key m)) a.target
   arrives m a e = (a.source, at_number a.source (formed.within m a e).0, (m, a, e, refl, refl, refl))
 
   -- where no path starts in a state, it is first reached by an arc
@@ -78,7 +78,7 @@ module _ {W : Type 0} (A : Automaton W) (stateKey arc_key : ℕ → Key) (formed
   came_by : (k : ℕ) (l : Later A k) → Came k (came k l.0)
   came_by k (h, e) = go (came k h) (first k h).reaches (first k h).from_below
     where
-      go : (x : Arrival) → Reaches (table_graph A stateKey arc_key) (range zero (size A)) x k → FromBelow k x → Came k x
+      go : (x : Arrival) → Reaches (table_graph A state_key arc_key) (range zero (size A)) x k → FromBelow k x → Came k x
       go (start s) (i, p, _) b = ListFacts.none_not_some e p
       go (step i s) (j, p, (m, a, q, f, t, key)) b =
           let (z, _) = range-placed zero (size A) i j p in
@@ -102,7 +102,7 @@ module _ {W : Type 0} (A : Automaton W) (stateKey arc_key : ℕ → Key) (formed
       earlier : y ⊏ step c.arc.source (arc_key c.number) → ⊥
       earlier d =
           let d' = subst (λ (x : Arrival). y ⊏ x) (sym c.by) d in
-          elim ((first k h).first y (subst (Reaches (table_graph A stateKey arc_key) (range zero (size A)) y) t (arrives n b p))) [
+          elim ((first k h).first y (subst (Reaches (table_graph A state_key arc_key) (range zero (size A)) y) t (arrives n b p))) [
             | inl q ↦ ⊏_irreflexive y (subst (λ (x : Arrival). y ⊏ x) q d')
             | inr q ↦ ⊏_irreflexive y (⊏_transitive y (came k h) y d' q)
           ]
@@ -122,23 +122,23 @@ module _ {W : Type 0} (A : Automaton W) (stateKey arc_key : ℕ → Key) (formed
   initial_before j k i e l = elim (compared j k) [
     | inl h ↦ h
     | inr (inl h) ↦ ListFacts.none_not_some l.1 (sym (ap (initial_of A) h) ∙ e)
-    | inr (inr h) ↦ absurd (before (started (came j in-range) refl ((first j in-range).first (start (stateKey j)) (i, e, refl))) h)
+    | inr (inr h) ↦ absurd (before (started (came j in_range) refl ((first j in_range).first (start (state_key j)) (i, e, refl))) h)
   ]
     where
-      in-range : j < size A
+      in_range : j < size A
       in_range = let (s, p, _) = ListFacts.bind_some (get_elem? A.states j) (λ s. s.initial) e in ListFacts.place_bound A.states j p
 
-      started : (x : Arrival) → came j in-range ≡ x → (came j in-range ≡ start (stateKey j)) ⊎ (came j in-range ⊏ start (stateKey j))
-          → (s : Key) × (came j in-range ≡ start s)
-      started x q (inl p) = (stateKey j, p)
+      started : (x : Arrival) → came j in_range ≡ x → (came j in_range ≡ start (state_key j)) ⊎ (came j in_range ⊏ start (state_key j))
+          → (s : Key) × (came j in_range ≡ start s)
+      started x q (inl p) = (state_key j, p)
       started (start s) q (inr p) = (s, q)
-      started (step i s) q (inr p) = absurd (subst (λ (y : Arrival). y ⊏ start (stateKey j)) q p)
+      started (step i s) q (inr p) = absurd (subst (λ (y : Arrival). y ⊏ start (state_key j)) q p)
 
-      before : (s : Key) × (came j in-range ≡ start s) → k < j → ⊥
+      before : (s : Key) × (came j in_range ≡ start s) → k < j → ⊥
       before (s, q) h =
           let c = came_by k l in
           subst (λ (y : Arrival). step c.arc.source (arc_key c.number) ⊏ y) q
-          (subst (λ (y : Arrival). y ⊏ came j in-range) c.by (later k j l.0 in-range h))
+          (subst (λ (y : Arrival). y ⊏ came j in_range) c.by (later k j l.0 in_range h))
 
   -- The lines show the order.
   pub lines_in_order : PrintedOrder A

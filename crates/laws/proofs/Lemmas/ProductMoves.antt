@@ -14,7 +14,7 @@ use Rattle.automata.specs.Lists.{if, ◌∈◌, here, there, filter, numbered, P
 use Rattle.automata.specs.OrderedSum.{OrderedSum}
 use Rattle.automata.specs.Automaton.{State, Arc, Automaton, Content, content}
 use Rattle.automata.specs.System.{system, out_at, final_at}
-use Rattle.automata.specs.Product.{Vertex, both_content, after_first_content, after_second_content, both, allBoth, allAfterFirst, allAfterSecond, all_pairs, initials_from, product_system}
+use Rattle.automata.specs.Product.{Vertex, both_content, after_first_content, after_second_content, both, all_both, all_after_first, all_after_second, all_pairs, initials_from, product_system}
 use Rattle.automata.proofs.ListFacts
 use Rattle.automata.proofs.PairwiseFacts
 use Rattle.laws.specs.Order.{Key, ◌≺◌, pair_key, Leaves, Moves}
@@ -162,16 +162,16 @@ module _ (S : OrderedSum) (A B : Automaton S.W) where
       ++ (all_key_second (final_at S (system A) c.0) (arcs_at B c.1) ++ all_key_first (final_at S (system B) c.1) (arcs_at A c.0))
 
   -- without the keys they are the steps of the product
-  both-forget : (ss rs : List (ℕ × Arc W)) → map forget (all_key_both ss rs) ≡ allBoth S (map onward ss) (map onward rs)
+  both-forget : (ss rs : List (ℕ × Arc W)) → map forget (all_key_both ss rs) ≡ all_both S (map onward ss) (map onward rs)
   both-forget [] rs = refl
   both-forget (s ∷ ss) rs = ListFacts.map_append forget (map (key_both s) rs) (all_key_both ss rs)
       ∙ (λ i. (map_map forget (key_both s) rs ∙ sym (map_map (both S (onward s)) onward rs)) i ++ both-forget ss rs i)
 
-  second_forget : (o : Option W) (rs : List (ℕ × Arc W)) → map forget (all_key_second o rs) ≡ allAfterFirst S A.tapes o (map onward rs)
+  second_forget : (o : Option W) (rs : List (ℕ × Arc W)) → map forget (all_key_second o rs) ≡ all_after_first S A.tapes o (map onward rs)
   second_forget none rs = refl
   second_forget (some w) rs = map_map forget (key_second w) rs ∙ sym (map_map _ onward rs)
 
-  first-forget : (o : Option W) (ss : List (ℕ × Arc W)) → map forget (all_key_first o ss) ≡ allAfterSecond S B.tapes o (map onward ss)
+  first-forget : (o : Option W) (ss : List (ℕ × Arc W)) → map forget (all_key_first o ss) ≡ all_after_second S B.tapes o (map onward ss)
   first-forget none ss = refl
   first-forget (some w) ss = map_map forget (key_first w) ss ∙ sym (map_map _ onward ss)
 
@@ -180,9 +180,9 @@ module _ (S : OrderedSum) (A B : Automaton S.W) where
   out-forget c =
       ListFacts.map_append forget (all_key_both xs ys) (all_key_second f ys ++ all_key_first g xs)
       ∙ (λ i. both-forget xs ys i ++ ListFacts.map_append forget (all_key_second f ys) (all_key_first g xs) i)
-      ∙ (λ i. allBoth S (map onward xs) (map onward ys) ++ (second_forget f ys i ++ first-forget g xs i))
-      ∙ (λ i. allBoth S (sym (out_at_numbered A c.0) i) (sym (out_at_numbered B c.1) i)
-      ++ (allAfterFirst S A.tapes f (sym (out_at_numbered B c.1) i) ++ allAfterSecond S B.tapes g (sym (out_at_numbered A c.0) i)))
+      ∙ (λ i. all_both S (map onward xs) (map onward ys) ++ (second_forget f ys i ++ first-forget g xs i))
+      ∙ (λ i. all_both S (sym (out_at_numbered A c.0) i) (sym (out_at_numbered B c.1) i)
+      ++ (all_after_first S A.tapes f (sym (out_at_numbered B c.1) i) ++ all_after_second S B.tapes g (sym (out_at_numbered A c.0) i)))
     where
       xs : List (ℕ × Arc W)
       xs = arcs_at A c.0

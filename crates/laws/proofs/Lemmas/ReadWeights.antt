@@ -34,20 +34,20 @@ module _ (S : OrderedSum) where
 
   module _ (A : Automaton W) (fA : Formed A) where
     -- the automaton with every label read: it weighs a tuple as some tuple that is read so
-    abbrev asRead : Automaton W
-    asRead = relabelled read_tuple A.tapes A
+    abbrev as_read : Automaton W
+    as_read = relabelled read_tuple A.tapes A
 
-    read-weighs : (t : Tuple) (w : W) → Weighs S asRead (read_tuple t) w ↔ WeighsRead S A t w
-    read-weighs t w = relabelled_weighs S read_tuple A.tapes A fA (read_blank A.tapes) (λ l t p q. read_spell l t) (read_tuple t) w
+    read_weighs : (t : Tuple) (w : W) → Weighs S as_read (read_tuple t) w ↔ WeighsRead S A t w
+    read_weighs t w = relabelled_weighs S read_tuple A.tapes A fA (read_blank A.tapes) (λ l t p q. read_spell l t) (read_tuple t) w
 
-    read-formed : Formed asRead
-    read-formed = relabelled_formed S read_tuple A.tapes A fA (read_blank A.tapes) (λ l t p q. read_spell l t) (λ l e. read_length l ∙ e) (read_short 8)
+    read_formed : Formed as_read
+    read_formed = relabelled_formed S read_tuple A.tapes A fA (read_blank A.tapes) (λ l t p q. read_spell l t) (λ l e. read_length l ∙ e) (read_short 8)
 
     -- so where some tuple is weighed that falls together with t, there is a least such weight
-    pub has-least-read : (t : Tuple) (w : W) → WeighsRead S A t w → (v : W) × LeastRead S A t v
-    has-least-read t w x =
-        let (v, (y, m)) = has_least S asRead read-formed (read_tuple t) w ((read-weighs t w).1 x) in
-        (v, ((read-weighs t v).0 y, λ u z. m u ((read-weighs t u).1 z)))
+    pub has_least_read : (t : Tuple) (w : W) → WeighsRead S A t w → (v : W) × LeastRead S A t v
+    has_least_read t w x =
+        let (v, (y, m)) = has_least S as_read read_formed (read_tuple t) w ((read_weighs t w).1 x) in
+        (v, ((read_weighs t v).0 y, λ u z. m u ((read_weighs t u).1 z)))
 
     -- it is the least of the weights, as written, of the tuples that fall together with t
     pub read_least : (t : Tuple) → ReadLeast S A t

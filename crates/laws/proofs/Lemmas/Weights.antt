@@ -7,7 +7,7 @@ use Rattle.automata.specs.Automaton.{Automaton, Tuple, Formed}
 use Rattle.automata.specs.Tapes.{ReadAlike}
 use Rattle.automata.specs.Paths.{Weighs, LeastOf, WeighsRead, LeastRead, SameWeight}
 use Rattle.laws.specs.JoinLaws.{SumsOf, LesserWeight}
-use Rattle.laws.proofs.Lemmas.ReadWeights.{read_alike, has-least-read}
+use Rattle.laws.proofs.Lemmas.ReadWeights.{read_alike, has_least_read}
 
 module _ (S : OrderedSum) where
   open S use {W, ◌⊕◌, leq_trans, leq_antisym}
@@ -30,8 +30,8 @@ module _ (S : OrderedSum) where
   pub below_trans : (X Y Z : W → Type 0) → Below X Y → Below Y Z → Below X Z
   below_trans X Y Z f g w x = let (v, y, h) = f w x in let (u, z, k) = g v y in (u, z, leq_trans u v w k h)
 
-  pub level_trans : (X Y Z : W → Type 0) → Level X Y → Level Y Z → Level X Z
-  level_trans X Y Z (f, f') (g, g') = (below_trans X Y Z f g, below_trans Z Y X g' f')
+  pub level-trans : (X Y Z : W → Type 0) → Level X Y → Level Y Z → Level X Z
+  level-trans X Y Z (f, f') (g, g') = (below_trans X Y Z f g, below_trans Z Y X g' f')
 
   pub level_sym : (X Y : W → Type 0) → Level X Y → Level Y X
   level_sym X Y (f, g) = (g, f)
@@ -67,7 +67,7 @@ module _ (S : OrderedSum) where
 
   below_weight : (A : Automaton W) (s : Tuple) (B : Automaton W) (t : Tuple) → Formed A → ((w : W) → LeastRead S A s w → LeastRead S B t w)
       → Below (WeighsRead S A s) (WeighsRead S B t)
-  below_weight A s B t f h w x = let (v, l) = has-least-read S A f s w x in (v, (h v l).0, l.1 w x)
+  below_weight A s B t f h w x = let (v, l) = has_least_read S A f s w x in (v, (h v l).0, l.1 w x)
 
   -- and back, of well-formed automata
   pub weight-level : (A : Automaton W) (s : Tuple) (B : Automaton W) (t : Tuple) → Formed A → Formed B → SameWeight S A s B t
@@ -82,11 +82,11 @@ module _ (S : OrderedSum) where
       let Y : W → Type 0 = λ w. WeighsRead S J₁ t w ⊎ WeighsRead S J₂ t w in
       let Z : W → Type 0 = λ w. LeastRead S J₁ t w ⊎ LeastRead S J₂ t w in
       let k : Level Y Z = (
-        λ w. ⊎_elim (λ x. let (v, l) = has-least-read S J₁ f₁ t w x in (v, inl l, l.1 w x)) (λ x. let (v, l) = has-least-read S J₂ f₂ t w x in (v, inr l, l.1 w x)),
+        λ w. ⊎_elim (λ x. let (v, l) = has_least_read S J₁ f₁ t w x in (v, inl l, l.1 w x)) (λ x. let (v, l) = has_least_read S J₂ f₂ t w x in (v, inr l, l.1 w x)),
         below_of Z Y (λ w. ⊎_elim (λ l. inl l.0) (λ l. inr l.0)),
       ) in
       record {
-        least = least_same X Z (level_trans X Y Z h k);
+        least = least_same X Z (level-trans X Y Z h k);
         nothing =
             (let n = nothing_same X Y h in (
               λ q. (λ w x. n.0 q w (inl x), λ w x. n.0 q w (inr x)),

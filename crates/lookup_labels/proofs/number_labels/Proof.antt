@@ -1,5 +1,5 @@
 -- `lookup_labels::number_labels` meets its contract. Assumes nothing.
-use Rattle.lookup_labels.proofs.NumberFacts.{Numbering, numbering_start, numbering-turn, numbering_end}
+use Rattle.lookup_labels.proofs.NumberFacts.{Numbering, numbering_start, numbering_turn, numbering_end}
 use Prim.Native.Nat.{◌-◌, ◌≤◌}
 use mathlib.Core.Path.{sym, ◌∙◌}
 use native.Mathlib.Omega.{arith}
@@ -49,7 +49,7 @@ loop-again c =
     let s = c.before.before.before.before.before.before.before.before.before.before.before.before.before in
     let l = c.before.before.before.before.before.before.before.before.loop in
     let k = c.before.before.before.before.before.before.if1.true in
-    (numbering-turn _ _ l.e _ _ _ _ l.invariant.0 (omega (arith, s.requires.1, k)) c.before.before.before.number-arc.ensures, omega (arith, k))
+    (numbering_turn _ _ l.e _ _ _ _ l.invariant.0 (omega (arith, s.requires.1, k)) c.before.before.before.number-arc.ensures, omega (arith, k))
 
 same_length : tie.Need-same-length invariant-loop decreases-loop
 same_length c = c.before.before.loop.invariant.0.numbers_size ∙ sym c.before.before.before.before.before.before.before.requires.3

@@ -5,7 +5,7 @@ use lib.ListN.{length, drop}
 use Rattle.automata.specs.Join.{within}
 use Rattle.automata.specs.TapePair.{tapes_of}
 use Rattle.pairs.specs.PairBytes.{pairs_of}
-use Rattle.pairs.proofs.PairFacts.{within_first, within-second, within-next, within_end}
+use Rattle.pairs.proofs.PairFacts.{within_first, within_second, within-next, within_end}
 use borrow.Author.Tests.{not-true, not-false}
 use borrow.Author.Rules.{rules}
 use Rattle.pairs.proofs.all_within.Statement.{statement}
@@ -46,7 +46,7 @@ is-tape-requires-2 : tie.Need-is-tape-requires-2 invariant-loop decreases-loop
 is-tape-requires-2 c κs = search rules
 
 returns-2 : tie.Need-returns-2 invariant-loop decreases-loop
-returns-2 c = let l = c.before.before.before.before.before.before in let s = l.before.before.before in sym (within-second s.args.n s.args.m s.args.bytes.now l.before.loop.at l.loop-test.true (sym c.before.before.before.before.is-tape.ensures ∙ not-false _ c.before.before.before.if1.false) (sym c.before.is-tape2.ensures ∙ not-true _ c.if2.true)) ∙ l.before.loop.invariant.1
+returns-2 c = let l = c.before.before.before.before.before.before in let s = l.before.before.before in sym (within_second s.args.n s.args.m s.args.bytes.now l.before.loop.at l.loop-test.true (sym c.before.before.before.before.is-tape.ensures ∙ not-false _ c.before.before.before.if1.false) (sym c.before.is-tape2.ensures ∙ not-true _ c.if2.true)) ∙ l.before.loop.invariant.1
 
 add_at : tie.Need-overflow-add-at invariant-loop decreases-loop
 add_at c = search rules

@@ -4,7 +4,7 @@ use Prim.Native.Nat.{◌-◌, ◌≤◌, ◌<◌}
 use native.Mathlib.Omega.{arith}
 use lib.ListN.{length}
 use Rattle.pairs.proofs.ListFacts.{length_made}
-use Rattle.pairs.proofs.DecideFacts.{left, fit-not, fit_next, fit_used, fit_end}
+use Rattle.pairs.proofs.DecideFacts.{left, fit_not, fit_next, fit_used, fit_end}
 use borrow.Author.Rules.{rules}
 use Rattle.pairs.proofs.limits_fit.Statement.{statement}
 use Rattle.pairs.proofs.limits_fit.Tie as tie
@@ -37,7 +37,7 @@ returns-2 c =
     let list = l.before.args.t1 in
     let four : length list.pairs ≡ 4 = search (rules, length_made) in
     let small : l.loop.h < length list.pairs = omega (arith, four, t.loop-test.true) in
-    sym (fit-not list.used list.pairs l.loop.h c.before.before.before.if1.false small c.if2.true) ∙ l.loop.invariant.1
+    sym (fit_not list.used list.pairs l.loop.h c.before.before.before.if1.false small c.if2.true) ∙ l.loop.invariant.1
 
 add-h : tie.Need-overflow-add-h invariant-loop decreases-loop
 add-h c = search rules

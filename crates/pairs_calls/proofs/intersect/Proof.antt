@@ -44,7 +44,7 @@ use denote.Exit.{yes}
 use Rattle.automata.specs.TapePair as automata
 use Rattle.automata.specs.Calls.Outcome.{built_of, slices_of}
 use Rattle.automata.specs.Calls.Intersect.{intersect_outcome}
-use Rattle.table.specs.Answers.{lent, tableAs}
+use Rattle.table.specs.Answers.{lent, table_as}
 use Rattle.pairs.specs.Judgement.{KeepJudged}
 use Rattle.table.specs.declared.pair.Pair.{Pair}
 use Rattle.table.specs.declared.answer.Counts.{Counts}
@@ -84,7 +84,7 @@ module _ {M : Type 1} {𝓤 : Ura M} (𝓛 : Logic 𝓤) (mem : Memory → SProp
 
 -- what the answer and the last lists are
 abbrev Said : Counts → List ℕ → List ℕ → List automata.TapePair → List ℕ → List ℕ → List ℕ → TableAnswer → List ℕ → List ℕ → List ℕ → Type 0
-Said c states arcs ps states₀ arcs₀ work₀ r za zb zc = built_of (tableAs r) za zb zc ≡ intersect_outcome (lent c states arcs) ps (slices_of states₀ arcs₀) work₀
+Said c states arcs ps states₀ arcs₀ work₀ r za zb zc = built_of (table_as r) za zb zc ≡ intersect_outcome (lent c states arcs) ps (slices_of states₀ arcs₀) work₀
 
 -- the machine value of a table's counts
 abbrev mach : Counts → Val

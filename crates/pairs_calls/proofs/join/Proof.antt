@@ -44,7 +44,7 @@ use denote.Exit.{yes}
 use Rattle.automata.specs.TapePair as automata
 use Rattle.automata.specs.Calls.Outcome.{joined_of, slices_of}
 use Rattle.automata.specs.Calls.Join.{join_outcome}
-use Rattle.table.specs.Answers.{lent, tableAs}
+use Rattle.table.specs.Answers.{lent, table_as}
 use Rattle.pairs.specs.Judgement.{JoinJudged}
 use Rattle.table.specs.declared.pair.Pair.{Pair}
 use Rattle.table.specs.declared.answer.Counts.{Counts}
@@ -88,7 +88,7 @@ Lists = List ℕ × List ℕ
 
 -- what the answer and the last lists are
 abbrev Said : Counts → Lists → Counts → Lists → List automata.TapePair → Lists → Lists → List ℕ → TableAnswer → Lists → Lists → List ℕ → Type 0
-Said c₀ first c₁ second ps product₀ out₀ work₀ r product out work = joined_of (tableAs r) out.0 out.1 product.0 product.1 work
+Said c₀ first c₁ second ps product₀ out₀ work₀ r product out work = joined_of (table_as r) out.0 out.1 product.0 product.1 work
     ≡ join_outcome (lent c₀ first.0 first.1) (lent c₁ second.0 second.1) ps (slices_of product₀.0 product₀.1) (slices_of out₀.0 out₀.1) work₀
 
 -- the machine value of a table's counts

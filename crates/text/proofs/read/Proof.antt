@@ -1,5 +1,5 @@
 -- `text::read` meets its contract. Assumes nothing.
-use Rattle.text.proofs.ReadFacts.{read_refused, read-room, read-stored}
+use Rattle.text.proofs.ReadFacts.{read_refused, read_room, read_stored}
 use native.Mathlib.Omega.{arith}
 use borrow.Author.Rules.{rules}
 use Rattle.text.proofs.read.Statement.{statement}
@@ -33,25 +33,25 @@ store-states-requires : tie.Need-store-states-requires
 store-states-requires c κs = let s = c.before.before.before.before.before.before.before.before.before in
     let j = c.before.before.before.before.before.judge-text in
     let w = c.before.before.before.before.answer-of in
-    let m = read-room s.args.text.now s.args.states.now s.args.arcs.now j.result j.ensures w.result w.ensures _ c.before.before.judged.given.1 in (omega (arith, m.text), omega (arith, m.state_space))
+    let m = read_room s.args.text.now s.args.states.now s.args.arcs.now j.result j.ensures w.result w.ensures _ c.before.before.judged.given.1 in (omega (arith, m.text), omega (arith, m.state_space))
 
 mul-store-arcs : tie.Need-overflow-mul-store-arcs
 mul-store-arcs c = let s = c.before.before.before.before.before.before.before.before.before.before.before.before.before in
     let j = c.before.before.before.before.before.before.before.before.before.judge-text in
     let w = c.before.before.before.before.before.before.before.before.answer-of in
-    let m = read-room s.args.text.now s.args.states.now s.args.arcs.now j.result j.ensures w.result w.ensures _ c.before.before.before.before.before.before.judged.given.1 in omega (arith, m.states)
+    let m = read_room s.args.text.now s.args.states.now s.args.arcs.now j.result j.ensures w.result w.ensures _ c.before.before.before.before.before.before.judged.given.1 in omega (arith, m.states)
 
 add-store-arcs : tie.Need-overflow-add-store-arcs
 add-store-arcs c = let s = c.before.before.before.before.before.before.before.before.before.before.before.before.before in
     let j = c.before.before.before.before.before.before.before.before.before.judge-text in
     let w = c.before.before.before.before.before.before.before.before.answer-of in
-    let m = read-room s.args.text.now s.args.states.now s.args.arcs.now j.result j.ensures w.result w.ensures _ c.before.before.before.before.before.before.judged.given.1 in omega (arith, m.states)
+    let m = read_room s.args.text.now s.args.states.now s.args.arcs.now j.result j.ensures w.result w.ensures _ c.before.before.before.before.before.before.judged.given.1 in omega (arith, m.states)
 
 store-arcs-requires : tie.Need-store-arcs-requires
 store-arcs-requires c κs = let s = c.before.before.before.before.before.before.before.before.before.before.before.before.before.before in
     let j = c.before.before.before.before.before.before.before.before.before.before.judge-text in
     let w = c.before.before.before.before.before.before.before.before.before.answer-of in
-    let m = read-room s.args.text.now s.args.states.now s.args.arcs.now j.result j.ensures w.result w.ensures _ c.before.before.before.before.before.before.before.judged.given.1 in (omega (arith, m.text), (m.tapes, omega (arith, m.arc_space)))
+    let m = read_room s.args.text.now s.args.states.now s.args.arcs.now j.result j.ensures w.result w.ensures _ c.before.before.before.before.before.before.before.judged.given.1 in (omega (arith, m.text), (m.tapes, omega (arith, m.arc_space)))
 
 same_length : tie.Need-same-length
 same_length c = search rules
@@ -63,7 +63,7 @@ returns-2 : tie.Need-returns-2
 returns-2 c = let s = c.before.before.before.before.before.before.before.before.before.before.before.before.before.before.before.before.before in
     let j = c.before.before.before.before.before.before.before.before.before.before.before.before.before.judge-text in
     let w = c.before.before.before.before.before.before.before.before.before.before.before.before.answer-of in
-    read-stored s.args.text.now s.args.states.now s.args.arcs.now j.result j.ensures w.result w.ensures _ c.before.before.before.before.before.before.before.before.before.before.judged.given.1 _ _ c.before.before.before.before.before.before.before.store-states.ensures c.before.before.store-arcs.ensures
+    read_stored s.args.text.now s.args.states.now s.args.arcs.now j.result j.ensures w.result w.ensures _ c.before.before.before.before.before.before.before.before.before.before.judged.given.1 _ _ c.before.before.before.before.before.before.before.store-states.ensures c.before.before.store-arcs.ensures
 
 pub read_spec : {M : Type 1} → statement M
 read_spec =

@@ -1,5 +1,5 @@
 -- `text::write` meets its contract. Assumes nothing.
-use Rattle.text.proofs.WrittenFacts.{judged_sound, write_refused, write-short, write_done}
+use Rattle.text.proofs.WrittenFacts.{judged_sound, write_refused, write_short, write_done}
 use Rattle.table.proofs.SoundFacts.{few_tapes, few_states, few_arcs}
 use Rattle.table.specs.Answers.{lent}
 use native.Mathlib.Omega.{arith}
@@ -44,7 +44,7 @@ returns-2 c = let s = c.before.before.before.before.before.before.before.before 
     let m = lent s.args.counts s.args.states.now s.args.arcs.now in
     let j = c.before.before.before.before.judge in
     let d = judged_sound m j.result j.ensures c.before.before.enum_told.given.1 in
-    write-short m _ d (omega (arith, c.if1.true, c.before.text-length.ensures))
+    write_short m _ d (omega (arith, c.if1.true, c.before.text-length.ensures))
 
 write-table-requires : tie.Need-write-table-requires
 write-table-requires c κs = let s = c.before.before.before.before.before.before.before.before.before in

@@ -1,5 +1,5 @@
 -- `agree_line::line::count_pairs` meets its contract. Assumes nothing.
-use Rattle.agree_line.proofs.LineFacts.{count_long, count-short, count-value}
+use Rattle.agree_line.proofs.LineFacts.{count_long, count_short, count_value}
 use borrow.Author.Rules.{rules}
 use Rattle.agree_line.proofs.line.count_pairs.Statement.{statement}
 use Rattle.agree_line.proofs.line.count_pairs.Tie as tie
@@ -11,7 +11,7 @@ returns : tie.Need-returns
 returns c = count_long _ c.if1.true
 
 returns-2 : tie.Need-returns-2
-returns-2 c = count-short _ c.before.if1.false c.if2.true
+returns-2 c = count_short _ c.before.if1.false c.if2.true
 
 sub-read-decimal : tie.Need-overflow-sub-read-decimal
 sub-read-decimal c = search rules
@@ -26,7 +26,7 @@ read-decimal-requires : tie.Need-read-decimal-requires
 read-decimal-requires c κs = search rules
 
 returns-3 : tie.Need-returns-3
-returns-3 c = let e = c.before.before in count-value _ e.before.if1.false c.read-decimal.result e.if2.false c.read-decimal.ensures
+returns-3 c = let e = c.before.before in count_value _ e.before.if1.false c.read-decimal.result e.if2.false c.read-decimal.ensures
 
 pub count-pairs-spec : {M : Type 1} → statement M
 count-pairs-spec =

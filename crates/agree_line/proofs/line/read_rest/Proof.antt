@@ -1,5 +1,5 @@
 -- `agree_line::line::read_rest` meets its contract. Assumes nothing.
-use Rattle.agree_line.proofs.LineFacts.{rest_short, rest-refused, rest-fine}
+use Rattle.agree_line.proofs.LineFacts.{rest_short, rest_refused, rest_fine}
 use borrow.Author.Rules.{rules}
 use Rattle.agree_line.proofs.line.read_rest.Statement.{statement}
 use Rattle.agree_line.proofs.line.read_rest.Tie as tie
@@ -35,10 +35,10 @@ enum_told : tie.Need-enum-told
 enum_told c = search rules
 
 returns-2 : tie.Need-returns-2
-returns-2 c = let j = c.before.before.before in let e = j.before.before in rest-refused _ _ e.before.before.requires.1 e.if1.false j.judge-line.result j.judge-line.ensures _ c.before.judged.given.1
+returns-2 c = let j = c.before.before.before in let e = j.before.before in rest_refused _ _ e.before.before.requires.1 e.if1.false j.judge-line.result j.judge-line.ensures _ c.before.judged.given.1
 
 returns-3 : tie.Need-returns-3
-returns-3 c = let j = c.before.before in let e = j.before.before in rest-fine _ _ e.before.before.requires.1 e.if1.false j.judge-line.result j.judge-line.ensures c.enum_told.given.1
+returns-3 c = let j = c.before.before in let e = j.before.before in rest_fine _ _ e.before.before.requires.1 e.if1.false j.judge-line.result j.judge-line.ensures c.enum_told.given.1
 
 pub read-rest-spec : {M : Type 1} → statement M
 read-rest-spec =

@@ -4,7 +4,7 @@ use native.Mathlib.Omega.{arith}
 use Prim.Native.Nat.{◌+◌, ◌*◌}
 use lib.ListN.{length, drop}
 use Rattle.automata.specs.Answer.{beside, forget}
-use Rattle.table.specs.Answers.{judgedAs}
+use Rattle.table.specs.Answers.{judged_as}
 use Rattle.agree_line.specs.PairColumns.{pairs_read}
 use Rattle.agree_line.proofs.PairFacts.{pairs_start, pairs_turn, pairs_end}
 use borrow.Author.Rules.{rules}
@@ -17,7 +17,7 @@ use Rattle.table.proofs.answer.both.Reads as both-reads
 use Rattle.automata.specs.Layout.{pair_width}
 
 abbrev invariant-loop : tie.invariant-loop
-invariant-loop columns count judged₀ left₀ at₀ judged left at = (at + left * pair_width ≡ length columns) × (forget (beside (judgedAs judged) (pairs_read left (drop at columns))) ≡ forget (pairs_read count columns))
+invariant-loop columns count judged₀ left₀ at₀ judged left at = (at + left * pair_width ≡ length columns) × (forget (beside (judged_as judged) (pairs_read left (drop at columns))) ≡ forget (pairs_read count columns))
 
 abbrev decreases-loop : tie.decreases-loop
 decreases-loop columns count judged₀ left₀ at₀ judged left at = left

@@ -1,5 +1,5 @@
 -- `agree_text::keep::keep_table` meets its contract. Assumes nothing.
-use Rattle.agree_text.proofs.KeptFacts.{kept-refused, kept_table, lent_slices, lent_work, room-lent, work_lent_lem, wrote_as}
+use Rattle.agree_text.proofs.KeptFacts.{kept_refused, kept_table, lent_slices, lent_work, room-lent, work_lent_lem, wrote_as}
 use mathlib.Core.Path.{ap}
 use Rattle.automata.specs.AgreeText.{write_output}
 use Rattle.pairs.specs.PairBytes.{pairs_of}
@@ -59,7 +59,7 @@ returns-2 : tie.Need-returns-2
 returns-2 c = let s = c.before.before.before.before.before.before.before.before.before.before.before.before.before.before.before.before.before.before in
     let i = c.before.before.before.before.before.before.before.before.before.before.intersect in
     let m = lent s.args.counts s.args.states.now s.args.arcs.now in
-    wrote_as _ _ _ _ _ (ap write_output (kept-refused m s.requires.0 (pairs_of s.args.pairs.now) lent_slices lent_work room-lent work_lent_lem i.result _ _ _ i.ensures _ c.before.before.before.before.before.kept2.given.1)) c.before.before.write-refusal.ensures
+    wrote_as _ _ _ _ _ (ap write_output (kept_refused m s.requires.0 (pairs_of s.args.pairs.now) lent_slices lent_work room-lent work_lent_lem i.result _ _ _ i.ensures _ c.before.before.before.before.before.kept2.given.1)) c.before.before.write-refusal.ensures
 
 pub keep-table-spec : {M : Type 1} → statement M
 keep-table-spec =

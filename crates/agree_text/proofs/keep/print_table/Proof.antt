@@ -1,6 +1,6 @@
 -- `agree_text::keep::print_table` meets its contract. Assumes nothing.
 use Rattle.table.specs.Answers.{lent}
-use Rattle.agree_text.proofs.PrintFacts.{print-done, print-refused}
+use Rattle.agree_text.proofs.PrintFacts.{print_done, print-refused}
 use borrow.Author.Rules.{rules}
 use Rattle.agree_text.proofs.keep.print_table.Statement.{statement}
 use Rattle.agree_text.proofs.keep.print_table.Tie as tie
@@ -25,7 +25,7 @@ same_length : tie.Need-same-length
 same_length c = search rules
 
 returns : tie.Need-returns
-returns c = let s = c.before.before.before.before.before.before.before.before.before.before in let m = lent s.args.counts s.args.states.now s.args.arcs.now in let w = c.before.before.before.before.before.write in print-done m s.requires.0.0 s.requires.0.1 _ s.requires.1 w.result _ w.ensures _ c.before.written.given.1
+returns c = let s = c.before.before.before.before.before.before.before.before.before.before in let m = lent s.args.counts s.args.states.now s.args.arcs.now in let w = c.before.before.before.before.before.write in print_done m s.requires.0.0 s.requires.0.1 _ s.requires.1 w.result _ w.ensures _ c.before.written.given.1
 
 same-length-2 : tie.Need-same-length-2
 same-length-2 c = search rules

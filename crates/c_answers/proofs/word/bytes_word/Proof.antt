@@ -1,7 +1,7 @@
 -- `c_answers::word::bytes_word` meets its contract. Assumes nothing.
 use mathlib.Core.Path.{sym, ap, ◌∙◌, subst}
 use native.Mathlib.Omega.{arith}
-use Rattle.text.specs.Answers.{writtenAs}
+use Rattle.text.specs.Answers.{written_as}
 use Rattle.text.specs.declared.WriteAnswer.{WriteAnswer}
 use Rattle.c_answers.specs.Words.{bytes_word, BytesFit}
 use borrow.Author.Rules.{rules}
@@ -16,7 +16,7 @@ enum-known-answer : tie.Need-enum-known-answer
 enum-known-answer c = search rules
 
 shifted-requires : tie.Need-shifted-requires
-shifted-requires c κs = let h = subst (λ (a : WriteAnswer). BytesFit (writtenAs a)) c.before.answer.given.1 c.before.before.before.requires in omega (arith, h)
+shifted-requires c κs = let h = subst (λ (a : WriteAnswer). BytesFit (written_as a)) c.before.answer.given.1 c.before.before.before.requires in omega (arith, h)
 
 enum-known-answer-2 : tie.Need-enum-known-answer-2
 enum-known-answer-2 c = search rules
@@ -28,7 +28,7 @@ cast-result : tie.Need-overflow-cast-result
 cast-result c = search rules
 
 returns : tie.Need-returns
-returns c = c.shifted.ensures ∙ ap (λ (a : WriteAnswer). bytes_word (writtenAs a)) (sym c.before.before.answer.given.1)
+returns c = c.shifted.ensures ∙ ap (λ (a : WriteAnswer). bytes_word (written_as a)) (sym c.before.before.answer.given.1)
 
 returns-2 : tie.Need-returns-2
 returns-2 c = search rules

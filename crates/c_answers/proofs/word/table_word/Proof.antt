@@ -1,6 +1,6 @@
 -- `c_answers::word::table_word` meets its contract. Assumes nothing.
 use mathlib.Core.Path.{sym, ap, ◌∙◌, subst}
-use Rattle.table.specs.Answers.{tableAs}
+use Rattle.table.specs.Answers.{table_as}
 use Rattle.table.specs.declared.answer.TableAnswer.{TableAnswer}
 use Rattle.c_answers.specs.Words.{table_word, CountsFit}
 use borrow.Author.Rules.{rules}
@@ -15,7 +15,7 @@ enum-known-answer : tie.Need-enum-known-answer
 enum-known-answer c = search rules
 
 counts-word-requires : tie.Need-counts-word-requires
-counts-word-requires c κs = subst (λ (a : TableAnswer). CountsFit (tableAs a)) c.before.answer.given.1 c.before.before.before.requires
+counts-word-requires c κs = subst (λ (a : TableAnswer). CountsFit (table_as a)) c.before.answer.given.1 c.before.before.before.requires
 
 enum-known-answer-2 : tie.Need-enum-known-answer-2
 enum-known-answer-2 c = search rules
@@ -27,7 +27,7 @@ cast-result : tie.Need-overflow-cast-result
 cast-result c = search rules
 
 returns : tie.Need-returns
-returns c = c.counts-word.ensures ∙ ap (λ (a : TableAnswer). table_word (tableAs a)) (sym c.before.before.answer.given.1)
+returns c = c.counts-word.ensures ∙ ap (λ (a : TableAnswer). table_word (table_as a)) (sym c.before.before.answer.given.1)
 
 returns-2 : tie.Need-returns-2
 returns-2 c = search rules

@@ -1,6 +1,6 @@
 -- `c_answers::word::weight_word` meets its contract. Assumes nothing.
 use mathlib.Core.Path.{sym, ap, ◌∙◌, subst}
-use Rattle.lookup.specs.Answers.{weightAs}
+use Rattle.lookup.specs.Answers.{weight_as}
 use Rattle.lookup.specs.declared.call.WeightAnswer.{WeightAnswer}
 use Rattle.c_answers.specs.Words.{weight_word, WeightFits}
 use borrow.Author.Rules.{rules}
@@ -15,7 +15,7 @@ enum-known-answer : tie.Need-enum-known-answer
 enum-known-answer c = search rules
 
 shifted-requires : tie.Need-shifted-requires
-shifted-requires c κs = subst (λ (a : WeightAnswer). WeightFits (weightAs a)) c.before.answer.given.1 c.before.before.before.requires
+shifted-requires c κs = subst (λ (a : WeightAnswer). WeightFits (weight_as a)) c.before.answer.given.1 c.before.before.before.requires
 
 enum_told : tie.Need-enum-told
 enum_told c = search rules
@@ -30,7 +30,7 @@ cast-result : tie.Need-overflow-cast-result
 cast-result c = search rules
 
 returns : tie.Need-returns
-returns c = c.shifted.ensures ∙ ap (λ (a : WeightAnswer). weight_word (weightAs a)) (sym c.before.before.answer.given.1)
+returns c = c.shifted.ensures ∙ ap (λ (a : WeightAnswer). weight_word (weight_as a)) (sym c.before.before.answer.given.1)
 
 returns-2 : tie.Need-returns-2
 returns-2 c = search rules

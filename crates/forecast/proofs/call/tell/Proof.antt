@@ -1,5 +1,5 @@
 -- `forecast::call::tell` meets its contract. Assumes nothing.
-use Rattle.forecast.proofs.CallFacts.{used_none, answer_refused, may-tell, answer-told}
+use Rattle.forecast.proofs.CallFacts.{used_none, answer_refused, may_tell, answer_told}
 use borrow.Author.Rules.{rules}
 use Rattle.forecast.proofs.call.tell.Statement.{statement}
 use Rattle.forecast.proofs.call.tell.Tie as tie
@@ -31,7 +31,7 @@ returns c =
 forecasts-of-requires : tie.Need-forecasts-of-requires
 forecasts-of-requires c κs =
     let s = c.before.before.before.before.before.before.before.before in
-    may-tell _ s.requires.pairs s.args.room s.args.work.now s.args.listed s.requires.judged _ c.before.before.before.first-refusal.ensures c.before.enum_told.given.1
+    may_tell _ s.requires.pairs s.args.room s.args.work.now s.args.listed s.requires.judged _ c.before.before.before.first-refusal.ensures c.before.enum_told.given.1
 
 same_length : tie.Need-same-length
 same_length c = search rules
@@ -41,7 +41,7 @@ returns-2 c =
     let s = c.before.before.before.before.before.before.before.before.before.before.before in
     let f = c.before.before.before.before.before.before.first-refusal in
     let t = c.before.before.forecasts-of in
-    (t.ensures.0, λ ps k. answer-told _ ps s.args.room s.args.work.now s.args.listed k f.result f.ensures c.before.before.before.before.enum_told.given.1 t.result t.ensures.1)
+    (t.ensures.0, λ ps k. answer_told _ ps s.args.room s.args.work.now s.args.listed k f.result f.ensures c.before.before.before.before.enum_told.given.1 t.result t.ensures.1)
 
 pub tell-spec : {M : Type 1} → statement M
 tell-spec =

@@ -3,7 +3,7 @@ use mathlib.Core.Path.{◌∙◌}
 use native.Mathlib.Omega.{arith}
 use Rattle.table.specs.Answers.{lent}
 use Rattle.delays.proofs.ClosingFacts.{sound_readable, sound_listable}
-use Rattle.forecast.proofs.PairFacts.{work_room, marks_kept, found_few, both-are, within-eight, arcs-readable, labels_short, delay-fits, pair-needs, pair-mixed}
+use Rattle.forecast.proofs.PairFacts.{work_room, marks_kept, found_few, both_are, within_eight, arcs_readable, labels_short, delay_fits, pair-needs, pair-mixed}
 use borrow.Author.Rules.{rules}
 use Rattle.forecast.proofs.pair.forecast_pair.Statement.{statement}
 use Rattle.forecast.proofs.pair.forecast_pair.Tie as tie
@@ -18,14 +18,14 @@ close-pair-requires c κs =
     let s = c.before.before.before.before.before in
     let q = s.requires in
     let room = work_room s.args.counts.states _ q.2 in
-    (sound_readable _ q.0, within-eight _ q.0 _ q.1, omega (arith, room))
+    (sound_readable _ q.0, within_eight _ q.0 _ q.1, omega (arith, room))
 
 close-pair-requires-2 : tie.Need-close-pair-requires-2
 close-pair-requires-2 c κs =
     let s = c.before.before.before.before.before.before.before.before.before in
     let q = s.requires in
     let room = work_room s.args.counts.states _ q.2 in
-    (sound_readable _ q.0, within-eight _ q.0 _ q.1, omega (arith, room, c.before.before.before.close-pair.ensures.same_length))
+    (sound_readable _ q.0, within_eight _ q.0 _ q.1, omega (arith, room, c.before.before.before.close-pair.ensures.same_length))
 
 meets-both-requires : tie.Need-meets-both-requires
 meets-both-requires c κs =
@@ -44,7 +44,7 @@ returns c =
     let room = work_room s.args.counts.states _ q.2 in
     let a = c.before.before.before.before.before.before.before.before.before.close-pair.ensures in
     let b = c.before.before.before.before.before.close-pair2.ensures in (
-      pair-mixed m q.0 s.args.p q.1 _ (c.before.meets-both.ensures ∙ both-are m q.0 s.args.p q.1 _ _ _ room a b) c.if1.true,
+      pair-mixed m q.0 s.args.p q.1 _ (c.before.meets-both.ensures ∙ both_are m q.0 s.args.p q.1 _ _ _ room a b) c.if1.true,
       marks_kept m q.0 _ _ _ _ _ (omega arith) (omega (arith, room, a.same_length)) b (marks_kept m q.0 _ _ _ _ _ (omega arith) room a q.3),
     )
 
@@ -69,12 +69,12 @@ needed-requires c κs =
     let a = c.before.before.before.before.before.before.before.before.before.before.before.before.close-pair.ensures in
     let b = c.before.before.before.before.before.before.before.before.close-pair2.ensures in
     let k = marks_kept m q.0 _ _ _ _ _ (omega arith) (omega (arith, room, a.same_length)) b (marks_kept m q.0 _ _ _ _ _ (omega arith) room a q.3) in (
-      arcs-readable m q.0 s.args.p q.1,
+      arcs_readable m q.0 s.args.p q.1,
       labels_short m q.0 s.args.p q.1,
       omega (arith, room, a.same_length, b.same_length),
       (sound_listable m q.0).1,
       found_few m q.0 _ q.4,
-      delay-fits m q.0 s.args.p q.1 _ q.4 _ k,
+      delay_fits m q.0 s.args.p q.1 _ q.4 _ k,
     )
 
 same-length-2 : tie.Need-same-length-2
@@ -90,7 +90,7 @@ returns-2 c =
     let b = c.before.before.before.before.before.before.before.before.before.close-pair2.ensures in
     let k = marks_kept m q.0 _ _ _ _ _ (omega arith) (omega (arith, room, a.same_length)) b (marks_kept m q.0 _ _ _ _ _ (omega arith) room a q.3) in (
       c.needed.ensures
-          ∙ pair-needs m q.0 s.args.p q.1 _ q.4 _ k _ (c.before.before.before.before.before.meets-both.ensures ∙ both-are m q.0 s.args.p q.1 _ _ _ room a b) c.before.before.before.before.if1.false,
+          ∙ pair-needs m q.0 s.args.p q.1 _ q.4 _ k _ (c.before.before.before.before.before.meets-both.ensures ∙ both_are m q.0 s.args.p q.1 _ _ _ room a b) c.before.before.before.before.if1.false,
       k,
     )
 

@@ -4,7 +4,7 @@ use mathlib.Core.Path.{◌≡◌, refl, sym, ◌∙◌}
 use native.Mathlib.Omega.{arith}
 use lib.ListN.{take}
 use Rattle.intersect_config.specs.Configs.{config_at}
-use Rattle.intersect_config.proofs.TestFacts.{long_from, long_all, long-found, long-next, long_none}
+use Rattle.intersect_config.proofs.TestFacts.{long_from, long_all, long_found, long_next, long_none}
 use Rattle.intersect_config.proofs.RowFacts.{len_in_slot}
 use borrow.Author.Rules.{rules}
 use Rattle.intersect_config.proofs.config.too_long.Statement.{statement}
@@ -43,7 +43,7 @@ returns c =
     let s = c.before.before.before.before.before.before in
     let l = c.before.before.before.before.before.loop in
     let e = len_in_slot l.i s.args.row.now (omega (arith, s.requires.1)) in
-    sym (long-found _ _ s.requires.0 s.requires.1 s.requires.2 _ c.before.before.before.before.loop-test.true (rw e at c.if1.true)) ∙ l.invariant.1 ∙ long_all _ _ s.requires.0 s.requires.1
+    sym (long_found _ _ s.requires.0 s.requires.1 s.requires.2 _ c.before.before.before.before.loop-test.true (rw e at c.if1.true)) ∙ l.invariant.1 ∙ long_all _ _ s.requires.0 s.requires.1
 
 add-i : tie.Need-overflow-add-i invariant-loop decreases-loop
 add-i c = search rules
@@ -56,7 +56,7 @@ loop-again c =
     let s = c.before.before.before.before.before.before in
     let l = c.before.before.before.before.before.loop in
     let e = len_in_slot l.i s.args.row.now (omega (arith, s.requires.1)) in
-    (search rules, sym (long-next _ _ s.requires.0 s.requires.1 s.requires.2 _ c.before.before.before.before.loop-test.true (rw e at c.if1.false)) ∙ l.invariant.1)
+    (search rules, sym (long_next _ _ s.requires.0 s.requires.1 s.requires.2 _ c.before.before.before.before.loop-test.true (rw e at c.if1.false)) ∙ l.invariant.1)
 
 returns-2 : tie.Need-returns-2 invariant-loop decreases-loop
 returns-2 c =

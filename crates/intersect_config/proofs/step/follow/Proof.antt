@@ -4,7 +4,7 @@ use mathlib.Core.Path.{◌≡◌}
 use native.Mathlib.Omega.{arith}
 use lib.ListN.{length}
 use Rattle.intersect_config.proofs.RowFacts.{length_row}
-use Rattle.intersect_config.proofs.FollowFacts.{Filling, filling_start, may-advance, follows-not, filling-next, follows_all}
+use Rattle.intersect_config.proofs.FollowFacts.{Filling, filling_start, may_advance, follows_not, filling_next, follows_all}
 use borrow.Author.Rules.{rules}
 use Rattle.intersect_config.proofs.step.follow.Statement.{statement}
 use Rattle.intersect_config.proofs.step.follow.Tie as tie
@@ -36,13 +36,13 @@ element-copy-out-p : tie.Need-element-copy-out-p invariant-loop decreases-loop
 element-copy-out-p c = search rules
 
 advance-slot-requires : tie.Need-advance-slot-requires invariant-loop decreases-loop
-advance-slot-requires c κs = let s = c.before.before.before.before.before.before.before.before.before.before.before.before in may-advance _ _ _ _ s.requires.0 s.requires.1 _ _ c.before.before.before.loop.invariant.0 c.before.before.loop-test.true
+advance-slot-requires c κs = let s = c.before.before.before.before.before.before.before.before.before.before.before.before in may_advance _ _ _ _ s.requires.0 s.requires.1 _ _ c.before.before.before.loop.invariant.0 c.before.before.loop-test.true
 
 same_length : tie.Need-same-length invariant-loop decreases-loop
 same_length c = search rules
 
 returns : tie.Need-returns invariant-loop decreases-loop
-returns c = let s = c.before.before.before.before.before.before.before.before.before.before.before.before.before.before.before.before in follows-not _ _ _ _ s.requires.0 s.requires.1 _ _ c.before.before.before.before.before.before.before.loop.invariant.0 c.before.before.before.before.before.before.loop-test.true _ _ c.before.before.before.advance-slot.ensures c.if1.true
+returns c = let s = c.before.before.before.before.before.before.before.before.before.before.before.before.before.before.before.before in follows_not _ _ _ _ s.requires.0 s.requires.1 _ _ c.before.before.before.before.before.before.before.loop.invariant.0 c.before.before.before.before.before.before.loop-test.true _ _ c.before.before.before.advance-slot.ensures c.if1.true
 
 add-i : tie.Need-overflow-add-i invariant-loop decreases-loop
 add-i c = search rules
@@ -51,7 +51,7 @@ loop-less : tie.Need-loop-smaller invariant-loop decreases-loop
 loop-less c = search rules
 
 loop-again : tie.Need-loop-preserved invariant-loop decreases-loop
-loop-again c = let s = c.before.before.before.before.before.before.before.before.before.before.before.before.before.before.before.before in (filling-next _ _ _ _ s.requires.0 s.requires.1 _ _ c.before.before.before.before.before.before.before.loop.invariant.0 c.before.before.before.before.before.before.loop-test.true _ _ c.before.before.before.advance-slot.ensures c.if1.false, search rules)
+loop-again c = let s = c.before.before.before.before.before.before.before.before.before.before.before.before.before.before.before.before in (filling_next _ _ _ _ s.requires.0 s.requires.1 _ _ c.before.before.before.before.before.before.before.loop.invariant.0 c.before.before.before.before.before.before.loop-test.true _ _ c.before.before.before.advance-slot.ensures c.if1.false, search rules)
 
 same-length-2 : tie.Need-same-length-2 invariant-loop decreases-loop
 same-length-2 c = search rules

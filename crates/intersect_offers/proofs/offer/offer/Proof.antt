@@ -1,7 +1,7 @@
 -- `intersect_offers::offer::offer` meets its contract. Assumes nothing.
 use mathlib.Core.Path.{sym, ◌∙◌}
 use native.Mathlib.Omega.{arith}
-use Rattle.intersect_offers.proofs.OfferFacts.{state_read, row_length, record_whole, may_follow_lem, offers_away, offers-none, viable-fits, offers-blocked, offers_late, offers-to}
+use Rattle.intersect_offers.proofs.OfferFacts.{state_read, row_length, record_whole, may_follow_lem, offers_away, offers_none, viable_fits, offers_blocked, offers_late, offers_to}
 use borrow.Author.Rules.{rules}
 use Rattle.intersect_offers.proofs.offer.offer.Statement.{statement}
 use Rattle.intersect_offers.proofs.offer.offer.Tie as tie
@@ -40,14 +40,14 @@ returns-2 : tie.Need-returns-2
 returns-2 c =
     let s = c.before.before.before.before.before.before.before.before.before.before.before.before.before.before in
     record {
-      offers = offers-none _ _ _ _ _ s.requires.0 _ c.before.before.before.before.before.before.before.before.before.source-at.ensures (c.before.before.before.before.before.before.if1.false ∙ state_read _ _ c.before.before.before.before.before.before.before.before.get16.ensures) _ c.before.before.before.follow.ensures.step c.if2.true;
+      offers = offers_none _ _ _ _ _ s.requires.0 _ c.before.before.before.before.before.before.before.before.before.source-at.ensures (c.before.before.before.before.before.before.if1.false ∙ state_read _ _ c.before.before.before.before.before.before.before.before.get16.ensures) _ c.before.before.before.follow.ensures.step c.if2.true;
       bytes = c.before.before.before.follow.ensures.bytes;
     }
 
 viable-config-requires : tie.Need-viable-config-requires
 viable-config-requires c κs =
     let s = c.before.before.before.before.before.before.before.before.before.before.before.before.before.before.before in
-    let v = viable-fits _ _ _ _ _ s.requires.0 _ c.before.before.before.before.before.before.before.before.before.before.source-at.ensures (c.before.before.before.before.before.before.before.if1.false ∙ state_read _ _ c.before.before.before.before.before.before.before.before.before.get16.ensures) _ c.before.before.before.before.follow.ensures.step c.before.if2.false in
+    let v = viable_fits _ _ _ _ _ s.requires.0 _ c.before.before.before.before.before.before.before.before.before.before.source-at.ensures (c.before.before.before.before.before.before.before.if1.false ∙ state_read _ _ c.before.before.before.before.before.before.before.before.before.get16.ensures) _ c.before.before.before.before.follow.ensures.step c.before.if2.false in
     (v.0, v.1, row_length _ _ v.1 c.before.before.before.before.follow.ensures.bytes, v.2)
 
 same-length-2 : tie.Need-same-length-2
@@ -57,14 +57,14 @@ returns-3 : tie.Need-returns-3
 returns-3 c =
     let s = c.before.before.before.before.before.before.before.before.before.before.before.before.before.before.before.before.before in
     record {
-      offers = offers-blocked _ _ _ _ _ s.requires.0 _ c.before.before.before.before.before.before.before.before.before.before.before.before.source-at.ensures (c.before.before.before.before.before.before.before.before.before.if1.false ∙ state_read _ _ c.before.before.before.before.before.before.before.before.before.before.before.get16.ensures) _ c.before.before.before.before.before.before.follow.ensures.step c.before.before.before.if2.false _ c.before.viable-config.ensures c.if3.true;
+      offers = offers_blocked _ _ _ _ _ s.requires.0 _ c.before.before.before.before.before.before.before.before.before.before.before.before.source-at.ensures (c.before.before.before.before.before.before.before.before.before.if1.false ∙ state_read _ _ c.before.before.before.before.before.before.before.before.before.before.before.get16.ensures) _ c.before.before.before.before.before.before.follow.ensures.step c.before.before.before.if2.false _ c.before.viable-config.ensures c.if3.true;
       bytes = c.before.before.before.before.before.before.follow.ensures.bytes;
     }
 
 too-long-requires : tie.Need-too-long-requires
 too-long-requires c κs =
     let s = c.before.before.before.before.before.before.before.before.before.before.before.before.before.before.before.before.before.before in
-    let v = viable-fits _ _ _ _ _ s.requires.0 _ c.before.before.before.before.before.before.before.before.before.before.before.before.before.source-at.ensures (c.before.before.before.before.before.before.before.before.before.before.if1.false ∙ state_read _ _ c.before.before.before.before.before.before.before.before.before.before.before.before.get16.ensures) _ c.before.before.before.before.before.before.before.follow.ensures.step c.before.before.before.before.if2.false in
+    let v = viable_fits _ _ _ _ _ s.requires.0 _ c.before.before.before.before.before.before.before.before.before.before.before.before.before.source-at.ensures (c.before.before.before.before.before.before.before.before.before.before.if1.false ∙ state_read _ _ c.before.before.before.before.before.before.before.before.before.before.before.before.get16.ensures) _ c.before.before.before.before.before.before.before.follow.ensures.step c.before.before.before.before.if2.false in
     (v.1, v.0, s.requires.0.explorable.four_pairs, row_length _ _ v.1 c.before.before.before.before.before.before.before.follow.ensures.bytes)
 
 same-length-3 : tie.Need-same-length-3
@@ -85,7 +85,7 @@ returns-5 : tie.Need-returns-5
 returns-5 c =
     let s = c.before.before.before.before.before.before.before.before.before.before.before.before.before.before.before.before.before.before.before.before in
     record {
-      offers = offers-to _ _ _ _ _ s.requires.0 _ c.before.before.before.before.before.before.before.before.before.before.before.before.before.before.before.source-at.ensures (c.before.before.before.before.before.before.before.before.before.before.before.before.if1.false ∙ state_read _ _ c.before.before.before.before.before.before.before.before.before.before.before.before.before.before.get16.ensures) _ c.before.before.before.before.before.before.before.before.before.follow.ensures.step c.before.before.before.before.before.before.if2.false _ c.before.before.before.before.viable-config.ensures c.before.before.before.if3.false _ c.before.too_long.ensures c.if4.false;
+      offers = offers_to _ _ _ _ _ s.requires.0 _ c.before.before.before.before.before.before.before.before.before.before.before.before.before.before.before.source-at.ensures (c.before.before.before.before.before.before.before.before.before.before.before.before.if1.false ∙ state_read _ _ c.before.before.before.before.before.before.before.before.before.before.before.before.before.before.get16.ensures) _ c.before.before.before.before.before.before.before.before.before.follow.ensures.step c.before.before.before.before.before.before.if2.false _ c.before.before.before.before.viable-config.ensures c.before.before.before.if3.false _ c.before.too_long.ensures c.if4.false;
       bytes = c.before.before.before.before.before.before.before.before.before.follow.ensures.bytes;
     }
 

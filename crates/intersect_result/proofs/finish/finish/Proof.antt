@@ -1,7 +1,7 @@
 -- `intersect_result::finish::finish` meets its contract. Assumes nothing.
 use mathlib.Core.Path.{refl}
 use Rattle.table.specs.Answers.{lent}
-use Rattle.intersect_result.proofs.FinishFacts.{finished, laid, states-writable, arcs-writable}
+use Rattle.intersect_result.proofs.FinishFacts.{finished, laid, states_writable, arcs_writable}
 use borrow.Author.Rules.{rules}
 use Rattle.intersect_result.proofs.finish.finish.Statement.{statement}
 use Rattle.intersect_result.proofs.finish.finish.Tie as tie
@@ -26,7 +26,7 @@ slice-aggregate-write-states c = search rules
 write-states-requires : tie.Need-write-states-requires
 write-states-requires c κs =
     let f = c.before.before.before.before.before.before.before.before.before.before.before.before.before.requires in
-    (f.rows_fit, search rules, (laid _ _ _ _ _ _ _ f).within, states-writable _ _ _ _ _ _ _ f _ _ _ c.before.before.before.before.number-kept.ensures)
+    (f.rows_fit, search rules, (laid _ _ _ _ _ _ _ f).within, states_writable _ _ _ _ _ _ _ f _ _ _ c.before.before.before.before.number-kept.ensures)
 
 slice-aggregate-write-arcs : tie.Need-slice-aggregate-write-arcs
 slice-aggregate-write-arcs c = search rules
@@ -37,7 +37,7 @@ slice-aggregate-write-arcs-2 c = search rules
 write-arcs-requires : tie.Need-write-arcs-requires
 write-arcs-requires c κs =
     let f = c.before.before.before.before.before.before.before.before.before.before.before.before.before.before.before.before.before.before.before.requires in
-    let a = arcs-writable _ _ _ _ _ _ _ f _ _ _ c.before.before.before.before.before.before.before.before.before.before.number-kept.ensures (search rules) in
+    let a = arcs_writable _ _ _ _ _ _ _ f _ _ _ c.before.before.before.before.before.before.before.before.before.before.number-kept.ensures (search rules) in
     (f.edges_fit, search rules, a.0, a.1, a.2)
 
 same_length : tie.Need-same-length

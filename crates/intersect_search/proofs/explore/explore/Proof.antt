@@ -1,5 +1,5 @@
 -- `intersect_search::explore::explore` meets its contract. Assumes nothing.
-use Rattle.intersect_search.proofs.RunFacts.{may-begin, may-run, explored}
+use Rattle.intersect_search.proofs.RunFacts.{may_begin, may_run, explored}
 use borrow.Author.Rules.{rules}
 use Rattle.intersect_search.proofs.explore.explore.Statement.{statement}
 use Rattle.intersect_search.proofs.explore.explore.Tie as tie
@@ -17,10 +17,10 @@ clear-requires : tie.Need-clear-requires
 clear-requires c κs = search rules
 
 begin-requires : tie.Need-begin-requires
-begin-requires c κs = let s = c.before.before.before.before.before.before.before.before.before.before.before.before.before.before.before in may-begin _ _ _ _ s.requires _ c.before.before.before.before.before.before.before.closing-tables.ensures _ c.before.before.before.clear.ensures
+begin-requires c κs = let s = c.before.before.before.before.before.before.before.before.before.before.before.before.before.before.before in may_begin _ _ _ _ s.requires _ c.before.before.before.before.before.before.before.closing-tables.ensures _ c.before.before.before.clear.ensures
 
 run-requires : tie.Need-run-requires
-run-requires c κs = let s = c.before.before.before.before.before.before.before.before.before.before.before.before.before.before.before.before.before.before.before in may-run _ _ _ _ s.requires _ c.before.before.before.before.before.before.before.before.before.before.before.closing-tables.ensures _ c.before.before.before.before.before.before.before.clear.ensures _ _ c.before.before.before.begin.ensures
+run-requires c κs = let s = c.before.before.before.before.before.before.before.before.before.before.before.before.before.before.before.before.before.before.before in may_run _ _ _ _ s.requires _ c.before.before.before.before.before.before.before.before.before.before.before.closing-tables.ensures _ c.before.before.before.before.before.before.before.clear.ensures _ _ c.before.before.before.begin.ensures
 
 same_length : tie.Need-same-length
 same_length c = search rules

@@ -1,7 +1,7 @@
 -- `intersect_search::explore::run_chained` meets its contract. Assumes nothing.
 use native.Mathlib.Omega.{arith}
 use Prim.Native.Nat.{◌-◌}
-use Rattle.intersect_search.proofs.RunFacts.{Running, run_none, run_start, run-requires, run_room, run-next, run-full, run_end}
+use Rattle.intersect_search.proofs.RunFacts.{Running, run_none, run_start, run_requires, run_room, run_next, run_full, run_end}
 use borrow.Author.Rules.{rules}
 use Rattle.intersect_search.proofs.explore.run_chained.Statement.{statement}
 use Rattle.intersect_search.proofs.explore.run_chained.Tie as tie
@@ -22,19 +22,19 @@ loop-holds : tie.Need-loop-init invariant-loop decreases-loop
 loop-holds c = let s = c.before.before.before.before.before in run_start _ _ _ _ s.requires.0 c.if1.false
 
 take-up-requires : tie.Need-take-up-requires invariant-loop decreases-loop
-take-up-requires c κs = let s = c.before.before.before.before.before.before.before.before.before in (run-requires _ _ _ _ s.requires.0 _ _ c.before.before.before.loop.invariant c.before.if2.true, s.requires.1)
+take-up-requires c κs = let s = c.before.before.before.before.before.before.before.before.before in (run_requires _ _ _ _ s.requires.0 _ _ c.before.before.before.loop.invariant c.before.if2.true, s.requires.1)
 
 same_length : tie.Need-same-length invariant-loop decreases-loop
 same_length c = search rules
 
 returns-2 : tie.Need-returns-2 invariant-loop decreases-loop
-returns-2 c = let s = c.before.before.before.before.before.before.before.before.before.before.before.before.before in run-full _ _ _ _ s.requires.0 _ _ c.before.before.before.before.before.before.before.loop.invariant c.before.before.before.before.before.if2.true _ _ c.before.before.before.take-up.ensures c.if3.true
+returns-2 c = let s = c.before.before.before.before.before.before.before.before.before.before.before.before.before in run_full _ _ _ _ s.requires.0 _ _ c.before.before.before.before.before.before.before.loop.invariant c.before.before.before.before.before.if2.true _ _ c.before.before.before.take-up.ensures c.if3.true
 
 loop-less : tie.Need-loop-smaller invariant-loop decreases-loop
 loop-less c = let s = c.before.before.before.before.before.before.before.before.before.before.before.before.before in omega (arith, run_room _ _ _ _ s.requires.0 _ _ c.before.before.before.before.before.before.before.loop.invariant c.before.before.before.before.before.if2.true, c.before.before.before.take-up.ensures.taken c.if3.false)
 
 loop-again : tie.Need-loop-preserved invariant-loop decreases-loop
-loop-again c = let s = c.before.before.before.before.before.before.before.before.before.before.before.before.before in run-next _ _ _ _ s.requires.0 _ _ c.before.before.before.before.before.before.before.loop.invariant c.before.before.before.before.before.if2.true _ _ c.before.before.before.take-up.ensures c.if3.false
+loop-again c = let s = c.before.before.before.before.before.before.before.before.before.before.before.before.before in run_next _ _ _ _ s.requires.0 _ _ c.before.before.before.before.before.before.before.loop.invariant c.before.before.before.before.before.if2.true _ _ c.before.before.before.take-up.ensures c.if3.false
 
 same-length-2 : tie.Need-same-length-2 invariant-loop decreases-loop
 same-length-2 c = search rules

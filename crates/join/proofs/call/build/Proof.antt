@@ -1,7 +1,7 @@
 -- `join::call::build` meets its contract. Assumes nothing.
 use Rattle.automata.specs.Calls.Outcome.{slices_of}
 use Rattle.table.specs.Answers.{lent}
-use Rattle.join.proofs.CallFacts.{call_refused, call-joinable, call-stepped}
+use Rattle.join.proofs.CallFacts.{call_refused, call_joinable, call_stepped}
 use borrow.Author.Rules.{rules}
 use Rattle.join.proofs.call.build.Statement.{statement}
 use Rattle.join.proofs.call.build.Tie as tie
@@ -22,7 +22,7 @@ enum_told c = search rules
 join-steps-requires : tie.Need-join-steps-requires
 join-steps-requires c κs =
     let s = c.before.before.before.before.before.before.before.before.before.before.before.before.before.before.before.before.before.before.before in
-    call-joinable (lent s.args.first s.args.first_states.now s.args.first_arcs.now) (lent s.args.second s.args.second_states.now s.args.second_arcs.now) s.requires.pairs (slices_of s.args.product-states.now s.args.product-arcs.now) (slices_of s.args.out-states.now s.args.out-arcs.now) s.args.work.now _ _ s.requires.judged (c.before.before.before.before.before.before.before.before.before.judge-join.ensures s.requires.pairs s.requires.judged) c.before.before.before.before.before.before.enum_told.given.1
+    call_joinable (lent s.args.first s.args.first_states.now s.args.first_arcs.now) (lent s.args.second s.args.second_states.now s.args.second_arcs.now) s.requires.pairs (slices_of s.args.product-states.now s.args.product-arcs.now) (slices_of s.args.out-states.now s.args.out-arcs.now) s.args.work.now _ _ s.requires.judged (c.before.before.before.before.before.before.before.before.before.judge-join.ensures s.requires.pairs s.requires.judged) c.before.before.before.before.before.before.enum_told.given.1
 
 returns : tie.Need-returns
 returns c =
@@ -47,7 +47,7 @@ same-length-5 c = search rules
 returns-2 : tie.Need-returns-2
 returns-2 c =
     let s = c.before.before.before.before.before.before.before.before.before.before.before.before.before.before.before.before.before.before.before.before.before.before.before.before.before.before.before.before.before.before in
-    λ ps k. call-stepped (lent s.args.first s.args.first_states.now s.args.first_arcs.now) (lent s.args.second s.args.second_states.now s.args.second_arcs.now) ps (slices_of s.args.product-states.now s.args.product-arcs.now) (slices_of s.args.out-states.now s.args.out-arcs.now) s.args.work.now _ _ k (c.before.before.before.before.before.before.before.before.before.before.before.before.before.before.before.before.before.before.before.before.judge-join.ensures ps k) c.before.before.before.before.before.before.before.before.before.before.before.before.before.before.before.before.before.enum_told.given.1 _ _ _ c.before.before.before.before.before.before.before.before.before.before.join-steps.ensures
+    λ ps k. call_stepped (lent s.args.first s.args.first_states.now s.args.first_arcs.now) (lent s.args.second s.args.second_states.now s.args.second_arcs.now) ps (slices_of s.args.product-states.now s.args.product-arcs.now) (slices_of s.args.out-states.now s.args.out-arcs.now) s.args.work.now _ _ k (c.before.before.before.before.before.before.before.before.before.before.before.before.before.before.before.before.before.before.before.before.judge-join.ensures ps k) c.before.before.before.before.before.before.before.before.before.before.before.before.before.before.before.before.before.enum_told.given.1 _ _ _ c.before.before.before.before.before.before.before.before.before.before.join-steps.ensures
 
 pub build-spec : {M : Type 1} → statement M
 build-spec =

@@ -1,5 +1,5 @@
 -- `join::judge::in_turn` meets its contract. Assumes nothing.
-use Rattle.join.proofs.JudgeFacts.{turn_wide, turn-pairs, turn_short, turn-fine}
+use Rattle.join.proofs.JudgeFacts.{turn_wide, turn_pairs, turn_short, turn_fine}
 use borrow.Author.Tests.{not-true, not-false}
 use borrow.Author.Rules.{rules}
 use Rattle.join.proofs.judge.in_turn.Statement.{statement}
@@ -39,7 +39,7 @@ enum-told-6 c = search rules
 returns-4 : tie.Need-returns-4
 returns-4 c =
     let a = c.before.before.before.before.before.before.before.args in
-    turn-pairs a.first a.second a.pairs a.narrow a.enough c.before.before.before.before.before.enum_told.given.1 c.before.before.before.enum-told3.given.1 (not-false _ c.before.before.if1.false) _ c.enum-told6.given.1
+    turn_pairs a.first a.second a.pairs a.narrow a.enough c.before.before.before.before.before.enum_told.given.1 c.before.before.before.enum-told3.given.1 (not-false _ c.before.before.if1.false) _ c.enum-told6.given.1
 
 returns-5 : tie.Need-returns-5
 returns-5 c =
@@ -49,7 +49,7 @@ returns-5 c =
 returns-6 : tie.Need-returns-6
 returns-6 c =
     let a = c.before.before.before.before.before.before.before.before.args in
-    turn-fine a.first a.second a.pairs a.narrow a.enough c.before.before.before.before.before.before.enum_told.given.1 c.before.before.before.before.enum-told3.given.1 (not-false _ c.before.before.before.if1.false) c.before.enum-told5.given.1 (not-false _ c.if2.false)
+    turn_fine a.first a.second a.pairs a.narrow a.enough c.before.before.before.before.before.before.enum_told.given.1 c.before.before.before.before.enum-told3.given.1 (not-false _ c.before.before.before.if1.false) c.before.enum-told5.given.1 (not-false _ c.if2.false)
 
 pub in-turn-spec : {M : Type 1} → statement M
 in-turn-spec =

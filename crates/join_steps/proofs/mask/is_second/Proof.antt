@@ -4,7 +4,7 @@ use Prim.Native.Nat.{◌≤◌, ◌-◌}
 use native.Mathlib.Omega.{arith}
 use lib.ListN.{length}
 use Rattle.pairs.proofs.ListFacts.{length_made}
-use Rattle.join_steps.proofs.MaskFacts.{later, second_end, second-here, second-later}
+use Rattle.join_steps.proofs.MaskFacts.{later, second_end, second_here, second_later}
 use borrow.Author.Rules.{rules}
 use Rattle.join_steps.proofs.mask.is_second.Statement.{statement}
 use Rattle.join_steps.proofs.mask.is_second.Tie as tie
@@ -35,7 +35,7 @@ array-copy-out-p c = search rules
 returns : tie.Need-returns invariant-loop decreases-loop
 returns c =
     let l = c.before.before.before.before.before.loop in
-    sym (second-here _ _ _ _ c.before.before.before.if1.true l.invariant.2 c.if2.true) ∙ l.invariant.1
+    sym (second_here _ _ _ _ c.before.before.before.if1.true l.invariant.2 c.if2.true) ∙ l.invariant.1
 
 add-i : tie.Need-overflow-add-i invariant-loop decreases-loop
 add-i c = search rules
@@ -46,7 +46,7 @@ loop-less c = search rules
 loop-again : tie.Need-loop-preserved invariant-loop decreases-loop
 loop-again c =
     let l = c.before.before.before.before.before.loop in
-    (search rules, second-later _ _ _ _ c.before.before.before.if1.true l.invariant.2 c.if2.false ∙ l.invariant.1, l.invariant.2)
+    (search rules, second_later _ _ _ _ c.before.before.before.if1.true l.invariant.2 c.if2.false ∙ l.invariant.1, l.invariant.2)
 
 returns-2 : tie.Need-returns-2 invariant-loop decreases-loop
 returns-2 c = let l = c.before.before.loop in sym (second_end _ _ _ _ c.if1.false) ∙ l.invariant.1

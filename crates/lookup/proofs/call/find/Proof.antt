@@ -1,7 +1,7 @@
 -- `lookup::call::find` meets its contract. Assumes nothing.
 use Rattle.table.specs.Answers.{lent}
-use Rattle.lookup.proofs.JudgeFacts.{called-short}
-use Rattle.lookup.proofs.CallFacts.{call_refused, work-short, work-enough, work-done}
+use Rattle.lookup.proofs.JudgeFacts.{called_short}
+use Rattle.lookup.proofs.CallFacts.{call_refused, work_short, work_enough, work_done}
 use borrow.Author.Rules.{rules}
 use Rattle.lookup.proofs.call.find.Statement.{statement}
 use Rattle.lookup.proofs.call.find.Tie as tie
@@ -34,7 +34,7 @@ returns c =
 cell-count-requires : tie.Need-cell-count-requires
 cell-count-requires c κs =
     let s = c.before.before.before.before.before.before.before.before in
-    called-short (lent s.args.counts s.args.states.now s.args.arcs.now) _ _ (c.before.before.before.judge-call.ensures.called c.before.enum_told.given.1)
+    called_short (lent s.args.counts s.args.states.now s.args.arcs.now) _ _ (c.before.before.before.judge-call.ensures.called c.before.enum_told.given.1)
 
 mul-if1 : tie.Need-overflow-mul-if1
 mul-if1 c = search rules
@@ -42,12 +42,12 @@ mul-if1 c = search rules
 returns-2 : tie.Need-returns-2
 returns-2 c =
     let s = c.before.before.before.before.before.before.before.before.before.before in
-    work-short (lent s.args.counts s.args.states.now s.args.arcs.now) _ _ _ (c.before.before.before.before.before.judge-call.ensures.called c.before.before.before.enum_told.given.1) _ c.before.cell-count.ensures.0 c.if1.true
+    work_short (lent s.args.counts s.args.states.now s.args.arcs.now) _ _ _ (c.before.before.before.before.before.judge-call.ensures.called c.before.before.before.enum_told.given.1) _ c.before.cell-count.ensures.0 c.if1.true
 
 least-weight-requires : tie.Need-least-weight-requires
 least-weight-requires c κs =
     let s = c.before.before.before.before.before.before.before.before.before.before.before in
-    work-enough (lent s.args.counts s.args.states.now s.args.arcs.now) _ s.args.work.now _ (c.before.before.before.before.before.before.judge-call.ensures.called c.before.before.before.before.enum_told.given.1) _ c.before.before.cell-count.ensures.0 c.before.if1.false
+    work_enough (lent s.args.counts s.args.states.now s.args.arcs.now) _ s.args.work.now _ (c.before.before.before.before.before.before.judge-call.ensures.called c.before.before.before.before.enum_told.given.1) _ c.before.before.cell-count.ensures.0 c.before.if1.false
 
 answer-of-requires : tie.Need-answer-of-requires
 answer-of-requires c κs = search rules
@@ -58,7 +58,7 @@ same_length c = search rules
 returns-3 : tie.Need-returns-3
 returns-3 c =
     let s = c.before.before.before.before.before.before.before.before.before.before.before.before.before.before.before in
-    work-done (lent s.args.counts s.args.states.now s.args.arcs.now) _ _ _ (c.before.before.before.before.before.before.before.before.before.before.judge-call.ensures.called c.before.before.before.before.before.before.before.before.enum_told.given.1) _ c.before.before.before.before.before.before.cell-count.ensures.0 c.before.before.before.before.before.if1.false _ _ c.before.before.before.least-weight.ensures c.answer-of.ensures
+    work_done (lent s.args.counts s.args.states.now s.args.arcs.now) _ _ _ (c.before.before.before.before.before.before.before.before.before.before.judge-call.ensures.called c.before.before.before.before.before.before.before.before.enum_told.given.1) _ c.before.before.before.before.before.before.cell-count.ensures.0 c.before.before.before.before.before.if1.false _ _ c.before.before.before.least-weight.ensures c.answer-of.ensures
 
 pub find_spec : {M : Type 1} → statement M
 find_spec =

@@ -1,5 +1,5 @@
 -- `lookup_cells::ends::start_states` meets its contract. Assumes nothing.
-use Rattle.lookup_cells.proofs.EndFacts.{state-room, Starting, start_first, start-turn, start-end}
+use Rattle.lookup_cells.proofs.EndFacts.{state-room, Starting, start_first, start_turn, start_end}
 use Prim.Native.Nat.{◌-◌}
 use native.Mathlib.Omega.{arith}
 use borrow.Author.Rules.{rules}
@@ -34,13 +34,13 @@ loop-less : tie.Need-loop-smaller invariant-loop decreases-loop
 loop-less c = search rules
 
 loop-again : tie.Need-loop-preserved invariant-loop decreases-loop
-loop-again c = let l = c.before.before.before.before.before.loop in start-turn _ _ _ _ _ l.left (l.left - 1) _ l.invariant _ (omega (arith, c.before.before.before.before.loop-test.true)) c.before.before.start-state.ensures
+loop-again c = let l = c.before.before.before.before.before.loop in start_turn _ _ _ _ _ l.left (l.left - 1) _ l.invariant _ (omega (arith, c.before.before.before.before.loop-test.true)) c.before.before.start-state.ensures
 
 same_length : tie.Need-same-length invariant-loop decreases-loop
 same_length c = c.before.loop.invariant.same_length
 
 returns : tie.Need-returns invariant-loop decreases-loop
-returns c = let l = c.before.loop in start-end _ _ _ _ _ l.left l.left _ l.invariant (omega (arith, c.loop-test.false))
+returns c = let l = c.before.loop in start_end _ _ _ _ _ l.left l.left _ l.invariant (omega (arith, c.loop-test.false))
 
 pub start-states-spec : {M : Type 1} → statement M
 start-states-spec =

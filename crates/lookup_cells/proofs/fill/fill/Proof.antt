@@ -1,5 +1,5 @@
 -- `lookup_cells::fill::fill` meets its contract. Assumes nothing.
-use Rattle.lookup_cells.proofs.FillFacts.{Filling, spot_number, fillable_kept, placed, stated, positive, fill_start, fill-requires, fill-turn, fill_end}
+use Rattle.lookup_cells.proofs.FillFacts.{Filling, spot_number, fillable_kept, placed, stated, positive, fill_start, fill_requires, fill_turn, fill_end}
 use Rattle.lookup_cells.proofs.RecallFacts.{fresh_below}
 use Rattle.lookup_cells.specs.Recall.{Fresh}
 use Prim.Native.Nat.{◌-◌, ◌<◌}
@@ -69,7 +69,7 @@ settle-requires c κs =
     let f = fillable_kept _ _ _ _ _ n s.requires.0 in
     let l = c.before.before.before.before.before.loop in
     let k = c.before.before.before.before.loop-test.true in
-    let r = fill-requires _ _ _ _ _ _ f _ l.left (l.left - 1) _ l.invariant.0 (omega (arith, k)) _ c.before.before.before.spot-at.ensures in
+    let r = fill_requires _ _ _ _ _ _ f _ l.left (l.left - 1) _ l.invariant.0 (omega (arith, k)) _ c.before.before.before.spot-at.ensures in
     let m = spot_number _ _ _ _ c.before.before.before.spot-at.ensures in
     (r.0, r.1, marking_kept _ _ _ _ _ l.invariant.1 s.requires.1, s.requires.2, fresh_below l.left _ _ (omega (arith, m, k)) l.invariant.2)
 
@@ -85,7 +85,7 @@ loop-again c =
     let k = c.before.before.before.before.before.before.before.before.before.before.before.loop-test.true in
     let m = spot_number _ _ _ _ c.before.before.before.before.before.before.before.before.before.before.spot-at.ensures in
     let t = c.before.before.before.before.before.before.settle.ensures in (
-      fill-turn _ _ _ _ _ _ f _ l.left (l.left - 1) _ l.invariant.0 (omega (arith, k)) _ c.before.before.before.before.before.before.before.before.before.before.spot-at.ensures _ t.0,
+      fill_turn _ _ _ _ _ _ f _ l.left (l.left - 1) _ l.invariant.0 (omega (arith, k)) _ c.before.before.before.before.before.before.before.before.before.before.spot-at.ensures _ t.0,
       t.1,
       fresh_below _ (l.left - 1) _ (omega (arith, m)) t.2,
     )

@@ -1,7 +1,7 @@
 -- `lookup_cells::fill::least_weight` meets its contract. Assumes nothing.
 use Prim.Native.Nat.{◌<◌}
 use lib.ListN.{length}
-use Rattle.lookup_cells.proofs.FillFacts.{placed, weight-requires, weight_is}
+use Rattle.lookup_cells.proofs.FillFacts.{placed, weight_requires, weight_is}
 use borrow.Author.Rules.{rules}
 use Rattle.lookup_cells.proofs.fill.least_weight.Statement.{statement}
 use Rattle.lookup_cells.proofs.fill.least_weight.Tie as tie
@@ -20,7 +20,7 @@ spans-of-requires c κs =
     let k : length s.args.text.now < 18446744073709551616 = search rules in placed _ _ _ _ _ _ s.requires k
 
 least-from-requires : tie.Need-least-from-requires
-least-from-requires c κs = weight-requires _ _ _ _ _ _ c.before.before.before.before.before.before.before.before.before.before.requires _ c.before.spans-of.ensures _ c.before.before.before.before.fill-cells.auto.1.1.1.1.1.0 c.before.before.before.before.fill-cells.ensures
+least-from-requires c κs = weight_requires _ _ _ _ _ _ c.before.before.before.before.before.before.before.before.before.before.requires _ c.before.spans-of.ensures _ c.before.before.before.before.fill-cells.auto.1.1.1.1.1.0 c.before.before.before.before.fill-cells.ensures
 
 same_length : tie.Need-same-length
 same_length c = search rules

@@ -1,5 +1,5 @@
 -- `lookup_cells::push::enqueue_reached` meets its contract. Assumes nothing.
-use Rattle.lookup_cells.proofs.PushFacts.{cell_fits, Reaching, reaching-start, reaching-skip, reaching-take, reaching_end}
+use Rattle.lookup_cells.proofs.PushFacts.{cell_fits, Reaching, reaching-start, reaching_skip, reaching_take, reaching_end}
 use Prim.Native.Nat.{◌-◌}
 use native.Mathlib.Omega.{arith}
 use borrow.Author.Rules.{rules}
@@ -40,7 +40,7 @@ loop-less c = search rules
 
 loop-again : tie.Need-loop-preserved invariant-loop decreases-loop
 loop-again c =
-    reaching-skip _ _ _ _ _ _ c.before.before.before.before.loop.invariant c.before.before.before.loop-test.true _ _ c.before.before.cell-number.ensures c.before.weight-at.ensures c.if1.true
+    reaching_skip _ _ _ _ _ _ c.before.before.before.before.loop.invariant c.before.before.before.loop-test.true _ _ c.before.before.cell-number.ensures c.before.weight-at.ensures c.if1.true
 
 enqueue-requires : tie.Need-enqueue-requires invariant-loop decreases-loop
 enqueue-requires c κs =
@@ -56,7 +56,7 @@ loop-again-2 c =
     let s = c.before.before.before.before.before.before.before.before.before.before.before in
     let l = c.before.before.before.before.before.before.before.before.loop in
     let k = c.before.before.before.before.before.before.before.loop-test.true in
-    reaching-take _ _ _ _ _ _ l.invariant k _ s.requires.0 c.before.before.enqueue.ensures
+    reaching_take _ _ _ _ _ _ l.invariant k _ s.requires.0 c.before.before.enqueue.ensures
 
 same_length : tie.Need-same-length invariant-loop decreases-loop
 same_length c = c.before.loop.invariant.same_queue

@@ -1,5 +1,5 @@
 -- `lookup_cells::push::push_state` meets its contract. Assumes nothing.
-use Rattle.lookup_cells.proofs.PushFacts.{Chaining, chaining-start, chaining-turn, chaining-end, spaced_kept}
+use Rattle.lookup_cells.proofs.PushFacts.{Chaining, chaining_start, chaining_turn, chaining_end, spaced_kept}
 use Rattle.lookup_moves.specs.Moves.{spot_with}
 use Rattle.lookup_cells.specs.Recall.{Knows}
 use Prim.Native.Nat.{◌-◌, ◌<◌}
@@ -32,7 +32,7 @@ entry-requires c κs = search rules
 
 loop-holds : tie.Need-loop-init invariant-loop decreases-loop
 loop-holds c =
-    let s = c.before.before.before.before.before.before.before.before.before.before.before.before in (chaining-start _ _ _ _ _ s.requires.3.chained _ s.requires.0 _ _ _ s.requires.3.lined c.entry.ensures, s.requires.4)
+    let s = c.before.before.before.before.before.before.before.before.before.before.before.before in (chaining_start _ _ _ _ _ s.requires.3.chained _ s.requires.0 _ _ _ s.requires.3.lined c.entry.ensures, s.requires.4)
 
 push-arc-requires : tie.Need-push-arc-requires invariant-loop decreases-loop
 push-arc-requires c κs =
@@ -70,7 +70,7 @@ loop-again c =
     let s = c.before.before.before.before.before.before.before.before.before.before.before.before.before.before.before.before.before.before.before.before.before.before.before.before.before.before.before in
     let l = c.before.before.before.before.before.before.before.before.before.before.before.before.before.before.loop in
     let p = c.before.before.before.before.before.before.before.before.push-arc.ensures in
-    (chaining-turn _ _ _ _ _ s.requires.3.chained _ s.requires.0 _ _ _ _ _ l.invariant.0 _ _ _ c.before.before.before.before.before.before.before.before.before.before.before.before.if1.true c.entry2.ensures p.0, p.1)
+    (chaining_turn _ _ _ _ _ s.requires.3.chained _ s.requires.0 _ _ _ _ _ l.invariant.0 _ _ _ c.before.before.before.before.before.before.before.before.before.before.before.before.if1.true c.entry2.ensures p.0, p.1)
 
 same_length : tie.Need-same-length invariant-loop decreases-loop
 same_length c = c.before.before.loop.invariant.1.recalls.fresh.size_is ∙ sym c.before.before.before.before.before.before.before.before.before.before.before.before.before.before.before.requires.4.recalls.fresh.size_is
@@ -85,7 +85,7 @@ returns : tie.Need-returns invariant-loop decreases-loop
 returns c =
     let s = c.before.before.before.before.before.before.before.before.before.before.before.before.before.before.before in
     let l = c.before.before.loop in
-    (chaining-end _ _ _ _ _ s.requires.3.chained _ s.requires.0 _ _ _ _ _ l.invariant.0 (omega (arith, c.if1.false)), l.invariant.1)
+    (chaining_end _ _ _ _ _ s.requires.3.chained _ s.requires.0 _ _ _ _ _ l.invariant.0 (omega (arith, c.if1.false)), l.invariant.1)
 
 pub push-state-spec : {M : Type 1} → statement M
 push-state-spec =

@@ -2,7 +2,7 @@
 use Rattle.lookup_moves.specs.Moves.{spot_with}
 use Rattle.lookup_moves.specs.Distances.{cells_of}
 use Rattle.lookup_cells.specs.Pushes.{to_do}
-use Rattle.lookup_cells.proofs.PushFacts.{Settling, settling-start, settling-turn, settling-less, settling-end, spaced_kept, marking_kept}
+use Rattle.lookup_cells.proofs.PushFacts.{Settling, settling_start, settling_turn, settling_less, settling_end, spaced_kept, marking_kept}
 use Rattle.lookup_cells.specs.Recall.{Knows}
 use mathlib.Core.Path.{sym, ◌∙◌}
 use native.Mathlib.Omega.{arith}
@@ -23,7 +23,7 @@ decreases-loop counts arcs text starts positions spans number all numbers memo�
 
 loop-holds : tie.Need-loop-init invariant-loop decreases-loop
 loop-holds c =
-    let s = c.before.before.before.before.before.before.before.before.before.before in (settling-start _ _ _ _ _ _ s.requires.2.lined s.requires.3, s.requires.4)
+    let s = c.before.before.before.before.before.before.before.before.before.before in (settling_start _ _ _ _ _ _ s.requires.2.lined s.requires.3, s.requires.4)
 
 slice-read-if1 : tie.Need-slice-read-if1 invariant-loop decreases-loop
 slice-read-if1 c = omega (arith, c.before.loop.invariant.0.lined.size_is)
@@ -41,7 +41,7 @@ returns : tie.Need-returns invariant-loop decreases-loop
 returns c =
     let s = c.before.before.before.before.before.before.before.before.before.before.before.before.before in
     let l = c.before.before.loop in
-    (settling-end _ _ _ _ _ _ _ _ l.invariant.0 s.requires.0 c.if1.true, l.invariant.0.lined, l.invariant.1)
+    (settling_end _ _ _ _ _ _ _ _ l.invariant.0 s.requires.0 c.if1.true, l.invariant.0.lined, l.invariant.1)
 
 dequeue-requires : tie.Need-dequeue-requires invariant-loop decreases-loop
 dequeue-requires c κs = (c.before.before.before.loop.invariant.0.lined, omega (arith, c.before.if1.false))
@@ -61,13 +61,13 @@ push-state-requires c κs =
 loop-less : tie.Need-loop-smaller invariant-loop decreases-loop
 loop-less c =
     let s = c.before.before.before.before.before.before.before.before.before.before.before.before.before.before.before.before.before.before.before.before.before.before.before.before.before.before.before in
-    settling-less _ _ _ _ _ _ _ _ c.before.before.before.before.before.before.before.before.before.before.before.before.before.before.before.before.loop.invariant.0 s.requires.0 _ _ _ _ c.before.before.before.before.before.before.before.before.before.before.before.before.dequeue.ensures c.before.before.before.before.before.before.push-state.ensures.0
+    settling_less _ _ _ _ _ _ _ _ c.before.before.before.before.before.before.before.before.before.before.before.before.before.before.before.before.loop.invariant.0 s.requires.0 _ _ _ _ c.before.before.before.before.before.before.before.before.before.before.before.before.dequeue.ensures c.before.before.before.before.before.before.push-state.ensures.0
 
 loop-again : tie.Need-loop-preserved invariant-loop decreases-loop
 loop-again c =
     let s = c.before.before.before.before.before.before.before.before.before.before.before.before.before.before.before.before.before.before.before.before.before.before.before.before.before.before.before in
     let p = c.before.before.before.before.before.before.push-state.ensures in
-    (settling-turn _ _ _ _ _ _ _ _ c.before.before.before.before.before.before.before.before.before.before.before.before.before.before.before.before.loop.invariant.0 s.requires.0 _ _ _ _ c.before.before.before.before.before.before.before.before.before.before.before.before.dequeue.ensures p.0, p.1)
+    (settling_turn _ _ _ _ _ _ _ _ c.before.before.before.before.before.before.before.before.before.before.before.before.before.before.before.before.loop.invariant.0 s.requires.0 _ _ _ _ c.before.before.before.before.before.before.before.before.before.before.before.before.dequeue.ensures p.0, p.1)
 
 pub push-waiting-spec : {M : Type 1} → statement M
 push-waiting-spec =

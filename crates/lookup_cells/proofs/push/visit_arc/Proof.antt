@@ -1,5 +1,5 @@
 -- `lookup_cells::push::visit_arc` meets its contract. Assumes nothing.
-use Rattle.lookup_cells.proofs.PushFacts.{visits_stuck, visits-back, visits-here, cell_fits, cell_fits_back}
+use Rattle.lookup_cells.proofs.PushFacts.{visits_stuck, visits_back, visits_here, cell_fits, cell_fits_back}
 use Rattle.lookup_moves.proofs.MoveFacts.{laid_any}
 use Rattle.lookup_cells.proofs.RecallFacts.{leads-none, leads_some}
 use Prim.Native.Nat.{◌≤◌, ◌<◌}
@@ -109,7 +109,7 @@ returns-2 c =
     let a : s.args.all < 18446744073709551616 = search rules in
     let t : c.before.before.before.before.before.before.before.before.before.before.before.before.before.before.before.before.before.recall.result ≤ s.args.number = omega (arith, c.before.before.before.before.before.before.before.before.before.before.before.before.before.before.if1.false) in
     let k = leads_some _ _ _ _ _ _ _ _ s.args.all _ r.0 t (omega (arith, a, s.requires.2.number_is)) in (
-      visits-back _ _ _ _ _ _ _ _ _ _ _ _ _ _ _ k c.before.before.before.before.before.before.before.before.before.before.before.before.before.source-at.ensures c.before.before.before.before.before.before.before.before.before.before.before.cell-number.ensures
+      visits_back _ _ _ _ _ _ _ _ _ _ _ _ _ _ _ k c.before.before.before.before.before.before.before.before.before.before.before.before.before.source-at.ensures c.before.before.before.before.before.before.before.before.before.before.before.cell-number.ensures
           c.before.before.before.before.before.before.before.before.before.before.target_at.ensures c.before.before.before.before.before.before.before.before.cell-number2.ensures c.before.before.before.before.before.before.before.arc-weight-at.ensures c.before.before.before.before.before.weight-at.ensures c.before.before.before.lower.ensures c.if2.true t s.requires.2.number_is,
       r.1,
     )
@@ -127,7 +127,7 @@ returns-3 c =
     let a : s.args.all < 18446744073709551616 = search rules in
     let t : c.before.before.before.before.before.before.before.before.before.before.before.before.before.before.before.before.before.recall.result ≤ s.args.number = omega (arith, c.before.before.before.before.before.before.before.before.before.before.before.before.before.before.if1.false) in
     let k = leads_some _ _ _ _ _ _ _ _ s.args.all _ r.0 t (omega (arith, a, s.requires.2.number_is)) in (
-      visits-here _ _ _ _ _ _ _ _ _ _ _ _ _ _ _ k c.before.before.before.before.before.before.before.before.before.before.before.before.before.source-at.ensures c.before.before.before.before.before.before.before.before.before.before.before.cell-number.ensures
+      visits_here _ _ _ _ _ _ _ _ _ _ _ _ _ _ _ k c.before.before.before.before.before.before.before.before.before.before.before.before.before.source-at.ensures c.before.before.before.before.before.before.before.before.before.before.before.cell-number.ensures
           c.before.before.before.before.before.before.before.before.before.before.target_at.ensures c.before.before.before.before.before.before.before.before.cell-number2.ensures c.before.before.before.before.before.before.before.arc-weight-at.ensures c.before.before.before.before.before.weight-at.ensures c.before.before.before.lower.ensures (omega (arith, c.if2.false)) s.requires.2.number_is,
       r.1,
     )

@@ -1,5 +1,5 @@
 -- `lookup_cells::queue::enqueue` meets its contract. Assumes nothing.
-use Rattle.lookup_cells.proofs.QueueFacts.{queue-room, enqueues_none, enqueues-appended}
+use Rattle.lookup_cells.proofs.QueueFacts.{queue_room, enqueues_none, enqueues_appended}
 use lib.ListN.{length-set}
 use native.Mathlib.Omega.{arith}
 use borrow.Author.Rules.{rules}
@@ -33,7 +33,7 @@ entry-requires-2 c κs = search rules
 add-place : tie.Need-overflow-add-place
 add-place c =
     let s = c.before.before.before.before.before.before.before in
-    let r = queue-room _ _ s.requires.1 s.requires.0 c.before.before.before.before.if1.false in
+    let r = queue_room _ _ s.requires.1 s.requires.0 c.before.before.before.before.if1.false in
     omega (arith, r, s.requires.1.begins, c.entry2.ensures, c.before.before.entry.ensures)
 
 cast-queue : tie.Need-overflow-cast-queue
@@ -58,13 +58,13 @@ slice-write-queue-2 c =
 add-queue-2 : tie.Need-overflow-add-queue-2
 add-queue-2 c =
     let s = c.before.before.before.before.before.before.before in
-    let r = queue-room _ _ s.requires.1 s.requires.0 c.before.before.before.before.if1.false in
+    let r = queue_room _ _ s.requires.1 s.requires.0 c.before.before.before.before.if1.false in
     omega (arith, r, c.before.before.entry.ensures)
 
 cast-queue-2 : tie.Need-overflow-cast-queue-2
 cast-queue-2 c =
     let s = c.before.before.before.before.before.before.before in
-    let r = queue-room _ _ s.requires.1 s.requires.0 c.before.before.before.before.if1.false in
+    let r = queue_room _ _ s.requires.1 s.requires.0 c.before.before.before.before.if1.false in
     omega (arith, r, c.before.before.entry.ensures)
 
 slice-write-queue-3 : tie.Need-slice-write-queue-3
@@ -77,7 +77,7 @@ same_length c = search rules
 returns-2 : tie.Need-returns-2
 returns-2 c =
     let s = c.before.before.before.before.before.before.before in
-    enqueues-appended _ _ s.requires.1 s.requires.0 c.before.before.before.before.if1.false _ (rw (c.entry2.ensures, c.before.before.entry.ensures))
+    enqueues_appended _ _ s.requires.1 s.requires.0 c.before.before.before.before.if1.false _ (rw (c.entry2.ensures, c.before.before.entry.ensures))
 
 pub enqueue-spec : {M : Type 1} → statement M
 enqueue-spec =

@@ -1,5 +1,5 @@
 -- `lookup_cells::recall::recall` meets its contract. Assumes nothing.
-use Rattle.lookup_cells.proofs.RecallFacts.{recall_known, recall-kept, back_alike}
+use Rattle.lookup_cells.proofs.RecallFacts.{recall_known, recall_kept, back_alike}
 use mathlib.Core.Path.{refl}
 use Prim.Native.Nat.{◌<◌}
 use lib.ListN.{length-set}
@@ -77,7 +77,7 @@ returns-3 c =
       c.lead-back2.ensures,
       record {
         numbered = s.requires.4.numbered;
-        recalls = recall-kept _ _ _ _ _ s.requires.4.recalls s.args.e _ s.requires.0 own k _ c.lead-back2.ensures
+        recalls = recall_kept _ _ _ _ _ s.requires.4.recalls s.args.e _ s.requires.0 own k _ c.lead-back2.ensures
             (λ f lt same. back_alike _ _ s.args.e f _ _ _ _ _ s.requires.3.few s.requires.2 s.requires.4.numbered s.requires.0 own k lt same);
       },
     )

@@ -1,5 +1,5 @@
 -- `lookup_moves::moves::move_tape` meets its contract. Assumes nothing.
-use Rattle.lookup_moves.proofs.MoveFacts.{move_long, move-differs, move_same}
+use Rattle.lookup_moves.proofs.MoveFacts.{move_long, move_differs, move_same}
 use native.Mathlib.Nat.{mul-le-mul}
 use native.Mathlib.Omega.{arith}
 use borrow.Author.Rules.{rules}
@@ -28,7 +28,7 @@ same-bytes-requires : tie.Need-same-bytes-requires
 same-bytes-requires c κs = search rules
 
 returns-2 : tie.Need-returns-2
-returns-2 c = move-differs _ _ _ _ _ _ (omega (arith, c.before.before.if1.false)) _ c.before.same_bytes.ensures c.if2.true
+returns-2 c = move_differs _ _ _ _ _ _ (omega (arith, c.before.before.if1.false)) _ c.before.same_bytes.ensures c.if2.true
 
 mul-t11 : tie.Need-overflow-mul-t11
 mul-t11 c =

@@ -1,6 +1,6 @@
 -- `lookup_tuple::judge::judge_tuple` meets its contract. Assumes nothing.
 use mathlib.Core.Path.{sym, ap, ◌∙◌}
-use Rattle.table.specs.Answers.{judgedAs}
+use Rattle.table.specs.Answers.{judged_as}
 use Rattle.lookup_tuple.proofs.JudgementFacts.{judged_placeable, tuple-refused, tuple-wide, tuple-placed}
 use borrow.Author.Rules.{rules}
 use Rattle.lookup_tuple.proofs.judge.judge_tuple.Statement.{statement}
@@ -33,7 +33,7 @@ returns-2 : tie.Need-returns-2
 returns-2 c = tuple-wide _ _ _ _ c.before.before.before.before.judge-text.ensures c.before.if1.true
 
 place-requires : tie.Need-place-requires
-place-requires c κs = judged_placeable _ _ c.if1.false (sym (ap judgedAs c.before.enum_told.given.1) ∙ c.before.before.before.judge-text.ensures)
+place-requires c κs = judged_placeable _ _ c.if1.false (sym (ap judged_as c.before.enum_told.given.1) ∙ c.before.before.before.judge-text.ensures)
 
 returns-3 : tie.Need-returns-3
 returns-3 c = tuple-placed _ _ _ _ c.before.before.before.before.judge-text.ensures c.before.before.enum_told.given.1 c.before.if1.false c.place.ensures

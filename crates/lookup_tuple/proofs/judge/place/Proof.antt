@@ -8,7 +8,7 @@ use Rattle.automata.specs.Automaton.{Tuple}
 use Rattle.automata.specs.Calls.Lookup.{lines}
 use Rattle.lookup_tuple.specs.Lines.{lines_at}
 use Rattle.lookup_tuple.proofs.LineFacts.{lines_at_lem}
-use Rattle.lookup_tuple.proofs.PlaceFacts.{PlacedTo, placed-none, next-ends, next-rest, placed-next, placed_stands, same_tuple}
+use Rattle.lookup_tuple.proofs.PlaceFacts.{PlacedTo, placed-none, next-ends, next_rest, placed-next, placed_stands, same_tuple}
 use borrow.Author.Rules.{rules}
 use Rattle.lookup_tuple.proofs.judge.place.Statement.{statement}
 use Rattle.lookup_tuple.proofs.judge.place.Tie as tie
@@ -71,7 +71,7 @@ loop-again c =
       λ t q.
           let w = l.invariant.2 t q in
           let k : l.i < length t = omega (arith, same_tuple _ t p.tuple q p.lines_are, p.count_is, c.before.loop-test.true) in
-          (next-rest _ t l.i l.at k w.0 _ e, placed-next _ t l.i l.at k w.0 _ e _ _ (omega (arith, p.few, c.before.loop-test.true)) w.1),
+          (next_rest _ t l.i l.at k w.0 _ e, placed-next _ t l.i l.at k w.0 _ e _ _ (omega (arith, p.few, c.before.loop-test.true)) w.1),
     )
 
 returns : tie.Need-returns invariant-loop decreases-loop

@@ -10,7 +10,7 @@ use Rattle.automata.specs.Answer.{forget, ok}
 use Rattle.automata.specs.Calls.Lookup.{lines}
 use Rattle.table.specs.Region.{part}
 use Rattle.lookup_tuple.specs.Lines.{lines_at, every}
-use Rattle.lookup_tuple.proofs.LineFacts.{lines_at_lem, line_closed, closed-turn, every-start, every-turn, every-stop, every_end}
+use Rattle.lookup_tuple.proofs.LineFacts.{lines_at_lem, line_closed, closed_turn, every-start, every_turn, every-stop, every_end}
 use borrow.Author.Rules.{rules}
 use Rattle.lookup_tuple.proofs.line.symbols_fit.Statement.{statement}
 use Rattle.lookup_tuple.proofs.line.symbols_fit.Tie as tie
@@ -71,7 +71,7 @@ loop-again c =
     let l = c.before.before.before.before.before.loop in
     let e = c.before.before.before.line-end.ensures in
     let n = line_closed _ l.at _ e c.before.before.before.before.loop-test.true l.invariant.1 in
-    (omega (arith, n), closed-turn _ l.at _ e c.before.before.before.before.loop-test.true l.invariant.1, every-turn _ l.at _ e c.before.before.before.before.loop-test.true l.invariant.1 (λ s. all is_symbol s) (sym c.before.all_symbols.ensures ∙ not-false _ c.if1.false) ∙ l.invariant.2)
+    (omega (arith, n), closed_turn _ l.at _ e c.before.before.before.before.loop-test.true l.invariant.1, every_turn _ l.at _ e c.before.before.before.before.loop-test.true l.invariant.1 (λ s. all is_symbol s) (sym c.before.all_symbols.ensures ∙ not-false _ c.if1.false) ∙ l.invariant.2)
 
 returns-2 : tie.Need-returns-2 invariant-loop decreases-loop
 returns-2 c = let l = c.before.loop in every_end _ l.at (λ s. all is_symbol s) c.loop-test.false ∙ l.invariant.2

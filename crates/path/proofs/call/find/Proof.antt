@@ -1,7 +1,7 @@
 -- `path::call::find` meets its contract. Assumes nothing.
 use Rattle.table.specs.Answers.{lent}
-use Rattle.lookup.proofs.JudgeFacts.{called-short}
-use Rattle.path.proofs.CallFacts.{call_refused, space-short, space-enough, path-found}
+use Rattle.lookup.proofs.JudgeFacts.{called_short}
+use Rattle.path.proofs.CallFacts.{call_refused, space-short, space-enough, path_found}
 use borrow.Author.Rules.{rules}
 use Rattle.path.proofs.call.find.Statement.{statement}
 use Rattle.path.proofs.call.find.Tie as tie
@@ -34,7 +34,7 @@ returns c =
 cell-count-requires : tie.Need-cell-count-requires
 cell-count-requires c κs =
     let s = c.before.before.before.before.before.before.before.before.before in
-    called-short (lent s.args.counts s.args.states.now s.args.arcs.now) _ _ (c.before.before.before.judge-call.ensures.called c.before.enum_told.given.1)
+    called_short (lent s.args.counts s.args.states.now s.args.arcs.now) _ _ (c.before.before.before.judge-call.ensures.called c.before.enum_told.given.1)
 
 has-space-requires : tie.Need-has-space-requires
 has-space-requires c κs = search rules
@@ -58,7 +58,7 @@ same-length-2 c = search rules
 returns-3 : tie.Need-returns-3
 returns-3 c =
     let s = c.before.before.before.before.before.before.before.before.before.before.before.before.before.before.before.before.before.before.before in
-    path-found (lent s.args.counts s.args.states.now s.args.arcs.now) _ _ _ _ _ (c.before.before.before.before.before.before.before.before.before.before.before.before.before.judge-call.ensures.called c.before.before.before.before.before.before.before.before.before.before.before.enum_told.given.1) _ c.before.before.before.before.before.before.before.before.before.cell-count.ensures.0 _ c.before.before.before.before.before.before.before.before.has-space.ensures c.before.before.before.before.before.before.before.if1.false _ _ c.before.before.before.before.find-path.ensures
+    path_found (lent s.args.counts s.args.states.now s.args.arcs.now) _ _ _ _ _ (c.before.before.before.before.before.before.before.before.before.before.before.before.before.judge-call.ensures.called c.before.before.before.before.before.before.before.before.before.before.before.enum_told.given.1) _ c.before.before.before.before.before.before.before.before.before.cell-count.ensures.0 _ c.before.before.before.before.before.before.before.before.has-space.ensures c.before.before.before.before.before.before.before.if1.false _ _ c.before.before.before.before.find-path.ensures
 
 pub find_spec : {M : Type 1} → statement M
 find_spec =

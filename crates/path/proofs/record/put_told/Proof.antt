@@ -1,6 +1,6 @@
 -- `path::record::put_told` meets its contract. Assumes nothing.
 use Rattle.path.proofs.RecordFacts.{told_stored}
-use Rattle.path_search.specs.Answers.{toldAs}
+use Rattle.path_search.specs.Answers.{told_as}
 use borrow.Author.Rules.{rules}
 use Rattle.path.proofs.record.put_told.Statement.{statement}
 use Rattle.path.proofs.record.put_told.Tie as tie
@@ -33,7 +33,7 @@ same_length c = search rules
 returns : tie.Need-returns
 returns c =
     let s = c.before.before.before.before.before.before.before.before.before.before.before.before.before.before.before.before.before.before.before in
-    told_stored (toldAs s.args.told) _ _ _ _ _ s.requires.1 c.before.before.before.before.before.before.before.before.before.before.before.before.before.before.before.before.put64.ensures c.before.before.before.before.before.before.before.before.before.before.before.before.put642.ensures c.before.before.before.before.before.before.before.put32.ensures c.before.before.put322.ensures
+    told_stored (told_as s.args.told) _ _ _ _ _ s.requires.1 c.before.before.before.before.before.before.before.before.before.before.before.before.before.before.before.before.put64.ensures c.before.before.before.before.before.before.before.before.before.before.before.before.put642.ensures c.before.before.before.before.before.before.before.put32.ensures c.before.before.put322.ensures
 
 pub put-told-spec : {M : Type 1} → statement M
 put-told-spec =

@@ -1,5 +1,5 @@
 -- `path_search::enter::enter_cell` meets its contract. Assumes nothing.
-use Rattle.path_search.proofs.EnterCellFacts.{mark-room, order-room, stays-found, is_found}
+use Rattle.path_search.proofs.EnterCellFacts.{mark-room, order_room, stays_found, is_found}
 use Prim.Native.Nat.{◌<◌}
 use mathlib.Core.Path.{refl, ◌∙◌}
 use lib.ListN.{length}
@@ -27,7 +27,7 @@ same_length c = search rules
 returns : tie.Need-returns
 returns c =
     let s = c.before.before.before.before in
-    (stays-found _ _ _ _ s.requires.0 s.requires.1 _ c.before.weight-at.ensures _ c.if1.true, refl)
+    (stays_found _ _ _ _ s.requires.0 s.requires.1 _ c.before.weight-at.ensures _ c.if1.true, refl)
 
 add-set-number : tie.Need-overflow-add-set-number
 add-set-number c =
@@ -50,14 +50,14 @@ add-set-number-2 c =
     let z : length s.args.work.now < 18446744073709551616 = omega (arith, s.well_formed) in
     let mark = c.before.before.before.before.before.before.weight-at.ensures in
     let out = c.before.before.before.before.before.if1.false in
-    omega (arith, order-room _ _ _ _ s.requires.0 s.requires.1 _ mark (omega (arith, out)), z)
+    omega (arith, order_room _ _ _ _ s.requires.0 s.requires.1 _ mark (omega (arith, out)), z)
 
 set-number-requires-2 : tie.Need-set-number-requires-2
 set-number-requires-2 c κs =
     let s = c.before.before.before.before.before.before.before.before.before in
     let mark = c.before.before.before.before.before.before.weight-at.ensures in
     let out = c.before.before.before.before.before.if1.false in
-    let room = order-room _ _ _ _ s.requires.0 s.requires.1 _ mark (omega (arith, out)) in
+    let room = order_room _ _ _ _ s.requires.0 s.requires.1 _ mark (omega (arith, out)) in
     omega (arith, room, c.before.before.before.set-number.ensures.1)
 
 add-result : tie.Need-overflow-add-result
@@ -66,7 +66,7 @@ add-result c =
     let z : length s.args.work.now < 18446744073709551616 = omega (arith, s.well_formed) in
     let mark = c.before.before.before.before.before.before.before.before.before.weight-at.ensures in
     let out = c.before.before.before.before.before.before.before.before.if1.false in
-    omega (arith, order-room _ _ _ _ s.requires.0 s.requires.1 _ mark (omega (arith, out)), z)
+    omega (arith, order_room _ _ _ _ s.requires.0 s.requires.1 _ mark (omega (arith, out)), z)
 
 same-length-2 : tie.Need-same-length-2
 same-length-2 c = search rules

@@ -1,5 +1,5 @@
 -- `path_search::follow::follow_arc` meets its contract. Assumes nothing.
-use Rattle.path_search.proofs.FollowArcsFacts.{shift_requires, shift_fits, follow-nowhere, reached-lt, follow-there}
+use Rattle.path_search.proofs.FollowArcsFacts.{shift_requires, shift_fits, follow_nowhere, reached_lt, follow_there}
 use mathlib.Core.Path.{refl}
 use native.Mathlib.Nat.{mod-le}
 use native.Mathlib.Omega.{arith}
@@ -40,7 +40,7 @@ same_length c = search rules
 returns : tie.Need-returns
 returns c =
     let s = c.before.before.before.before.before.before.before.before.before in
-    (follow-nowhere _ _ _ _ _ s.requires.0 _ _ _ s.requires.3 s.requires.5 _ _ c.before.before.before.before.Shift-of.ensures refl _ _ _ c.before.before.tight-to.ensures c.enum_told.given.1, refl)
+    (follow_nowhere _ _ _ _ _ s.requires.0 _ _ _ s.requires.3 s.requires.5 _ _ c.before.before.before.before.Shift-of.ensures refl _ _ _ c.before.before.tight-to.ensures c.enum_told.given.1, refl)
 
 mul-enter-cell : tie.Need-overflow-mul-enter-cell
 mul-enter-cell c =
@@ -49,7 +49,7 @@ mul-enter-cell c =
 enter-cell-requires : tie.Need-enter-cell-requires
 enter-cell-requires c κs =
     let s = c.before.before.before.before.before.before.before.before.before.before.before.before.before in
-    (s.requires.2, reached-lt _ _ _ _ _ s.requires.0 _ _ _ s.requires.3 s.requires.5 _ _ c.before.before.before.before.before.before.before.before.Shift-of.ensures refl _ _ c.before.before.before.before.before.before.tight-to.ensures c.before.before.before.before.step.given.1)
+    (s.requires.2, reached_lt _ _ _ _ _ s.requires.0 _ _ _ s.requires.3 s.requires.5 _ _ c.before.before.before.before.before.before.before.before.Shift-of.ensures refl _ _ c.before.before.before.before.before.before.tight-to.ensures c.before.before.before.before.step.given.1)
 
 same-length-2 : tie.Need-same-length-2
 same-length-2 c = search rules
@@ -58,7 +58,7 @@ returns-2 : tie.Need-returns-2
 returns-2 c =
     let s = c.before.before.before.before.before.before.before.before.before.before.before.before.before.before.before.before in
     let e = c.before.before.enter-cell.ensures in
-    (follow-there _ _ _ _ _ s.requires.0 _ _ _ s.requires.3 s.requires.5 _ _ c.before.before.before.before.before.before.before.before.before.before.before.Shift-of.ensures refl _ _ _ _ _ c.before.before.before.before.before.before.before.before.before.tight-to.ensures c.before.before.before.before.before.before.before.step.given.1 e.0, e.1)
+    (follow_there _ _ _ _ _ s.requires.0 _ _ _ s.requires.3 s.requires.5 _ _ c.before.before.before.before.before.before.before.before.before.before.before.Shift-of.ensures refl _ _ _ _ _ c.before.before.before.before.before.before.before.before.before.tight-to.ensures c.before.before.before.before.before.before.before.step.given.1 e.0, e.1)
 
 pub follow-arc-spec : {M : Type 1} → statement M
 follow-arc-spec =

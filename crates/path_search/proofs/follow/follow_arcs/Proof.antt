@@ -1,5 +1,5 @@
 -- `path_search::follow::follow_arcs` meets its contract. Assumes nothing.
-use Rattle.path_search.proofs.FollowArcsFacts.{Following, following-start, following-turn, following-up, following-end}
+use Rattle.path_search.proofs.FollowArcsFacts.{Following, following_start, following_turn, following_up, following_end}
 use Rattle.path_search.proofs.ReadFacts.{state_lt, weights_kept}
 use Prim.Native.Nat.{◌-◌, ◌/◌}
 use mathlib.Core.Path.{refl}
@@ -39,7 +39,7 @@ cast-e c =
 
 loop-holds : tie.Need-loop-init invariant-loop decreases-loop
 loop-holds c =
-    let s = c.before.before.before.before.before.before.before in following-start _ _ _ _ _ s.requires.0 _ _ _ s.requires.4 _ _ s.requires.3 s.requires.2 _ refl
+    let s = c.before.before.before.before.before.before.before in following_start _ _ _ _ _ s.requires.0 _ _ _ s.requires.4 _ _ s.requires.3 s.requires.2 _ refl
 
 follow-arc-requires : tie.Need-follow-arc-requires invariant-loop decreases-loop
 follow-arc-requires c κs =
@@ -62,14 +62,14 @@ loop-less : tie.Need-loop-smaller invariant-loop decreases-loop
 loop-less c =
     let s = c.before.before.before.before.before.before.before.before.before.before.before.before.before.before.before in
     let l = c.before.before.before.before.before.if1.true in
-    let u = following-up _ _ _ _ _ s.requires.0 _ _ _ s.requires.4 _ _ s.requires.3 _ _ _ c.before.before.before.before.before.before.before.loop.invariant l _ refl in
+    let u = following_up _ _ _ _ _ s.requires.0 _ _ _ s.requires.4 _ _ s.requires.3 _ _ _ c.before.before.before.before.before.before.before.loop.invariant l _ refl in
     omega (arith, u, l)
 
 loop-again : tie.Need-loop-preserved invariant-loop decreases-loop
 loop-again c =
     let s = c.before.before.before.before.before.before.before.before.before.before.before.before.before.before.before in
     let f = c.before.before.before.follow-arc.ensures in
-    following-turn _ _ _ _ _ s.requires.0 _ _ _ s.requires.4 _ _ s.requires.3 _ _ _ c.before.before.before.before.before.before.before.loop.invariant c.before.before.before.before.before.if1.true _ _ _ refl f.0 f.1
+    following_turn _ _ _ _ _ s.requires.0 _ _ _ s.requires.4 _ _ s.requires.3 _ _ _ c.before.before.before.before.before.before.before.loop.invariant c.before.before.before.before.before.if1.true _ _ _ refl f.0 f.1
 
 same_length : tie.Need-same-length invariant-loop decreases-loop
 same_length c = c.before.before.loop.invariant.same_length
@@ -78,7 +78,7 @@ returns : tie.Need-returns invariant-loop decreases-loop
 returns c =
     let s = c.before.before.before.before.before.before.before.before.before.before in
     let i = c.before.before.loop.invariant in
-    (following-end _ _ _ _ _ s.requires.0 _ _ _ s.requires.4 _ _ s.requires.3 _ _ _ i (omega (arith, c.if1.false)), i.same_length)
+    (following_end _ _ _ _ _ s.requires.0 _ _ _ s.requires.4 _ _ s.requires.3 _ _ _ i (omega (arith, c.if1.false)), i.same_length)
 
 pub follow-arcs-spec : {M : Type 1} → statement M
 follow-arcs-spec =

@@ -3,10 +3,10 @@ use mathlib.Core.Path.{sym, ap, ◌∙◌}
 use Prim.Native.Nat.{◌<◌}
 use native.Mathlib.Omega.{arith}
 use lib.ListN.{length}
-use Rattle.lookup_cells.proofs.FillFacts.{placed, weight-requires, weight_is}
-use Rattle.lookup_cells.specs.Answers.{optionAs}
-use Rattle.path_search.specs.Answers.{reachedAs}
-use Rattle.path_search.proofs.PathFacts.{trace_fillable, states_there, searchable, chainable, weights, nothing-found, retraceable, search-finds, can-count-back, can-walk-back, least-traced, nothing-told, least_told}
+use Rattle.lookup_cells.proofs.FillFacts.{placed, weight_requires, weight_is}
+use Rattle.lookup_cells.specs.Answers.{option_as}
+use Rattle.path_search.specs.Answers.{reached_as}
+use Rattle.path_search.proofs.PathFacts.{trace_fillable, states_there, searchable, chainable, weights, nothing_found, retraceable, search_finds, can_count_back, can_walk_back, least_traced, nothing-told, least_told}
 use borrow.Author.Rules.{rules}
 use Rattle.path_search.proofs.path.find_path.Statement.{statement}
 use Rattle.path_search.proofs.path.find_path.Tie as tie
@@ -29,7 +29,7 @@ spans-of-requires c κs =
 least-from-requires : tie.Need-least-from-requires
 least-from-requires c κs =
     let f = c.before.before.before.before.fill-cells in
-    weight-requires _ _ _ _ _ _ (trace_fillable _ _ _ _ _ _ c.before.before.before.before.before.before.before.before.before.before.before.requires) _ c.before.spans-of.ensures _ f.auto.1.1.1.1.1.0 f.ensures
+    weight_requires _ _ _ _ _ _ (trace_fillable _ _ _ _ _ _ c.before.before.before.before.before.before.before.before.before.before.before.requires) _ c.before.spans-of.ensures _ f.auto.1.1.1.1.1.0 f.ensures
 
 enum-known-found : tie.Need-enum-known-found
 enum-known-found c = search rules
@@ -45,7 +45,7 @@ returns c =
     let s = c.before.before.before.before.before.before.before.before.before.before.before.before.before.before in
     let f = c.before.before.before.before.before.before.before.fill-cells in
     let w = weight_is _ _ _ _ _ _ (trace_fillable _ _ _ _ _ _ s.requires) _ c.before.before.before.before.spans-of.ensures _ f.auto.1.1.1.1.1.0 f.ensures _ c.before.before.least-from.ensures in
-    λ t h tapes. nothing-told _ _ _ s.requires.sound t _ (sym (ap optionAs c.enum_told.given.1) ∙ w t h tapes)
+    λ t h tapes. nothing-told _ _ _ s.requires.sound t _ (sym (ap option_as c.enum_told.given.1) ∙ w t h tapes)
 
 search-cells-requires : tie.Need-search-cells-requires
 search-cells-requires c κs =
@@ -57,7 +57,7 @@ search-cells-requires c κs =
       searchable _ _ _ _ _ _ s.requires _ p (placed _ _ _ _ _ _ (trace_fillable _ _ _ _ _ _ s.requires) k),
       chainable _ _ _ _ _ _ s.requires _ p,
       weights _ _ _ _ _ _ s.requires _ p _ f.auto.1.1.1.1.1.0 f.ensures,
-      nothing-found _ _ _ _ _ _ s.requires _ p _ f.auto.1.1.1.1.1.0 f.ensures,
+      nothing_found _ _ _ _ _ _ s.requires _ p _ f.auto.1.1.1.1.1.0 f.ensures,
     )
 
 enum-known-end : tie.Need-enum-known-end
@@ -77,7 +77,7 @@ returns-2 c =
     let w = weight_is _ _ _ _ _ _ (trace_fillable _ _ _ _ _ _ s.requires) _ p _ f.auto.1.1.1.1.1.0 f.ensures _ c.before.before.before.before.before.before.before.before.before.least-from.ensures in
     let g = c.before.before.before.before.before.before.before.found.given.1 in
     let x = c.before.before.before.before.search-cells.ensures.0 in
-    λ t h tapes. absurd (search-finds _ _ _ _ _ _ s.requires _ p _ f.auto.1.1.1.1.1.0 f.ensures _ t h tapes (sym (w t h tapes) ∙ ap optionAs g) _ _ (ap reachedAs c.enum-told2.given.1) x)
+    λ t h tapes. absurd (search_finds _ _ _ _ _ _ s.requires _ p _ f.auto.1.1.1.1.1.0 f.ensures _ t h tapes (sym (w t h tapes) ∙ ap option_as g) _ _ (ap reached_as c.enum-told2.given.1) x)
 
 list-path-requires : tie.Need-list-path-requires
 list-path-requires c κs =
@@ -87,14 +87,14 @@ list-path-requires c κs =
     let w = weight_is _ _ _ _ _ _ (trace_fillable _ _ _ _ _ _ s.requires) _ p _ f.auto.1.1.1.1.1.0 f.ensures _ c.before.before.before.before.before.before.before.before.before.before.before.before.least-from.ensures in
     let g = c.before.before.before.before.before.before.before.before.before.before.found.given.1 in
     let x = c.before.before.before.before.before.before.before.search-cells.ensures.0 in
-    let e = ap reachedAs c.before.before.before.end.given.1 in
-    let weighs = sym (w s.requires.tuple s.requires.stands s.requires.tapes_are) ∙ ap optionAs g in
+    let e = ap reached_as c.before.before.before.end.given.1 in
+    let weighs = sym (w s.requires.tuple s.requires.stands s.requires.tapes_are) ∙ ap option_as g in
     let k : length s.args.work.now < 18446744073709551616 = search rules in
     let l = f.auto.1.1.1.1.1.0 in (
       retraceable _ _ _ _ _ _ s.requires _ p _ l f.ensures (omega (arith, k, l)),
       omega (arith, (weights _ _ _ _ _ _ s.requires _ p _ l f.ensures).room, c.before.before.before.before.before.before.before.search-cells.ensures.1),
-      can-count-back _ _ _ _ _ _ s.requires _ p _ l f.ensures _ s.requires.tuple s.requires.stands s.requires.tapes_are weighs _ _ _ e x,
-      can-walk-back _ _ _ _ _ _ s.requires _ p _ l f.ensures _ s.requires.tuple s.requires.stands s.requires.tapes_are weighs _ _ _ e x,
+      can_count_back _ _ _ _ _ _ s.requires _ p _ l f.ensures _ s.requires.tuple s.requires.stands s.requires.tapes_are weighs _ _ _ e x,
+      can_walk_back _ _ _ _ _ _ s.requires _ p _ l f.ensures _ s.requires.tuple s.requires.stands s.requires.tapes_are weighs _ _ _ e x,
     )
 
 same-length-3 : tie.Need-same-length-3
@@ -111,9 +111,9 @@ returns-3 c =
     let w = weight_is _ _ _ _ _ _ (trace_fillable _ _ _ _ _ _ s.requires) _ p _ f.auto.1.1.1.1.1.0 f.ensures _ c.before.before.before.before.before.before.before.before.before.before.before.before.before.before.before.least-from.ensures in
     let g = c.before.before.before.before.before.before.before.before.before.before.before.before.before.found.given.1 in
     let x = c.before.before.before.before.before.before.before.before.before.before.search-cells.ensures.0 in
-    let e = ap reachedAs c.before.before.before.before.before.before.end.given.1 in
+    let e = ap reached_as c.before.before.before.before.before.before.end.given.1 in
     λ t h tapes. least_told _ s.args.list.now _ _ _ c.before.before.list-path.ensures
-    (least-traced _ _ _ _ _ _ s.requires _ p _ f.auto.1.1.1.1.1.0 f.ensures _ t h tapes (sym (w t h tapes) ∙ ap optionAs g) _ _ _ e x)
+    (least_traced _ _ _ _ _ _ s.requires _ p _ f.auto.1.1.1.1.1.0 f.ensures _ t h tapes (sym (w t h tapes) ∙ ap option_as g) _ _ _ e x)
 
 pub find-path-spec : {M : Type 1} → statement M
 find-path-spec =

@@ -1,5 +1,5 @@
 -- `path_search::search::enter_starts` meets its contract. Assumes nothing.
-use Rattle.path_search.proofs.SearchedFacts.{Starting, starting-first, starting-turn, starting-end}
+use Rattle.path_search.proofs.SearchedFacts.{Starting, starting-first, starting_turn, starting_end}
 use Rattle.path_search.proofs.ReadFacts.{weights_kept}
 use Prim.Native.Nat.{◌-◌}
 use native.Mathlib.Omega.{arith}
@@ -35,14 +35,14 @@ loop-again : tie.Need-loop-preserved invariant-loop decreases-loop
 loop-again c =
     let s = c.before.before.before.before.before.before.before.before in
     let e = c.before.before.enter-start.ensures in
-    starting-turn _ _ _ _ _ _ _ _ c.before.before.before.before.before.loop.invariant s.requires.1 c.before.before.before.before.loop-test.true _ _ e.0 e.1
+    starting_turn _ _ _ _ _ _ _ _ c.before.before.before.before.before.loop.invariant s.requires.1 c.before.before.before.before.loop-test.true _ _ e.0 e.1
 
 same_length : tie.Need-same-length invariant-loop decreases-loop
 same_length c = c.before.loop.invariant.same_length
 
 returns : tie.Need-returns invariant-loop decreases-loop
 returns c =
-    let i = c.before.loop.invariant in (starting-end _ _ _ _ _ _ _ _ i (omega (arith, c.loop-test.false)), i.same_length)
+    let i = c.before.loop.invariant in (starting_end _ _ _ _ _ _ _ _ i (omega (arith, c.loop-test.false)), i.same_length)
 
 pub enter-starts-spec : {M : Type 1} → statement M
 enter-starts-spec =

@@ -1,5 +1,5 @@
 -- `path_search::search::is_end` meets its contract. Assumes nothing.
-use Rattle.path_search.proofs.SearchedFacts.{end_absent, end-early, end-last}
+use Rattle.path_search.proofs.SearchedFacts.{end_absent, end_early, end_last}
 use native.Mathlib.Nat.{mod-lt}
 use native.Mathlib.Omega.{arith}
 use borrow.Author.Rules.{rules}
@@ -36,7 +36,7 @@ add-if1 c =
     let s = c.before.before.before.before.before.before in omega (arith, mod-lt s.args.here s.requires.0, s.well_formed)
 
 returns-2 : tie.Need-returns-2
-returns-2 c = end-early _ _ _ _ _ c.before.before.before.before.load-state.ensures _ c.before.before.last.given.1 c.if1.true
+returns-2 c = end_early _ _ _ _ _ c.before.before.before.before.load-state.ensures _ c.before.before.last.given.1 c.if1.true
 
 cast-result : tie.Need-overflow-cast-result
 cast-result c = search rules
@@ -46,7 +46,7 @@ weight-at-requires c κs = search rules
 
 returns-3 : tie.Need-returns-3
 returns-3 c =
-    end-last _ _ _ _ _ c.before.before.before.before.before.load-state.ensures _ c.before.before.before.last.given.1 _ (omega (arith, c.before.if1.false)) c.weight-at.ensures
+    end_last _ _ _ _ _ c.before.before.before.before.before.load-state.ensures _ c.before.before.before.last.given.1 _ (omega (arith, c.before.if1.false)) c.weight-at.ensures
 
 pub is-end-spec : {M : Type 1} → statement M
 is-end-spec =

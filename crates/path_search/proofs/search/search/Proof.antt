@@ -1,5 +1,5 @@
 -- `path_search::search::search` meets its contract. Assumes nothing.
-use Rattle.path_search.proofs.SearchedFacts.{Searching, searching_start, searching-none, order-room, here_lt, end-requires, searching-found, searching-turn}
+use Rattle.path_search.proofs.SearchedFacts.{Searching, searching_start, searching_none, order_room, here_lt, end_requires, searching_found, searching_turn}
 use Rattle.path_search.proofs.ReadFacts.{weights_kept}
 use Prim.Native.Nat.{◌-◌, ◌*◌}
 use native.Mathlib.Omega.{arith}
@@ -29,23 +29,23 @@ loop-holds c = searching_start _ _ _ _ _ _ _ _ c.before.before.before.before.bef
 mul-weight-at : tie.Need-overflow-mul-weight-at invariant-loop decreases-loop
 mul-weight-at c =
     let s = c.before.before.before.before.before.before.before.before.before.before.before in
-    let r = order-room _ _ _ _ _ _ _ _ _ _ _ c.before.before.loop.invariant s.requires.2 c.before.loop-test.true in
+    let r = order_room _ _ _ _ _ _ _ _ _ _ _ c.before.before.loop.invariant s.requires.2 c.before.loop-test.true in
     omega (arith, r.0, r.1, s.well_formed)
 
 add-weight-at : tie.Need-overflow-add-weight-at invariant-loop decreases-loop
 add-weight-at c =
     let s = c.before.before.before.before.before.before.before.before.before.before.before in
-    let r = order-room _ _ _ _ _ _ _ _ _ _ _ c.before.before.loop.invariant s.requires.2 c.before.loop-test.true in
+    let r = order_room _ _ _ _ _ _ _ _ _ _ _ c.before.before.loop.invariant s.requires.2 c.before.loop-test.true in
     omega (arith, r.0, r.1, s.well_formed)
 
 weight-at-requires : tie.Need-weight-at-requires invariant-loop decreases-loop
 weight-at-requires c κs =
-    let s = c.before.before.before.before.before.before.before.before.before.before.before in (order-room _ _ _ _ _ _ _ _ _ _ _ c.before.before.loop.invariant s.requires.2 c.before.loop-test.true).2
+    let s = c.before.before.before.before.before.before.before.before.before.before.before in (order_room _ _ _ _ _ _ _ _ _ _ _ c.before.before.loop.invariant s.requires.2 c.before.loop-test.true).2
 
 is-end-requires : tie.Need-is-end-requires invariant-loop decreases-loop
 is-end-requires c κs =
     let s = c.before.before.before.before.before.before.before.before.before.before.before.before.before in
-    end-requires _ _ _ _ _ _ _ _ _ _ _ c.before.before.before.before.loop.invariant s.requires.1 c.before.before.before.loop-test.true _ c.before.weight-at.ensures s.requires.0 s.requires.2
+    end_requires _ _ _ _ _ _ _ _ _ _ _ c.before.before.before.before.loop.invariant s.requires.1 c.before.before.before.loop-test.true _ c.before.weight-at.ensures s.requires.0 s.requires.2
 
 same_length : tie.Need-same-length invariant-loop decreases-loop
 same_length c = c.before.before.before.before.before.before.loop.invariant.same_length
@@ -54,7 +54,7 @@ returns : tie.Need-returns invariant-loop decreases-loop
 returns c =
     let s = c.before.before.before.before.before.before.before.before.before.before.before.before.before.before.before in
     let i = c.before.before.before.before.before.before.loop.invariant in
-    (searching-found _ _ _ _ _ _ _ _ _ _ _ i s.requires.1 c.before.before.before.before.before.loop-test.true _ c.before.before.before.weight-at.ensures _ c.before.is-end.ensures c.if1.true, i.same_length)
+    (searching_found _ _ _ _ _ _ _ _ _ _ _ i s.requires.1 c.before.before.before.before.before.loop-test.true _ c.before.before.before.weight-at.ensures _ c.before.is-end.ensures c.if1.true, i.same_length)
 
 follow-arcs-requires : tie.Need-follow-arcs-requires invariant-loop decreases-loop
 follow-arcs-requires c κs =
@@ -66,27 +66,27 @@ follow-arcs-requires c κs =
 add-head : tie.Need-overflow-add-head invariant-loop decreases-loop
 add-head c =
     let s = c.before.before.before.before.before.before.before.before.before.before.before.before.before.before.before.before.before.before.before in
-    let r = order-room _ _ _ _ _ _ _ _ _ _ _ c.before.before.before.before.before.before.before.before.before.before.loop.invariant s.requires.2 c.before.before.before.before.before.before.before.before.before.loop-test.true in
+    let r = order_room _ _ _ _ _ _ _ _ _ _ _ c.before.before.before.before.before.before.before.before.before.before.loop.invariant s.requires.2 c.before.before.before.before.before.before.before.before.before.loop-test.true in
     omega (arith, r.0, r.1, s.well_formed)
 
 loop-less : tie.Need-loop-smaller invariant-loop decreases-loop
 loop-less c =
     let s = c.before.before.before.before.before.before.before.before.before.before.before.before.before.before.before.before.before.before.before in
-    let r = order-room _ _ _ _ _ _ _ _ _ _ _ c.before.before.before.before.before.before.before.before.before.before.loop.invariant s.requires.2 c.before.before.before.before.before.before.before.before.before.loop-test.true in
+    let r = order_room _ _ _ _ _ _ _ _ _ _ _ c.before.before.before.before.before.before.before.before.before.before.loop.invariant s.requires.2 c.before.before.before.before.before.before.before.before.before.loop-test.true in
     omega (arith, r.1)
 
 loop-again : tie.Need-loop-preserved invariant-loop decreases-loop
 loop-again c =
     let s = c.before.before.before.before.before.before.before.before.before.before.before.before.before.before.before.before.before.before.before in
     let f = c.before.before.follow-arcs.ensures in
-    searching-turn _ _ _ _ _ _ _ _ _ _ _ c.before.before.before.before.before.before.before.before.before.before.loop.invariant s.requires.1 c.before.before.before.before.before.before.before.before.before.loop-test.true _ c.before.before.before.before.before.before.before.weight-at.ensures _ c.before.before.before.before.before.is-end.ensures c.before.before.before.before.if1.false _ _ f.0 f.1
+    searching_turn _ _ _ _ _ _ _ _ _ _ _ c.before.before.before.before.before.before.before.before.before.before.loop.invariant s.requires.1 c.before.before.before.before.before.before.before.before.before.loop-test.true _ c.before.before.before.before.before.before.before.weight-at.ensures _ c.before.before.before.before.before.is-end.ensures c.before.before.before.before.if1.false _ _ f.0 f.1
 
 same-length-2 : tie.Need-same-length-2 invariant-loop decreases-loop
 same-length-2 c = c.before.loop.invariant.same_length
 
 returns-2 : tie.Need-returns-2 invariant-loop decreases-loop
 returns-2 c =
-    let i = c.before.loop.invariant in (searching-none _ _ _ _ _ _ _ _ _ _ _ i (omega (arith, c.loop-test.false)), i.same_length)
+    let i = c.before.loop.invariant in (searching_none _ _ _ _ _ _ _ _ _ _ _ i (omega (arith, c.loop-test.false)), i.same_length)
 
 pub search-spec : {M : Type 1} → statement M
 search-spec =

@@ -1,5 +1,5 @@
 -- `path_search::tight::tight_to` meets its contract. Assumes nothing.
-use Rattle.path_search.proofs.TightFacts.{weight_there, tight_out, tight-differs, tight-astray, tight-leads}
+use Rattle.path_search.proofs.TightFacts.{weight_there, tight_out, tight_differs, tight_astray, tight_leads}
 use Prim.Native.Nat.{◌<◌}
 use mathlib.Core.Path.{refl}
 use lib.ListN.{length}
@@ -78,7 +78,7 @@ returns-2 c =
     let a = c.before.before.before.arc-weight-at.ensures in
     let x = c.before.before.weight-at.ensures in
     let y = c.before.weight-at2.ensures in
-    tight-differs _ _ _ _ _ _ _ _ _ _ _ _ _ _ (omega (arith, c.before.before.before.before.before.before.before.if1.false)) q k a x y c.if2.true
+    tight_differs _ _ _ _ _ _ _ _ _ _ _ _ _ _ (omega (arith, c.before.before.before.before.before.before.before.if1.false)) q k a x y c.if2.true
 
 ends-at-requires : tie.Need-ends-at-requires
 ends-at-requires c κs = search rules
@@ -90,7 +90,7 @@ returns-3 c =
     let a = c.before.before.before.before.before.arc-weight-at.ensures in
     let x = c.before.before.before.before.weight-at.ensures in
     let y = c.before.before.before.weight-at2.ensures in
-    tight-astray _ _ _ _ _ _ _ _ _ _ _ _ _ _ (omega (arith, c.before.before.before.before.before.before.before.before.before.if1.false)) q k a x y
+    tight_astray _ _ _ _ _ _ _ _ _ _ _ _ _ _ (omega (arith, c.before.before.before.before.before.before.before.before.before.if1.false)) q k a x y
     c.before.before.if2.false _ c.before.ends_at.ensures c.if3.true
 
 returns-4 : tie.Need-returns-4
@@ -100,7 +100,7 @@ returns-4 c =
     let a = c.before.before.before.before.before.arc-weight-at.ensures in
     let x = c.before.before.before.before.weight-at.ensures in
     let y = c.before.before.before.weight-at2.ensures in
-    tight-leads _ _ _ _ _ _ _ _ _ _ _ _ _ _ (omega (arith, c.before.before.before.before.before.before.before.before.before.if1.false)) q k a x y
+    tight_leads _ _ _ _ _ _ _ _ _ _ _ _ _ _ (omega (arith, c.before.before.before.before.before.before.before.before.before.if1.false)) q k a x y
     c.before.before.if2.false _ c.before.ends_at.ensures c.if3.false
 
 pub tight-to-spec : {M : Type 1} → statement M

@@ -1,5 +1,5 @@
 -- `path_search::trail::count_arcs` meets its contract. Assumes nothing.
-use Rattle.path_search.proofs.TrailFacts.{Counting, count_first, count-cell, count-stop, count-behind, count_turn, count_end}
+use Rattle.path_search.proofs.TrailFacts.{Counting, count_first, count_cell, count_stop, count_behind, count_turn, count_end}
 use Rattle.lookup_moves.specs.Distances.{cells_of}
 use native.Mathlib.Omega.{arith}
 use borrow.Author.Rules.{rules}
@@ -24,19 +24,19 @@ loop-holds : tie.Need-loop-init invariant-loop decreases-loop
 loop-holds c = count_first c.before.before.before.before.requires.2
 
 add-weight-at : tie.Need-overflow-add-weight-at invariant-loop decreases-loop
-add-weight-at c = omega (arith, count-cell c.before.loop.invariant, c.before.before.before.before.before.before.requires.1)
+add-weight-at c = omega (arith, count_cell c.before.loop.invariant, c.before.before.before.before.before.before.requires.1)
 
 weight-at-requires : tie.Need-weight-at-requires invariant-loop decreases-loop
-weight-at-requires c κs = omega (arith, count-cell c.before.loop.invariant, c.before.before.before.before.before.before.requires.1)
+weight-at-requires c κs = omega (arith, count_cell c.before.loop.invariant, c.before.before.before.before.before.before.requires.1)
 
 returns : tie.Need-returns invariant-loop decreases-loop
 returns c =
-    let i = c.before.before in count-stop i.before.loop.invariant i.loop-test.true c.before.weight-at.ensures c.if1.true
+    let i = c.before.before in count_stop i.before.loop.invariant i.loop-test.true c.before.weight-at.ensures c.if1.true
 
 cell-before-requires : tie.Need-cell-before-requires invariant-loop decreases-loop
 cell-before-requires c κs =
     let i = c.before.before in
-    (c.before.before.before.before.before.before.before.before.requires.0, count-behind i.before.loop.invariant i.loop-test.true c.before.weight-at.ensures c.if1.false)
+    (c.before.before.before.before.before.before.before.before.requires.0, count_behind i.before.loop.invariant i.loop-test.true c.before.weight-at.ensures c.if1.false)
 
 add-count : tie.Need-overflow-add-count invariant-loop decreases-loop
 add-count c = let i = c.before.before.before in omega (arith, i.before.loop.invariant.all_are, i.loop-test.true)

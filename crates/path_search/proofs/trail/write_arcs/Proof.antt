@@ -1,5 +1,5 @@
 -- `path_search::trail::write_arcs` meets its contract. Assumes nothing.
-use Rattle.path_search.proofs.TrailFacts.{Writing, write_first, write_cell, write-length, write_room, write-behind, write_turn, write_end}
+use Rattle.path_search.proofs.TrailFacts.{Writing, write_first, write_cell, write_length, write_room, write_behind, write_turn, write_end}
 use Rattle.lookup_moves.specs.Distances.{cells_of}
 use native.Mathlib.Omega.{arith}
 use borrow.Author.Rules.{rules}
@@ -39,7 +39,7 @@ mul-put16 c = omega (arith, c.before.before.before.loop.invariant.all_are, c.bef
 cast-put16 : tie.Need-overflow-cast-put16 invariant-loop decreases-loop
 cast-put16 c =
     let i = c.before.before in
-    omega (arith, c.before.before.before.before.before.before.before.before.before.requires.0.few_arcs, (write-behind i.before.loop.invariant i.loop-test.true c.before.weight-at.ensures).arc)
+    omega (arith, c.before.before.before.before.before.before.before.before.before.requires.0.few_arcs, (write_behind i.before.loop.invariant i.loop-test.true c.before.weight-at.ensures).arc)
 
 put16-requires : tie.Need-put16-requires invariant-loop decreases-loop
 put16-requires c κs = let i = c.before.before in write_room i.before.loop.invariant c.before.before.before.before.before.before.before.before.before.requires.3 i.loop-test.true
@@ -47,7 +47,7 @@ put16-requires c κs = let i = c.before.before in write_room i.before.loop.invar
 cell-before-requires : tie.Need-cell-before-requires invariant-loop decreases-loop
 cell-before-requires c κs =
     let i = c.before.before.before.before.before in
-    (c.before.before.before.before.before.before.before.before.before.before.before.before.requires.0, write-behind i.before.loop.invariant i.loop-test.true c.before.before.before.before.weight-at.ensures)
+    (c.before.before.before.before.before.before.before.before.before.before.before.before.requires.0, write_behind i.before.loop.invariant i.loop-test.true c.before.before.before.before.weight-at.ensures)
 
 loop-less : tie.Need-loop-smaller invariant-loop decreases-loop
 loop-less c = search rules
@@ -58,7 +58,7 @@ loop-again c =
     write_turn i.before.loop.invariant i.loop-test.true c.before.before.before.before.before.weight-at.ensures c.before.before.before.before.before.before.before.before.before.before.before.before.before.requires.3 c.before.before.before.put16.ensures c.cell-before.ensures
 
 same_length : tie.Need-same-length invariant-loop decreases-loop
-same_length c = write-length c.before.loop.invariant c.before.before.before.before.before.before.before.requires.3
+same_length c = write_length c.before.loop.invariant c.before.before.before.before.before.before.before.requires.3
 
 returns : tie.Need-returns invariant-loop decreases-loop
 returns c = write_end c.before.loop.invariant c.loop-test.false

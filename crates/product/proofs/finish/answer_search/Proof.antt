@@ -1,5 +1,5 @@
 -- `product::finish::answer_search` meets its contract. Assumes nothing.
-use Rattle.product.proofs.AnswerFacts.{answer_full, answer-arcs, answer-weights, answer-made, rows_fit, rows-within, moves_long, moves-within, states_room, arcs_room}
+use Rattle.product.proofs.AnswerFacts.{answer_full, answer_arcs, answer_weights, answer_made, rows_fit, rows-within, moves_long, moves_within, states_room, arcs_room}
 use mathlib.Core.Path.{refl}
 use native.Mathlib.Omega.{arith}
 use borrow.Author.Rules.{rules}
@@ -19,19 +19,19 @@ returns c =
 returns-2 : tie.Need-returns-2
 returns-2 c =
     let s = c.before.before.before.before.before.before.before.before.before.before.before in
-    answer-arcs _ _ _ _ _ _ _ s.args.out-states.now s.args.out-arcs.now s.requires c.before.before.before.if1.false c.if2.true
+    answer_arcs _ _ _ _ _ _ _ s.args.out-states.now s.args.out-arcs.now s.requires c.before.before.before.if1.false c.if2.true
 
 sums-fit-requires : tie.Need-sums-fit-requires
 sums-fit-requires c κs =
     let s = c.before.before.before.before.before.before.before.before.before.before.before in
     let e = c.before.before.before.if1.false in
     let h = c.if2.false in
-    (rows_fit _ _ _ _ _ _ _ s.args.out-states.now s.args.out-arcs.now s.requires e h, rows-within _ _ _ _ _ _ _ s.args.out-states.now s.args.out-arcs.now s.requires e h, moves_long _ _ _ _ _ _ _ s.args.out-states.now s.args.out-arcs.now s.requires e h, moves-within _ _ _ _ _ _ _ s.args.out-states.now s.args.out-arcs.now s.requires e h)
+    (rows_fit _ _ _ _ _ _ _ s.args.out-states.now s.args.out-arcs.now s.requires e h, rows-within _ _ _ _ _ _ _ s.args.out-states.now s.args.out-arcs.now s.requires e h, moves_long _ _ _ _ _ _ _ s.args.out-states.now s.args.out-arcs.now s.requires e h, moves_within _ _ _ _ _ _ _ s.args.out-states.now s.args.out-arcs.now s.requires e h)
 
 returns-3 : tie.Need-returns-3
 returns-3 c =
     let s = c.before.before.before.before.before.before.before.before.before.before.before.before.before in
-    answer-weights _ _ _ _ _ _ _ s.args.out-states.now s.args.out-arcs.now s.requires c.before.before.before.before.before.if1.false c.before.before.if2.false _ c.before.sums-fit.ensures c.if3.true
+    answer_weights _ _ _ _ _ _ _ s.args.out-states.now s.args.out-arcs.now s.requires c.before.before.before.before.before.if1.false c.before.before.if2.false _ c.before.sums-fit.ensures c.if3.true
 
 write-states-requires : tie.Need-write-states-requires
 write-states-requires c κs =
@@ -45,7 +45,7 @@ write-moves-requires c κs =
     let s = c.before.before.before.before.before.before.before.before.before.before.before.before.before.before.before.before.before.before in
     let e = c.before.before.before.before.before.before.before.before.before.before.if1.false in
     let h = c.before.before.before.before.before.before.before.if2.false in
-    (moves_long _ _ _ _ _ _ _ s.args.out-states.now s.args.out-arcs.now s.requires e h, moves-within _ _ _ _ _ _ _ s.args.out-states.now s.args.out-arcs.now s.requires e h, s.requires.tapes_fit, arcs_room _ _ _ _ _ _ _ s.args.out-states.now s.args.out-arcs.now s.requires e h)
+    (moves_long _ _ _ _ _ _ _ s.args.out-states.now s.args.out-arcs.now s.requires e h, moves_within _ _ _ _ _ _ _ s.args.out-states.now s.args.out-arcs.now s.requires e h, s.requires.tapes_fit, arcs_room _ _ _ _ _ _ _ s.args.out-states.now s.args.out-arcs.now s.requires e h)
 
 add-t22 : tie.Need-overflow-add-t22
 add-t22 c = let s = c.before.before.before.before.before.before.before.before.before.before.before.before.before.before.before.before.before.before.before.before.before in omega (arith, s.requires.tapes_fit)
@@ -59,7 +59,7 @@ same-length-2 c = search rules
 returns-4 : tie.Need-returns-4
 returns-4 c =
     let s = c.before.before.before.before.before.before.before.before.before.before.before.before.before.before.before.before.before.before.before.before.before in
-    answer-made _ _ _ _ _ _ _ s.args.out-states.now s.args.out-arcs.now s.requires c.before.before.before.before.before.before.before.before.before.before.before.before.before.if1.false c.before.before.before.before.before.before.before.before.before.before.if2.false _ c.before.before.before.before.before.before.before.before.before.sums-fit.ensures c.before.before.before.before.before.before.before.before.if3.false _ _ _ _ refl refl c.before.before.before.before.before.before.write-states.ensures c.before.before.write_moves.ensures
+    answer_made _ _ _ _ _ _ _ s.args.out-states.now s.args.out-arcs.now s.requires c.before.before.before.before.before.before.before.before.before.before.before.before.before.if1.false c.before.before.before.before.before.before.before.before.before.before.if2.false _ c.before.before.before.before.before.before.before.before.before.sums-fit.ensures c.before.before.before.before.before.before.before.before.if3.false _ _ _ _ refl refl c.before.before.before.before.before.before.write-states.ensures c.before.before.write_moves.ensures
 
 pub answer-search-spec : {M : Type 1} → statement M
 answer-search-spec =

@@ -1,5 +1,5 @@
 -- `product_records::judge::moves_fit` meets its contract. Assumes nothing.
-use Rattle.product_records.proofs.ResultFacts.{moves_turn, moves-stop, moves_next, moves_done}
+use Rattle.product_records.proofs.ResultFacts.{moves_turn, moves_stop, moves_next, moves_done}
 use mathlib.Core.Path.{◌≡◌, refl, sym, ◌∙◌}
 use Prim.Native.Nat.{◌+◌, ◌-◌, ◌*◌, ◌≤◌}
 use native.Mathlib.Omega.{arith}
@@ -35,7 +35,7 @@ move-weight-requires c κs = let l = c.before.before.loop in (moves_turn _ _ _ _
 returns : tie.Need-returns invariant-loop decreases-loop
 returns c =
     let l = c.before.before.before.before.loop in
-    moves-stop _ _ _ _ _ _ l.at l.left (l.left - 1) _ (omega (arith, c.before.before.before.loop-test.true)) c.before.before.load-move.ensures _ c.before.move-weight.ensures c.if1.true ∙ l.invariant.2
+    moves_stop _ _ _ _ _ _ l.at l.left (l.left - 1) _ (omega (arith, c.before.before.before.loop-test.true)) c.before.before.load-move.ensures _ c.before.move-weight.ensures c.if1.true ∙ l.invariant.2
 
 add_at : tie.Need-overflow-add-at invariant-loop decreases-loop
 add_at c = search rules

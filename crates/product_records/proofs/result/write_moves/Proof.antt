@@ -1,5 +1,5 @@
 -- `product_records::result::write_moves` meets its contract. Assumes nothing.
-use Rattle.product_records.proofs.ResultFacts.{moves_turn, moves-written, moves_end}
+use Rattle.product_records.proofs.ResultFacts.{moves_turn, moves_written, moves_end}
 use mathlib.Core.Path.{◌≡◌, refl, sym, ◌∙◌}
 use Prim.Native.Nat.{◌+◌, ◌-◌, ◌*◌, ◌≤◌}
 use native.Mathlib.Omega.{arith}
@@ -61,7 +61,7 @@ loop-again c =
       omega (arith, l.invariant.1, t, k),
       k ∙ l.invariant.2,
       (moves_turn _ _ _ _ _ _ l.at l.left (l.left - 1) _ (omega (arith, t)) e l.invariant.3).1,
-      moves-written _ _ _ _ _ _ l.at l.left (l.left - 1) _ (omega (arith, t)) e _ _ l.to _ _ c.before.before.before.before.before.before.before.before.before.before.before.before.before.requires.2 l.invariant.3 l.invariant.1 p.ensures.0 ∙ l.invariant.4,
+      moves_written _ _ _ _ _ _ l.at l.left (l.left - 1) _ (omega (arith, t)) e _ _ l.to _ _ c.before.before.before.before.before.before.before.before.before.before.before.before.before.requires.2 l.invariant.3 l.invariant.1 p.ensures.0 ∙ l.invariant.4,
     )
 
 same_length : tie.Need-same-length invariant-loop decreases-loop

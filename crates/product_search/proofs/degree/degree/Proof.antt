@@ -2,7 +2,7 @@
 use native.Mathlib.Omega.{arith}
 use Prim.Native.Nat.{◌-◌}
 use Rattle.table_adjacency.proofs.ChainFacts.{heads}
-use Rattle.product_search.proofs.DegreeFacts.{Counting, count_start, count-goes, count_next, count_end}
+use Rattle.product_search.proofs.DegreeFacts.{Counting, count_start, count_goes, count_next, count_end}
 use Rattle.product_search.proofs.degree.degree.Statement.{statement}
 use Rattle.product_search.proofs.degree.degree.Tie as tie
 use Rattle.product_search.proofs.degree.degree.Reads as reads
@@ -31,10 +31,10 @@ shared-slice-read-j : tie.Need-shared-slice-read-j invariant-loop decreases-loop
 shared-slice-read-j c = omega (arith, c.before.before.before.before.before.before.before.requires.linked.arcs_fit, c.before.if1.true)
 
 cast-j : tie.Need-overflow-cast-j invariant-loop decreases-loop
-cast-j c = let g = (count-goes _ _ _ _ c.before.before.before.before.before.before.before.requires _ _ c.before.before.before.loop.invariant c.before.if1.true).1 in omega (arith, g)
+cast-j c = let g = (count_goes _ _ _ _ c.before.before.before.before.before.before.before.requires _ _ c.before.before.before.loop.invariant c.before.if1.true).1 in omega (arith, g)
 
 loop-less : tie.Need-loop-smaller invariant-loop decreases-loop
-loop-less c = let g = (count-goes _ _ _ _ c.before.before.before.before.before.before.before.requires _ _ c.before.before.before.loop.invariant c.before.if1.true).0 in omega (arith, g, c.before.if1.true)
+loop-less c = let g = (count_goes _ _ _ _ c.before.before.before.before.before.before.before.requires _ _ c.before.before.before.loop.invariant c.before.if1.true).0 in omega (arith, g, c.before.if1.true)
 
 loop-again : tie.Need-loop-preserved invariant-loop decreases-loop
 loop-again c = count_next _ _ _ _ c.before.before.before.before.before.before.before.requires _ _ c.before.before.before.loop.invariant c.before.if1.true

@@ -1,6 +1,6 @@
 -- `product_search::explore::begin` meets its contract. Assumes nothing.
 use Prim.Native.Nat.{◌-◌}
-use Rattle.product_search.proofs.BeginFacts.{Beginning, begin_start, begin_requires, begin-next, begin-full, begin_end}
+use Rattle.product_search.proofs.BeginFacts.{Beginning, begin_start, begin_requires, begin_next, begin_full, begin_end}
 use borrow.Author.Rules.{rules}
 use Rattle.product_search.proofs.explore.begin.Statement.{statement}
 use Rattle.product_search.proofs.explore.begin.Tie as tie
@@ -24,7 +24,7 @@ same_length : tie.Need-same-length invariant-loop decreases-loop
 same_length c = search rules
 
 returns : tie.Need-returns invariant-loop decreases-loop
-returns c = let s = c.before.before.before.before.before.before.before.before.before.before.before.before in begin-full _ _ _ s.args.work.now s.requires _ _ _ c.before.before.before.before.before.before.before.loop.invariant c.before.before.before.before.before.if1.true _ _ c.before.before.before.start-both.ensures c.if2.true
+returns c = let s = c.before.before.before.before.before.before.before.before.before.before.before.before in begin_full _ _ _ s.args.work.now s.requires _ _ _ c.before.before.before.before.before.before.before.loop.invariant c.before.before.before.before.before.if1.true _ _ c.before.before.before.start-both.ensures c.if2.true
 
 add-q : tie.Need-overflow-add-q invariant-loop decreases-loop
 add-q c = search rules
@@ -33,7 +33,7 @@ loop-less : tie.Need-loop-smaller invariant-loop decreases-loop
 loop-less c = search rules
 
 loop-again : tie.Need-loop-preserved invariant-loop decreases-loop
-loop-again c = let s = c.before.before.before.before.before.before.before.before.before.before.before.before in begin-next _ _ _ s.args.work.now s.requires _ _ _ c.before.before.before.before.before.before.before.loop.invariant c.before.before.before.before.before.if1.true _ _ c.before.before.before.start-both.ensures c.if2.false
+loop-again c = let s = c.before.before.before.before.before.before.before.before.before.before.before.before in begin_next _ _ _ s.args.work.now s.requires _ _ _ c.before.before.before.before.before.before.before.loop.invariant c.before.before.before.before.before.if1.true _ _ c.before.before.before.start-both.ensures c.if2.false
 
 same-length-2 : tie.Need-same-length-2 invariant-loop decreases-loop
 same-length-2 c = search rules

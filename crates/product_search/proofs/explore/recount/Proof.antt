@@ -1,6 +1,6 @@
 -- `product_search::explore::recount` meets its contract. Assumes nothing.
 use Rattle.product_search.proofs.RunFacts.{chainable}
-use Rattle.product_search.proofs.ExploreFacts.{markable, may_recount, distinct-indexed, recounted}
+use Rattle.product_search.proofs.ExploreFacts.{markable, may_recount, distinct_indexed, recounted}
 use borrow.Author.Rules.{rules}
 use Rattle.product_search.proofs.explore.recount.Statement.{statement}
 use Rattle.product_search.proofs.explore.recount.Tie as tie
@@ -44,7 +44,7 @@ slice-aggregate-search-4 : tie.Need-slice-aggregate-search-4
 slice-aggregate-search-4 c = search rules
 
 search-requires : tie.Need-search-requires
-search-requires c κs = let s = c.before.before.before.before.before.before.before.before.before.before.before.before.before.before.before.before.before.before.before.before.before.before.before.before.before.before.before in (may_recount _ _ _ _ _ s.args.work.now s.requires.0 _ c.before.before.before.before.before.states-only.ensures, distinct-indexed _ _ _ _ _ s.args.work.now s.requires.0 _ _ _ _ c.before.before.before.before.before.before.before.before.before.before.before.before.before.link-distinct.ensures c.before.before.before.before.before.before.before.before.link-distinct2.ensures _ c.before.before.before.before.before.states-only.ensures)
+search-requires c κs = let s = c.before.before.before.before.before.before.before.before.before.before.before.before.before.before.before.before.before.before.before.before.before.before.before.before.before.before.before in (may_recount _ _ _ _ _ s.args.work.now s.requires.0 _ c.before.before.before.before.before.states-only.ensures, distinct_indexed _ _ _ _ _ s.args.work.now s.requires.0 _ _ _ _ c.before.before.before.before.before.before.before.before.before.before.before.before.before.link-distinct.ensures c.before.before.before.before.before.before.before.before.link-distinct2.ensures _ c.before.before.before.before.before.states-only.ensures)
 
 same_length : tie.Need-same-length
 same_length c = search rules

@@ -1,5 +1,5 @@
 -- `table::answer::both` meets its contract. Assumes nothing.
-use Rattle.table.proofs.AnswerFacts.{both_fine, both_first, both-lesser, both-other}
+use Rattle.table.proofs.AnswerFacts.{both_fine, both_first, both-lesser, both_other}
 use borrow.Author.Rules.{rules}
 use Rattle.table.proofs.answer.both.Statement.{statement}
 use Rattle.table.proofs.answer.both.Tie as tie
@@ -35,7 +35,7 @@ returns-3 : tie.Need-returns-3
 returns-3 c = both-lesser _ _ _ c.before.before.before.before.before.before.before.a.given.1 _ c.before.before.before.before.b.given.1 _ _ c.before.before.refusal-number.ensures c.before.refusal-number2.ensures c.if1.true
 
 returns-4 : tie.Need-returns-4
-returns-4 c = both-other _ _ _ c.before.before.before.before.before.before.before.a.given.1 _ c.before.before.before.before.b.given.1 _ _ c.before.before.refusal-number.ensures c.before.refusal-number2.ensures c.if1.false
+returns-4 c = both_other _ _ _ c.before.before.before.before.before.before.before.a.given.1 _ c.before.before.before.before.b.given.1 _ _ c.before.before.refusal-number.ensures c.before.refusal-number2.ensures c.if1.false
 
 pub both-spec : {M : Type 1} → statement M
 both-spec =

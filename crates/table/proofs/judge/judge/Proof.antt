@@ -1,7 +1,7 @@
 -- `table::judge::judge` meets its contract. Assumes nothing.
 use mathlib.Core.Path.{ap}
-use Rattle.table.specs.Answers.{judgedAs, lent}
-use Rattle.table.proofs.TableFacts.{tapes_fit, table_counts, table-states, table-arcs}
+use Rattle.table.specs.Answers.{judged_as, lent}
+use Rattle.table.proofs.TableFacts.{tapes_fit, table_counts, table_states, table_arcs}
 use borrow.Author.Rules.{rules}
 use Rattle.table.proofs.judge.judge.Statement.{statement}
 use Rattle.table.proofs.judge.judge.Tie as tie
@@ -31,7 +31,7 @@ enum-told-2 c = search rules
 returns-2 : tie.Need-returns-2
 returns-2 c =
     let s = c.before.before.before.before.before.before.before in
-    table-states (lent s.args.counts s.args.states.now s.args.arcs.now) _ c.before.before.before.before.counts-fit.ensures c.before.before.before.if1.false _ c.before.before.judge-states.ensures _ (ap judgedAs c.enum-told2.given.1)
+    table_states (lent s.args.counts s.args.states.now s.args.arcs.now) _ c.before.before.before.before.counts-fit.ensures c.before.before.before.if1.false _ c.before.before.judge-states.ensures _ (ap judged_as c.enum-told2.given.1)
 
 judge-arcs-requires : tie.Need-judge-arcs-requires
 judge-arcs-requires c κs =
@@ -41,7 +41,7 @@ judge-arcs-requires c κs =
 returns-3 : tie.Need-returns-3
 returns-3 c =
     let s = c.before.before.before.before.before.before.before.before in
-    table-arcs (lent s.args.counts s.args.states.now s.args.arcs.now) _ c.before.before.before.before.before.counts-fit.ensures c.before.before.before.before.if1.false _ c.before.before.before.judge-states.ensures (ap judgedAs c.before.enum_told.given.1) _ c.judge-arcs.ensures
+    table_arcs (lent s.args.counts s.args.states.now s.args.arcs.now) _ c.before.before.before.before.before.counts-fit.ensures c.before.before.before.before.if1.false _ c.before.before.before.judge-states.ensures (ap judged_as c.before.enum_told.given.1) _ c.judge-arcs.ensures
 
 pub judge-spec : {M : Type 1} → statement M
 judge-spec =

@@ -3,9 +3,9 @@ use mathlib.Core.Path.{◌≡◌, refl, ap, ◌∙◌}
 use native.Mathlib.Omega.{arith}
 use Prim.Native.Nat.{◌-◌, ◌≤◌}
 use lib.ListN.{length, drop}
-use Rattle.table.specs.Answers.{judgedAs}
+use Rattle.table.specs.Answers.{judged_as}
 use Rattle.table.specs.Judging.{arcs_judged}
-use Rattle.table.proofs.TableFacts.{arcs-stop, arcs-next, arcs_done}
+use Rattle.table.proofs.TableFacts.{arcs_stop, arcs_next, arcs_done}
 use borrow.Author.Rules.{rules}
 use Rattle.table.proofs.judge.judge_arcs.Statement.{statement}
 use Rattle.table.proofs.judge.judge_arcs.Tie as tie
@@ -32,19 +32,19 @@ enum-told-2 : tie.Need-enum-told-2 invariant-loop decreases-loop
 enum-told-2 c = search rules
 
 returns : tie.Need-returns invariant-loop decreases-loop
-returns c = let s = c.before.before.before.before.before.before in let l = c.before.before.before.before.loop in arcs-stop s.args.tapes s.args.states s.requires _ l.at l.invariant.0 l.left c.before.before.before.loop-test.true _ c.before.before.judge-arc-at.ensures _ (ap judgedAs c.enum-told2.given.1) ∙ l.invariant.1
+returns c = let s = c.before.before.before.before.before.before in let l = c.before.before.before.before.loop in arcs_stop s.args.tapes s.args.states s.requires _ l.at l.invariant.0 l.left c.before.before.before.loop-test.true _ c.before.before.judge-arc-at.ensures _ (ap judged_as c.enum-told2.given.1) ∙ l.invariant.1
 
 sub-left : tie.Need-overflow-sub-left invariant-loop decreases-loop
 sub-left c = search rules
 
 add_at : tie.Need-overflow-add-at invariant-loop decreases-loop
-add_at c = let s = c.before.before.before.before.before.before in let l = c.before.before.before.before.loop in let t = arcs-next s.args.tapes s.args.states s.requires _ l.at l.invariant.0 l.left c.before.before.before.loop-test.true _ c.before.before.judge-arc-at.ensures (ap judgedAs c.enum_told.given.1) in omega (arith, t.0)
+add_at c = let s = c.before.before.before.before.before.before in let l = c.before.before.before.before.loop in let t = arcs_next s.args.tapes s.args.states s.requires _ l.at l.invariant.0 l.left c.before.before.before.loop-test.true _ c.before.before.judge-arc-at.ensures (ap judged_as c.enum_told.given.1) in omega (arith, t.0)
 
 loop-less : tie.Need-loop-smaller invariant-loop decreases-loop
 loop-less c = search rules
 
 loop-again : tie.Need-loop-preserved invariant-loop decreases-loop
-loop-again c = let s = c.before.before.before.before.before.before in let l = c.before.before.before.before.loop in let t = arcs-next s.args.tapes s.args.states s.requires _ l.at l.invariant.0 l.left c.before.before.before.loop-test.true _ c.before.before.judge-arc-at.ensures (ap judgedAs c.enum_told.given.1) in (t.0, t.1 ∙ l.invariant.1)
+loop-again c = let s = c.before.before.before.before.before.before in let l = c.before.before.before.before.loop in let t = arcs_next s.args.tapes s.args.states s.requires _ l.at l.invariant.0 l.left c.before.before.before.loop-test.true _ c.before.before.judge-arc-at.ensures (ap judged_as c.enum_told.given.1) in (t.0, t.1 ∙ l.invariant.1)
 
 returns-2 : tie.Need-returns-2 invariant-loop decreases-loop
 returns-2 c = let s = c.before.before.before in let l = c.before.loop in arcs_done s.args.tapes s.args.states l.left _ (omega arith) ∙ l.invariant.1

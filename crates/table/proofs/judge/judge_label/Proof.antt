@@ -1,5 +1,5 @@
 -- `table::judge::judge_label` meets its contract. Assumes nothing.
-use Rattle.table.proofs.JudgeFacts.{label_symbols, label-padding, label_length}
+use Rattle.table.proofs.JudgeFacts.{label_symbols, label_padding, label_length}
 use borrow.Author.Rules.{rules}
 use Rattle.table.proofs.judge.judge_label.Statement.{statement}
 use Rattle.table.proofs.judge.judge_label.Tie as tie
@@ -47,7 +47,7 @@ all-zero-requires : tie.Need-all-zero-requires
 all-zero-requires c κs = search rules
 
 returns-2 : tie.Need-returns-2
-returns-2 c = let s = c.before.before.before.before.before.before.before.before.before in label-padding s.args.label.now s.requires _ c.before.before.before.before.before.before.within.ensures _ c.before.before.before.before.all_symbols.ensures _ c.before.all-zero.ensures c.before.before.before.if1.false c.if2.true
+returns-2 c = let s = c.before.before.before.before.before.before.before.before.before in label_padding s.args.label.now s.requires _ c.before.before.before.before.before.before.within.ensures _ c.before.before.before.before.all_symbols.ensures _ c.before.all-zero.ensures c.before.before.before.if1.false c.if2.true
 
 demand-requires : tie.Need-demand-requires
 demand-requires c κs = search rules

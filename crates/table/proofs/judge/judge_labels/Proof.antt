@@ -5,7 +5,7 @@ use Prim.Native.Nat.{◌+◌, ◌-◌, ◌*◌}
 use lib.ListN.{length, drop}
 use Rattle.automata.specs.Answer.{beside, forget}
 use Rattle.automata.specs.Layout.{label_size}
-use Rattle.table.specs.Answers.{judgedAs}
+use Rattle.table.specs.Answers.{judged_as}
 use Rattle.table.specs.Judging.{labels_read}
 use Rattle.table.proofs.JudgeFacts.{labels_start_lem, labels_turn, labels_end_lem}
 use borrow.Author.Rules.{rules}
@@ -17,7 +17,7 @@ use Rattle.table.proofs.answer.both.Reads as both-reads
 use Rattle.table.proofs.judge.judge_label.Reads as judge-label-reads
 
 abbrev invariant-loop : tie.invariant-loop
-invariant-loop labels tapes judged₀ left₀ at₀ judged left at = (at + left * label_size ≡ length labels) × (forget (beside (judgedAs judged) (labels_read left (drop at labels))) ≡ forget (labels_read tapes labels))
+invariant-loop labels tapes judged₀ left₀ at₀ judged left at = (at + left * label_size ≡ length labels) × (forget (beside (judged_as judged) (labels_read left (drop at labels))) ≡ forget (labels_read tapes labels))
 
 abbrev decreases-loop : tie.decreases-loop
 decreases-loop labels tapes judged₀ left₀ at₀ judged left at = left

@@ -3,7 +3,7 @@ use mathlib.Core.Path.{◌≡◌, refl, ap, ◌∙◌}
 use native.Mathlib.Omega.{arith}
 use Prim.Native.Nat.{◌-◌, ◌≤◌}
 use lib.ListN.{length, drop}
-use Rattle.table.specs.Answers.{judgedAs}
+use Rattle.table.specs.Answers.{judged_as}
 use Rattle.table.specs.Judging.{states_judged}
 use Rattle.table.proofs.TableFacts.{states_stop, states_next, states_done}
 use borrow.Author.Rules.{rules}
@@ -32,19 +32,19 @@ enum-told-2 : tie.Need-enum-told-2 invariant-loop decreases-loop
 enum-told-2 c = search rules
 
 returns : tie.Need-returns invariant-loop decreases-loop
-returns c = let l = c.before.before.before.before.loop in states_stop _ l.at l.invariant.0 l.left c.before.before.before.loop-test.true _ c.before.before.judge-state-at.ensures _ (ap judgedAs c.enum-told2.given.1) ∙ l.invariant.1
+returns c = let l = c.before.before.before.before.loop in states_stop _ l.at l.invariant.0 l.left c.before.before.before.loop-test.true _ c.before.before.judge-state-at.ensures _ (ap judged_as c.enum-told2.given.1) ∙ l.invariant.1
 
 sub-left : tie.Need-overflow-sub-left invariant-loop decreases-loop
 sub-left c = search rules
 
 add_at : tie.Need-overflow-add-at invariant-loop decreases-loop
-add_at c = let l = c.before.before.before.before.loop in let t = states_next _ l.at l.invariant.0 l.left c.before.before.before.loop-test.true _ c.before.before.judge-state-at.ensures (ap judgedAs c.enum_told.given.1) in omega (arith, t.0)
+add_at c = let l = c.before.before.before.before.loop in let t = states_next _ l.at l.invariant.0 l.left c.before.before.before.loop-test.true _ c.before.before.judge-state-at.ensures (ap judged_as c.enum_told.given.1) in omega (arith, t.0)
 
 loop-less : tie.Need-loop-smaller invariant-loop decreases-loop
 loop-less c = search rules
 
 loop-again : tie.Need-loop-preserved invariant-loop decreases-loop
-loop-again c = let l = c.before.before.before.before.loop in let t = states_next _ l.at l.invariant.0 l.left c.before.before.before.loop-test.true _ c.before.before.judge-state-at.ensures (ap judgedAs c.enum_told.given.1) in (t.0, t.1 ∙ l.invariant.1)
+loop-again c = let l = c.before.before.before.before.loop in let t = states_next _ l.at l.invariant.0 l.left c.before.before.before.loop-test.true _ c.before.before.judge-state-at.ensures (ap judged_as c.enum_told.given.1) in (t.0, t.1 ∙ l.invariant.1)
 
 returns-2 : tie.Need-returns-2 invariant-loop decreases-loop
 returns-2 c = let l = c.before.loop in states_done l.left _ (omega arith) ∙ l.invariant.1

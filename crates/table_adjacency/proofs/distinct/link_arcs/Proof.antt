@@ -1,6 +1,6 @@
 -- `table_adjacency::distinct::link_arcs` meets its contract. Assumes nothing.
 use native.Mathlib.Omega.{arith}
-use Rattle.table_adjacency.proofs.DistinctFacts.{Linking, link_start, link-requires, link-next, link-end}
+use Rattle.table_adjacency.proofs.DistinctFacts.{Linking, link_start, link_requires, link_next, link_end}
 use borrow.Author.Rules.{rules}
 use Rattle.table_adjacency.proofs.distinct.link_arcs.Statement.{statement}
 use Rattle.table_adjacency.proofs.distinct.link_arcs.Tie as tie
@@ -28,13 +28,13 @@ sub-j : tie.Need-overflow-sub-j invariant-loop decreases-loop
 sub-j c = search rules
 
 link-arc-requires : tie.Need-link-arc-requires invariant-loop decreases-loop
-link-arc-requires c κs = let s = c.before.before.before.before.before.before.before.before.before.before.before.before in link-requires _ _ _ _ _ s.requires _ c.before.before.before.before.before.before.fill.ensures _ _ _ c.before.before.before.loop.invariant c.before.before.loop-test.true
+link-arc-requires c κs = let s = c.before.before.before.before.before.before.before.before.before.before.before.before in link_requires _ _ _ _ _ s.requires _ c.before.before.before.before.before.before.fill.ensures _ _ _ c.before.before.before.loop.invariant c.before.before.loop-test.true
 
 loop-less : tie.Need-loop-smaller invariant-loop decreases-loop
 loop-less c = search rules
 
 loop-again : tie.Need-loop-preserved invariant-loop decreases-loop
-loop-again c = let s = c.before.before.before.before.before.before.before.before.before.before.before.before.before.before.before.before.before in link-next _ _ _ _ _ s.requires _ c.before.before.before.before.before.before.before.before.before.before.before.fill.ensures _ _ _ c.before.before.before.before.before.before.before.before.loop.invariant c.before.before.before.before.before.before.before.loop-test.true _ _ c.before.before.before.before.link-arc.ensures
+loop-again c = let s = c.before.before.before.before.before.before.before.before.before.before.before.before.before.before.before.before.before in link_next _ _ _ _ _ s.requires _ c.before.before.before.before.before.before.before.before.before.before.before.fill.ensures _ _ _ c.before.before.before.before.before.before.before.before.loop.invariant c.before.before.before.before.before.before.before.loop-test.true _ _ c.before.before.before.before.link-arc.ensures
 
 same_length : tie.Need-same-length invariant-loop decreases-loop
 same_length c = search rules
@@ -43,7 +43,7 @@ same-length-2 : tie.Need-same-length-2 invariant-loop decreases-loop
 same-length-2 c = search rules
 
 returns : tie.Need-returns invariant-loop decreases-loop
-returns c = let s = c.before.before.before.before.before.before.before.before.before.before in link-end _ _ _ _ _ s.requires _ c.before.before.before.before.fill.ensures _ _ _ c.before.loop.invariant c.loop-test.false
+returns c = let s = c.before.before.before.before.before.before.before.before.before.before in link_end _ _ _ _ _ s.requires _ c.before.before.before.before.fill.ensures _ _ _ c.before.loop.invariant c.loop-test.false
 
 pub link-arcs-spec : {M : Type 1} → statement M
 link-arcs-spec =

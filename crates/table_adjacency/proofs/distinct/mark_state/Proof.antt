@@ -1,7 +1,7 @@
 -- `table_adjacency::distinct::mark_state` meets its contract. Assumes nothing.
 use native.Mathlib.Omega.{arith}
 use Prim.Native.Nat.{◌-◌}
-use Rattle.table_adjacency.proofs.DistinctFacts.{Marking, state-start, state-goes, state-bound, mark-requires, state-next, state_end_lem}
+use Rattle.table_adjacency.proofs.DistinctFacts.{Marking, state-start, state-goes, state_bound, mark_requires, state-next, state_end_lem}
 use borrow.Author.Rules.{rules}
 use Rattle.table_adjacency.proofs.distinct.mark_state.Statement.{statement}
 use Rattle.table_adjacency.proofs.distinct.mark_state.Tie as tie
@@ -38,7 +38,7 @@ cast_t : tie.Need-overflow-cast-t invariant-loop decreases-loop
 cast_t c = search rules
 
 mark-arc-requires : tie.Need-mark-arc-requires invariant-loop decreases-loop
-mark-arc-requires c κs = let s = c.before.before.before.before.before.before.before.before.before.before.before.before.before in mark-requires _ _ _ _ _ _ _ _ s.requires.0 s.requires.2 _ _ _ c.before.before.before.before.before.before.loop.invariant c.before.before.before.before.if1.true _ c.before.before.before.target_at.ensures
+mark-arc-requires c κs = let s = c.before.before.before.before.before.before.before.before.before.before.before.before.before in mark_requires _ _ _ _ _ _ _ _ s.requires.0 s.requires.2 _ _ _ c.before.before.before.before.before.before.loop.invariant c.before.before.before.before.if1.true _ c.before.before.before.target_at.ensures
 
 mul-j-2 : tie.Need-overflow-mul-j-2 invariant-loop decreases-loop
 mul-j-2 c = let s = c.before.before.before.before.before.before.before.before.before.before.before.before.before.before.before.before.before.before in omega (arith, s.requires.0.few, c.before.before.before.before.before.before.before.before.before.if1.true)
@@ -47,7 +47,7 @@ shared-slice-read-j-2 : tie.Need-shared-slice-read-j-2 invariant-loop decreases-
 shared-slice-read-j-2 c = let s = c.before.before.before.before.before.before.before.before.before.before.before.before.before.before.before.before.before.before.before in omega (arith, s.requires.0.chained.arcs_fit, c.before.before.before.before.before.before.before.before.before.before.if1.true)
 
 cast-j-2 : tie.Need-overflow-cast-j-2 invariant-loop decreases-loop
-cast-j-2 c = let s = c.before.before.before.before.before.before.before.before.before.before.before.before.before.before.before.before.before.before.before in omega (arith, state-bound _ _ _ _ _ _ _ _ s.requires.0 s.requires.2 _ _ _ c.before.before.before.before.before.before.before.before.before.before.before.before.loop.invariant c.before.before.before.before.before.before.before.before.before.before.if1.true)
+cast-j-2 c = let s = c.before.before.before.before.before.before.before.before.before.before.before.before.before.before.before.before.before.before.before in omega (arith, state_bound _ _ _ _ _ _ _ _ s.requires.0 s.requires.2 _ _ _ c.before.before.before.before.before.before.before.before.before.before.before.before.loop.invariant c.before.before.before.before.before.before.before.before.before.before.if1.true)
 
 loop-less : tie.Need-loop-smaller invariant-loop decreases-loop
 loop-less c = let s = c.before.before.before.before.before.before.before.before.before.before.before.before.before.before.before.before.before.before.before in omega (arith, c.before.before.before.before.before.before.before.before.before.before.if1.true, state-goes _ _ _ _ _ _ _ _ s.requires.0 s.requires.2 _ _ _ c.before.before.before.before.before.before.before.before.before.before.before.before.loop.invariant c.before.before.before.before.before.before.before.before.before.before.if1.true)

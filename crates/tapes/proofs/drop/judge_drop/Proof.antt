@@ -1,10 +1,10 @@
 -- `tapes::drop::judge_drop` meets its contract. Assumes nothing.
-use Rattle.table.specs.Answers.{lent, judgedAs}
+use Rattle.table.specs.Answers.{lent, judged_as}
 use Rattle.intersect_room.specs.Room.{lent_space}
 use mathlib.Core.Path.{sym, ap, ◌∙◌}
 use Rattle.table.proofs.TableFacts.{judged_sound}
 use Rattle.table.proofs.SoundFacts.{few_tapes}
-use Rattle.tapes.proofs.DropCall.{drop_table_judged, drop-marks-judged, drop-space-judged}
+use Rattle.tapes.proofs.DropCall.{drop_table_judged, drop_marks_judged, drop_space_judged}
 use borrow.Author.Rules.{rules}
 use Rattle.tapes.proofs.drop.judge_drop.Statement.{statement}
 use Rattle.tapes.proofs.drop.judge_drop.Tie as tie
@@ -27,16 +27,16 @@ returns : tie.Need-returns
 returns c = let s = c.before.before.before.before.before in drop_table_judged (lent s.args.counts s.args.states.now s.args.arcs.now) s.args.mask (lent_space s.args.lent-states s.args.lent-arcs) _ c.before.before.judge.ensures _ c.enum-told2.given.1
 
 may-drop-requires : tie.Need-may-drop-requires
-may-drop-requires c κs = let s = c.before.before.before.before.before in few_tapes (lent s.args.counts s.args.states.now s.args.arcs.now) (judged_sound (lent s.args.counts s.args.states.now s.args.arcs.now) (sym c.before.before.judge.ensures ∙ ap judgedAs c.enum_told.given.1))
+may-drop-requires c κs = let s = c.before.before.before.before.before in few_tapes (lent s.args.counts s.args.states.now s.args.arcs.now) (judged_sound (lent s.args.counts s.args.states.now s.args.arcs.now) (sym c.before.before.judge.ensures ∙ ap judged_as c.enum_told.given.1))
 
 returns-2 : tie.Need-returns-2
-returns-2 c = let s = c.before.before.before.before.before.before.before in drop-marks-judged (lent s.args.counts s.args.states.now s.args.arcs.now) s.args.mask (lent_space s.args.lent-states s.args.lent-arcs) _ c.before.before.before.before.judge.ensures c.before.before.enum_told.given.1 _ c.before.may-drop.ensures c.if1.true
+returns-2 c = let s = c.before.before.before.before.before.before.before in drop_marks_judged (lent s.args.counts s.args.states.now s.args.arcs.now) s.args.mask (lent_space s.args.lent-states s.args.lent-arcs) _ c.before.before.before.before.judge.ensures c.before.before.enum_told.given.1 _ c.before.may-drop.ensures c.if1.true
 
 fits-requires : tie.Need-fits-requires
 fits-requires c κs = search rules
 
 returns-3 : tie.Need-returns-3
-returns-3 c = let s = c.before.before.before.before.before.before.before.before in drop-space-judged (lent s.args.counts s.args.states.now s.args.arcs.now) s.args.mask (lent_space s.args.lent-states s.args.lent-arcs) _ c.before.before.before.before.before.judge.ensures c.before.before.before.enum_told.given.1 _ c.before.before.may-drop.ensures c.before.if1.false _ c.fits2.ensures
+returns-3 c = let s = c.before.before.before.before.before.before.before.before in drop_space_judged (lent s.args.counts s.args.states.now s.args.arcs.now) s.args.mask (lent_space s.args.lent-states s.args.lent-arcs) _ c.before.before.before.before.before.judge.ensures c.before.before.before.enum_told.given.1 _ c.before.before.may-drop.ensures c.before.if1.false _ c.fits2.ensures
 
 pub judge-drop-spec : {M : Type 1} → statement M
 judge-drop-spec =

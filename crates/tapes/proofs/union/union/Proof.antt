@@ -1,6 +1,6 @@
 -- `tapes::union::union` meets its contract. Assumes nothing.
 use Rattle.table.specs.Answers.{lent}
-use Rattle.tapes.proofs.UnionCall.{union-ready, union-refused, union-done}
+use Rattle.tapes.proofs.UnionCall.{union_ready, union-refused, union_done}
 use borrow.Author.Rules.{rules}
 use Rattle.tapes.proofs.union.union.Statement.{statement}
 use Rattle.tapes.proofs.union.union.Tie as tie
@@ -19,7 +19,7 @@ enum_told : tie.Need-enum-told
 enum_told c = search rules
 
 append-requires : tie.Need-append-requires
-append-requires c κs = let s = c.before.before.before.before.before.before.before.before.before.before.before in union-ready (lent s.args.first s.args.first_states.now s.args.first_arcs.now) (lent s.args.second s.args.second_states.now s.args.second_arcs.now) s.args.out-states.now s.args.out-arcs.now _ c.before.before.before.before.judge-union.ensures c.before.before.enum_told.given.1
+append-requires c κs = let s = c.before.before.before.before.before.before.before.before.before.before.before in union_ready (lent s.args.first s.args.first_states.now s.args.first_arcs.now) (lent s.args.second s.args.second_states.now s.args.second_arcs.now) s.args.out-states.now s.args.out-arcs.now _ c.before.before.before.before.judge-union.ensures c.before.before.enum_told.given.1
 
 returns : tie.Need-returns
 returns c = let s = c.before.before.before.before.before.before.before.before.before.before in union-refused (lent s.args.first s.args.first_states.now s.args.first_arcs.now) (lent s.args.second s.args.second_states.now s.args.second_arcs.now) s.args.out-states.now s.args.out-arcs.now _ c.before.before.before.judge-union.ensures _ c.before.judged.given.1
@@ -31,7 +31,7 @@ same-length-2 : tie.Need-same-length-2
 same-length-2 c = search rules
 
 returns-2 : tie.Need-returns-2
-returns-2 c = let s = c.before.before.before.before.before.before.before.before.before.before.before.before.before.before.before.before in union-done (lent s.args.first s.args.first_states.now s.args.first_arcs.now) (lent s.args.second s.args.second_states.now s.args.second_arcs.now) s.args.out-states.now s.args.out-arcs.now _ c.before.before.before.before.before.before.before.before.before.judge-union.ensures c.before.before.before.before.before.before.before.enum_told.given.1 _ _ _ c.before.before.before.before.append.ensures
+returns-2 c = let s = c.before.before.before.before.before.before.before.before.before.before.before.before.before.before.before.before in union_done (lent s.args.first s.args.first_states.now s.args.first_arcs.now) (lent s.args.second s.args.second_states.now s.args.second_arcs.now) s.args.out-states.now s.args.out-arcs.now _ c.before.before.before.before.before.before.before.before.before.judge-union.ensures c.before.before.before.before.before.before.before.enum_told.given.1 _ _ _ c.before.before.before.before.append.ensures
 
 pub union-spec : {M : Type 1} → statement M
 union-spec =

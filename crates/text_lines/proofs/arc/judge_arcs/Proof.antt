@@ -4,7 +4,7 @@ use native.Mathlib.Omega.{arith}
 use Prim.Native.Nat.{◌+◌, ◌*◌, ◌≤◌}
 use lib.ListN.{length, drop}
 use Rattle.text_lines.specs.Lines.{arcs_judged}
-use Rattle.text_lines.proofs.SequenceFacts.{arcs-refused, arcs_turn, arcs_done}
+use Rattle.text_lines.proofs.SequenceFacts.{arcs_refused, arcs_turn, arcs_done}
 use borrow.Author.Rules.{rules}
 use Rattle.text_lines.proofs.arc.judge_arcs.Statement.{statement}
 use Rattle.text_lines.proofs.arc.judge_arcs.Tie as tie
@@ -38,7 +38,7 @@ enum-told-2 : tie.Need-enum-told-2 invariant-loop decreases-loop
 enum-told-2 c = search rules
 
 returns : tie.Need-returns invariant-loop decreases-loop
-returns c = let l = c.before.before.before.before.loop in let s = c.before.before.before.before.before.before in arcs-refused s.args.tapes s.args.states _ l.at l.invariant.0 l.left c.before.before.before.loop-test.true c.before.before.judge-arc-at.result _ c.before.before.judge-arc-at.ensures c.enum-told2.given.1 ∙ l.invariant.2
+returns c = let l = c.before.before.before.before.loop in let s = c.before.before.before.before.before.before in arcs_refused s.args.tapes s.args.states _ l.at l.invariant.0 l.left c.before.before.before.loop-test.true c.before.before.judge-arc-at.result _ c.before.before.judge-arc-at.ensures c.enum-told2.given.1 ∙ l.invariant.2
 
 sub-left : tie.Need-overflow-sub-left invariant-loop decreases-loop
 sub-left c = search rules

@@ -1,5 +1,5 @@
 -- `text_lines::judge::judge_text` meets its contract. Assumes nothing.
-use Rattle.text_lines.proofs.TableFacts.{text-short, text-header, header-bounds, text-states, text-arcs, text-refused, text-fine}
+use Rattle.text_lines.proofs.TableFacts.{text-short, text_header, header_bounds, text_states, text_arcs, text-refused, text_fine}
 use mathlib.Core.Path.{◌≡◌, refl, sym, ap, ◌∙◌}
 use borrow.Author.Rules.{rules}
 use Rattle.text_lines.proofs.judge.judge_text.Statement.{statement}
@@ -31,16 +31,16 @@ enum_told : tie.Need-enum-told
 enum_told c = search rules
 
 returns-2 : tie.Need-returns-2
-returns-2 c = let s = c.before.before.before.before.before.before in let h = c.before.before.read-header in text-header s.args.states s.args.arcs _ h.result c.before.before.before.before.if1.false h.ensures _ c.enum_told.given.1
+returns-2 c = let s = c.before.before.before.before.before.before in let h = c.before.before.read-header in text_header s.args.states s.args.arcs _ h.result c.before.before.before.before.if1.false h.ensures _ c.enum_told.given.1
 
 returns-3 : tie.Need-returns-3
-returns-3 c = let s = c.before.before.before.before.before.before.before.before.before in let h = c.before.before.before.before.before.read-header in text-states s.args.states s.args.arcs _ h.result c.before.before.before.before.before.before.before.if1.false h.ensures _ c.before.before.before.header.given.1 c.if2.true
+returns-3 c = let s = c.before.before.before.before.before.before.before.before.before in let h = c.before.before.before.before.before.read-header in text_states s.args.states s.args.arcs _ h.result c.before.before.before.before.before.before.before.if1.false h.ensures _ c.before.before.before.header.given.1 c.if2.true
 
 returns-4 : tie.Need-returns-4
-returns-4 c = let s = c.before.before.before.before.before.before.before.before.before.before.before in let h = c.before.before.before.before.before.before.before.read-header in text-arcs s.args.states s.args.arcs _ h.result c.before.before.before.before.before.before.before.before.before.if1.false h.ensures _ c.before.before.before.before.before.header.given.1 c.before.before.if2.false c.if3.true
+returns-4 c = let s = c.before.before.before.before.before.before.before.before.before.before.before in let h = c.before.before.before.before.before.before.before.read-header in text_arcs s.args.states s.args.arcs _ h.result c.before.before.before.before.before.before.before.before.before.if1.false h.ensures _ c.before.before.before.before.before.header.given.1 c.before.before.if2.false c.if3.true
 
 judge-body-requires : tie.Need-judge-body-requires
-judge-body-requires c κs = let s = c.before.before.before.before.before.before.before.before.before.before.before in let h = c.before.before.before.before.before.before.before.read-header in let b = header-bounds s.args.states s.args.arcs s.args.text.now h.result c.before.before.before.before.before.before.before.before.before.if1.false h.ensures _ c.before.before.before.before.before.header.given.1 in (c.before.before.before.before.before.before.before.before.before.if1.false, (b.tapes_fit, b.states_fit))
+judge-body-requires c κs = let s = c.before.before.before.before.before.before.before.before.before.before.before in let h = c.before.before.before.before.before.before.before.read-header in let b = header_bounds s.args.states s.args.arcs s.args.text.now h.result c.before.before.before.before.before.before.before.before.before.if1.false h.ensures _ c.before.before.before.before.before.header.given.1 in (c.before.before.before.before.before.before.before.before.before.if1.false, (b.tapes_fit, b.states_fit))
 
 enum-known-body : tie.Need-enum-known-body
 enum-known-body c = search rules
@@ -52,7 +52,7 @@ returns-5 : tie.Need-returns-5
 returns-5 c = let s = c.before.before.before.before.before.before.before.before.before.before.before.before.before.before.before in let h = c.before.before.before.before.before.before.before.before.before.before.before.read-header in let j = c.before.before.before.judge-body in text-refused s.args.states s.args.arcs _ h.result c.before.before.before.before.before.before.before.before.before.before.before.before.before.if1.false h.ensures _ c.before.before.before.before.before.before.before.before.before.header.given.1 c.before.before.before.before.before.before.if2.false c.before.before.before.before.if3.false j.result j.ensures _ c.before.body.given.1
 
 returns-6 : tie.Need-returns-6
-returns-6 c = let s = c.before.before.before.before.before.before.before.before.before.before.before.before.before.before in let h = c.before.before.before.before.before.before.before.before.before.before.read-header in let j = c.before.before.judge-body in text-fine s.args.states s.args.arcs _ h.result c.before.before.before.before.before.before.before.before.before.before.before.before.if1.false h.ensures _ c.before.before.before.before.before.before.before.before.header.given.1 c.before.before.before.before.before.if2.false c.before.before.before.if3.false j.result j.ensures c.enum-told2.given.1
+returns-6 c = let s = c.before.before.before.before.before.before.before.before.before.before.before.before.before.before in let h = c.before.before.before.before.before.before.before.before.before.before.read-header in let j = c.before.before.judge-body in text_fine s.args.states s.args.arcs _ h.result c.before.before.before.before.before.before.before.before.before.before.before.before.if1.false h.ensures _ c.before.before.before.before.before.before.before.before.header.given.1 c.before.before.before.before.before.if2.false c.before.before.before.if3.false j.result j.ensures c.enum-told2.given.1
 
 pub judge-text-spec : {M : Type 1} → statement M
 judge-text-spec =

@@ -4,7 +4,7 @@ use native.Mathlib.Omega.{arith}
 use Prim.Native.Nat.{◌+◌, ◌*◌, ◌≤◌}
 use lib.ListN.{length, drop}
 use Rattle.text_lines.specs.Lines.{states_judged}
-use Rattle.text_lines.proofs.SequenceFacts.{states-refused, states_turn, states_done}
+use Rattle.text_lines.proofs.SequenceFacts.{states_refused, states_turn, states_done}
 use borrow.Author.Rules.{rules}
 use Rattle.text_lines.proofs.state.judge_states.Statement.{statement}
 use Rattle.text_lines.proofs.state.judge_states.Tie as tie
@@ -31,7 +31,7 @@ enum-told-2 : tie.Need-enum-told-2 invariant-loop decreases-loop
 enum-told-2 c = search rules
 
 returns : tie.Need-returns invariant-loop decreases-loop
-returns c = let l = c.before.before.before.before.loop in states-refused _ l.at l.invariant.0 l.left c.before.before.before.loop-test.true c.before.before.judge-state.result _ c.before.before.judge-state.ensures c.enum-told2.given.1 ∙ l.invariant.1
+returns c = let l = c.before.before.before.before.loop in states_refused _ l.at l.invariant.0 l.left c.before.before.before.loop-test.true c.before.before.judge-state.result _ c.before.before.judge-state.ensures c.enum-told2.given.1 ∙ l.invariant.1
 
 sub-left : tie.Need-overflow-sub-left invariant-loop decreases-loop
 sub-left c = search rules

@@ -1,6 +1,6 @@
 -- `tomchoen::c::tomchoen_build` meets its contract. Assumes nothing.
 use Rattle.tomchoen.proofs.WordFacts.{built_told}
-use Rattle.tomchoen.proofs.FitFacts.{intersect-counts}
+use Rattle.tomchoen.proofs.FitFacts.{intersect_counts}
 use borrow.Author.Rules.{rules}
 use Rattle.tomchoen.proofs.c.tomchoen_build.Statement.{statement}
 use Rattle.tomchoen.proofs.c.tomchoen_build.Tie as tie
@@ -13,7 +13,7 @@ intersect-requires : tie.Need-intersect-requires
 intersect-requires c κs = search rules
 
 table-word-requires : tie.Need-table-word-requires
-table-word-requires c κs = intersect-counts _ _ _ _ _ _ _ _ c.before.before.before.before.before.before.intersect.ensures
+table-word-requires c κs = intersect_counts _ _ _ _ _ _ _ _ c.before.before.before.before.before.before.intersect.ensures
 
 same_length : tie.Need-same-length
 same_length c = search rules

@@ -1,6 +1,6 @@
 -- `tomchoen::c::tomchoen_join` meets its contract. Assumes nothing.
 use Rattle.tomchoen.proofs.WordFacts.{joined-told}
-use Rattle.tomchoen.proofs.FitFacts.{join-counts}
+use Rattle.tomchoen.proofs.FitFacts.{join_counts}
 use borrow.Author.Rules.{rules}
 use Rattle.tomchoen.proofs.c.tomchoen_join.Statement.{statement}
 use Rattle.tomchoen.proofs.c.tomchoen_join.Tie as tie
@@ -13,7 +13,7 @@ join-requires : tie.Need-join-requires
 join-requires c κs = search rules
 
 table-word-requires : tie.Need-table-word-requires
-table-word-requires c κs = join-counts _ _ _ _ _ _ _ _ _ _ _ _ c.before.before.before.before.before.before.before.before.before.before.join.ensures
+table-word-requires c κs = join_counts _ _ _ _ _ _ _ _ _ _ _ _ c.before.before.before.before.before.before.before.before.before.before.join.ensures
 
 same_length : tie.Need-same-length
 same_length c = search rules

@@ -1,6 +1,6 @@
 -- `tomchoen::c::tomchoen_product` meets its contract. Assumes nothing.
 use Rattle.tomchoen.proofs.WordFacts.{built_told}
-use Rattle.tomchoen.proofs.FitFacts.{product-counts}
+use Rattle.tomchoen.proofs.FitFacts.{product_counts}
 use borrow.Author.Rules.{rules}
 use Rattle.tomchoen.proofs.c.tomchoen_product.Statement.{statement}
 use Rattle.tomchoen.proofs.c.tomchoen_product.Tie as tie
@@ -13,7 +13,7 @@ product-requires : tie.Need-product-requires
 product-requires c κs = search rules
 
 table-word-requires : tie.Need-table-word-requires
-table-word-requires c κs = product-counts _ _ _ _ _ _ _ _ c.before.before.before.before.before.before.product.ensures
+table-word-requires c κs = product_counts _ _ _ _ _ _ _ _ c.before.before.before.before.before.before.product.ensures
 
 same_length : tie.Need-same-length
 same_length c = search rules

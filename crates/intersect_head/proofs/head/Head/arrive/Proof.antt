@@ -1,6 +1,6 @@
 -- `intersect_head::head::Head::arrive` meets its contract. Assumes nothing.
 use Rattle.intersect_head.proofs.EntryFacts.{enter_fits}
-use Rattle.intersect_head.proofs.VisitFacts.{arrives_at, arrives-new, arrives-full}
+use Rattle.intersect_head.proofs.VisitFacts.{arrives_at, arrives_new, arrives_full}
 use borrow.Author.Rules.{rules}
 use Rattle.intersect_head.proofs.head.Head.arrive.Statement.{statement}
 use Rattle.intersect_head.proofs.head.Head.arrive.Tie as tie
@@ -40,13 +40,13 @@ same-length-2 : tie.Need-same-length-2
 same-length-2 c = search rules
 
 returns-2 : tie.Need-returns-2
-returns-2 c = let s = c.before.before.before.before.before.before.before.before.before.before.before.before.before.before.before.before in arrives-new _ _ _ _ _ s.requires.0 _ _ c.before.before.before.before.before.before.before.before.before.before.enter-config.ensures _ c.before.before.before.before.before.before.state2.given.1 _ _ c.before.before.note2.ensures
+returns-2 c = let s = c.before.before.before.before.before.before.before.before.before.before.before.before.before.before.before.before in arrives_new _ _ _ _ _ s.requires.0 _ _ c.before.before.before.before.before.before.before.before.before.before.enter-config.ensures _ c.before.before.before.before.before.before.state2.given.1 _ _ c.before.before.note2.ensures
 
 same-length-3 : tie.Need-same-length-3
 same-length-3 c = search rules
 
 returns-3 : tie.Need-returns-3
-returns-3 c = let s = c.before.before.before.before.before.before.before.before.before.before in arrives-full _ _ _ _ _ s.requires.0 _ _ c.before.before.before.before.enter-config.ensures c.enum_told.given.1
+returns-3 c = let s = c.before.before.before.before.before.before.before.before.before.before in arrives_full _ _ _ _ _ s.requires.0 _ _ c.before.before.before.before.enter-config.ensures c.enum_told.given.1
 
 pub arrive-spec : {M : Type 1} → statement M
 arrive-spec =

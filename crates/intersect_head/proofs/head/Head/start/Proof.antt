@@ -1,7 +1,7 @@
 -- `intersect_head::head::Head::start` meets its contract. Assumes nothing.
 use native.Mathlib.Omega.{arith}
 use Rattle.intersect_offers.proofs.OfferFacts.{row_length}
-use Rattle.intersect_head.proofs.StartFacts.{state-lent, state_small, starts_not, start_fits, may-admit, starts-blocked, starts-there}
+use Rattle.intersect_head.proofs.StartFacts.{state-lent, state_small, starts_not, start_fits, may_admit, starts_blocked, starts_there}
 use borrow.Author.Rules.{rules}
 use Rattle.intersect_head.proofs.head.Head.start.Statement.{statement}
 use Rattle.intersect_head.proofs.head.Head.start.Tie as tie
@@ -39,19 +39,19 @@ same_length : tie.Need-same-length
 same_length c = search rules
 
 returns-2 : tie.Need-returns-2
-returns-2 c = let s = c.before.before.before.before.before.before.before.before.before in starts-blocked _ _ _ _ _ s.requires c.before.before.before.before.before.if1.false _ c.before.before.before.before.start-row.ensures.0 _ c.before.viable-config.ensures c.if2.true
+returns-2 c = let s = c.before.before.before.before.before.before.before.before.before in starts_blocked _ _ _ _ _ s.requires c.before.before.before.before.before.if1.false _ c.before.before.before.before.start-row.ensures.0 _ c.before.viable-config.ensures c.if2.true
 
 slice-aggregate-admit : tie.Need-slice-aggregate-admit
 slice-aggregate-admit c = search rules
 
 admit-requires : tie.Need-admit-requires
-admit-requires c κs = let s = c.before.before.before.before.before.before.before.before.before.before.before in (may-admit _ _ _ _ _ s.requires c.before.before.before.before.before.before.before.if1.false _ c.before.before.before.before.before.before.start-row.ensures.0, c.before.before.before.before.before.before.start-row.ensures.1)
+admit-requires c κs = let s = c.before.before.before.before.before.before.before.before.before.before.before in (may_admit _ _ _ _ _ s.requires c.before.before.before.before.before.before.before.if1.false _ c.before.before.before.before.before.before.start-row.ensures.0, c.before.before.before.before.before.before.start-row.ensures.1)
 
 same-length-2 : tie.Need-same-length-2
 same-length-2 c = search rules
 
 returns-3 : tie.Need-returns-3
-returns-3 c = let s = c.before.before.before.before.before.before.before.before.before.before.before.before.before.before in starts-there _ _ _ _ _ s.requires c.before.before.before.before.before.before.before.before.before.before.if1.false _ c.before.before.before.before.before.before.before.before.before.start-row.ensures.0 _ c.before.before.before.before.before.before.viable-config.ensures c.before.before.before.before.before.if2.false _ _ c.before.before.admit.ensures
+returns-3 c = let s = c.before.before.before.before.before.before.before.before.before.before.before.before.before.before in starts_there _ _ _ _ _ s.requires c.before.before.before.before.before.before.before.before.before.before.if1.false _ c.before.before.before.before.before.before.before.before.before.start-row.ensures.0 _ c.before.before.before.before.before.before.viable-config.ensures c.before.before.before.before.before.if2.false _ _ c.before.before.admit.ensures
 
 pub start_spec : {M : Type 1} → statement M
 start_spec =

@@ -4,7 +4,7 @@ use Prim.Native.Nat.{◌-◌}
 use Rattle.intersect_config.specs.Configs.{config_at, Row}
 use Rattle.intersect_config.proofs.RowFacts.{length_row}
 use Rattle.intersect_offers.proofs.OfferFacts.{state_read}
-use Rattle.intersect_head.proofs.TurnFacts.{Chaining, load_fits, few_arcs, own_loaded, own_whole, state_fits, chain-begin, chain-goes, chain_next, turn-requires, turn_full, turn_end}
+use Rattle.intersect_head.proofs.TurnFacts.{Chaining, load_fits, few_arcs, own_loaded, own_whole, state_fits_lem, chain_begin, chain-goes, chain_next, turn_requires, turn_full, turn_end}
 use borrow.Author.Rules.{rules}
 use Rattle.intersect_head.proofs.head.Head.take_up.Statement.{statement}
 use Rattle.intersect_head.proofs.head.Head.take_up.Tie as tie
@@ -43,13 +43,13 @@ mul-j : tie.Need-overflow-mul-j invariant-loop decreases-loop
 mul-j c = search rules
 
 shared-slice-read-j : tie.Need-shared-slice-read-j invariant-loop decreases-loop
-shared-slice-read-j c = let s = c.before.before.before.before.before.before.before.before.before.before.before.before in omega (arith, s.requires.1.states_fit, state_fits _ _ _ _ s.requires.0 _ (own_loaded _ _ _ _ s.requires.0 _ c.before.before.before.before.load_row.ensures), (state_read _ _ c.before.get16.ensures))
+shared-slice-read-j c = let s = c.before.before.before.before.before.before.before.before.before.before.before.before in omega (arith, s.requires.1.states_fit, state_fits_lem _ _ _ _ s.requires.0 _ (own_loaded _ _ _ _ s.requires.0 _ c.before.before.before.before.load_row.ensures), (state_read _ _ c.before.get16.ensures))
 
 cast-j : tie.Need-overflow-cast-j invariant-loop decreases-loop
-cast-j c = let s = c.before.before.before.before.before.before.before.before.before.before.before.before in omega (arith, few_arcs _ _ _ _ s.requires.0, (chain-begin _ _ _ _ s.requires.0 _ (own_loaded _ _ _ _ s.requires.0 _ c.before.before.before.before.load_row.ensures) _ _ s.requires.1 _ (state_read _ _ c.before.get16.ensures)).turning.within)
+cast-j c = let s = c.before.before.before.before.before.before.before.before.before.before.before.before in omega (arith, few_arcs _ _ _ _ s.requires.0, (chain_begin _ _ _ _ s.requires.0 _ (own_loaded _ _ _ _ s.requires.0 _ c.before.before.before.before.load_row.ensures) _ _ s.requires.1 _ (state_read _ _ c.before.get16.ensures)).turning.within)
 
 loop-holds : tie.Need-loop-init invariant-loop decreases-loop
-loop-holds c = let s = c.before.before.before.before.before.before.before.before.before.before.before.before in (chain-begin _ _ _ _ s.requires.0 _ (own_loaded _ _ _ _ s.requires.0 _ c.before.before.before.before.load_row.ensures) _ _ s.requires.1 _ (state_read _ _ c.before.get16.ensures), record { good = c.before.before.before.start-row.ensures.0.good _; bytes = c.before.before.before.start-row.ensures.1 })
+loop-holds c = let s = c.before.before.before.before.before.before.before.before.before.before.before.before in (chain_begin _ _ _ _ s.requires.0 _ (own_loaded _ _ _ _ s.requires.0 _ c.before.before.before.before.load_row.ensures) _ _ s.requires.1 _ (state_read _ _ c.before.get16.ensures), record { good = c.before.before.before.start-row.ensures.0.good _; bytes = c.before.before.before.start-row.ensures.1 })
 
 slice-aggregate-visit : tie.Need-slice-aggregate-visit invariant-loop decreases-loop
 slice-aggregate-visit c = search rules
@@ -58,7 +58,7 @@ slice-aggregate-visit-2 : tie.Need-slice-aggregate-visit-2 invariant-loop decrea
 slice-aggregate-visit-2 c = let l = length_row _ _ c.before.before.before.before.loop.invariant.1 in search (rules, l)
 
 visit-requires : tie.Need-visit-requires invariant-loop decreases-loop
-visit-requires c κs = let s = c.before.before.before.before.before.before.before.before.before.before.before.before.before.before.before.before.before.before in (turn-requires _ _ _ _ s.requires.0 _ (own_loaded _ _ _ _ s.requires.0 _ c.before.before.before.before.before.before.before.before.before.before.load_row.ensures) _ _ _ c.before.before.before.before.before.loop.invariant.0.turning c.before.before.before.if1.true, own_whole _ _ _ _ s.requires.0 _ c.before.before.before.before.before.before.before.before.before.before.load_row.ensures, c.before.before.before.before.before.loop.invariant.1)
+visit-requires c κs = let s = c.before.before.before.before.before.before.before.before.before.before.before.before.before.before.before.before.before.before in (turn_requires _ _ _ _ s.requires.0 _ (own_loaded _ _ _ _ s.requires.0 _ c.before.before.before.before.before.before.before.before.before.before.load_row.ensures) _ _ _ c.before.before.before.before.before.loop.invariant.0.turning c.before.before.before.if1.true, own_whole _ _ _ _ s.requires.0 _ c.before.before.before.before.before.before.before.before.before.before.load_row.ensures, c.before.before.before.before.before.loop.invariant.1)
 
 same_length : tie.Need-same-length invariant-loop decreases-loop
 same_length c = search rules

@@ -1,5 +1,5 @@
 -- `product_search::head::Head::after_first` meets its contract. Assumes nothing.
-use Rattle.product_search.proofs.EndFacts.{first-over, first-stays, first_ends}
+use Rattle.product_search.proofs.EndFacts.{first-over, first_stays, first_ends}
 use borrow.Author.Rules.{rules}
 use Rattle.product_search.proofs.head.Head.after_first.Statement.{statement}
 use Rattle.product_search.proofs.head.Head.after_first.Tie as tie
@@ -15,7 +15,7 @@ may-end-requires : tie.Need-may-end-requires
 may-end-requires c κs = search rules
 
 returns-2 : tie.Need-returns-2
-returns-2 c = let s = c.before.before.before.before.before.before.before.before in first-stays _ _ _ _ _ _ _ s.requires.0 _ c.before.may-end.ensures c.if2.true
+returns-2 c = let s = c.before.before.before.before.before.before.before.before in first_stays _ _ _ _ _ _ _ s.requires.0 _ c.before.may-end.ensures c.if2.true
 
 pass-second-requires : tie.Need-pass-second-requires
 pass-second-requires c κs = search rules

@@ -1,5 +1,5 @@
 -- `product_search::head::Head::arrive` meets its contract. Assumes nothing.
-use Rattle.product_search.proofs.ArriveFacts.{arrives_at, arrives-new, arrives-full}
+use Rattle.product_search.proofs.ArriveFacts.{arrives_at, arrives_new, arrives_full}
 use borrow.Author.Rules.{rules}
 use Rattle.product_search.proofs.head.Head.arrive.Statement.{statement}
 use Rattle.product_search.proofs.head.Head.arrive.Tie as tie
@@ -42,13 +42,13 @@ same-length-2 : tie.Need-same-length-2
 same-length-2 c = search rules
 
 returns-2 : tie.Need-returns-2
-returns-2 c = let s = c.before.before.before.before.before.before.before.before.before.before.before.before.before in arrives-new _ _ _ _ _ _ s.requires.0 s.requires.1 (search rules) (search rules) _ _ c.before.before.before.before.before.before.before.before.before.before.enter-vertex.ensures _ c.before.before.before.before.before.before.state2.given.1 _ c.before.before.before.note2.ensures
+returns-2 c = let s = c.before.before.before.before.before.before.before.before.before.before.before.before.before in arrives_new _ _ _ _ _ _ s.requires.0 s.requires.1 (search rules) (search rules) _ _ c.before.before.before.before.before.before.before.before.before.before.enter-vertex.ensures _ c.before.before.before.before.before.before.state2.given.1 _ c.before.before.before.note2.ensures
 
 same-length-3 : tie.Need-same-length-3
 same-length-3 c = search rules
 
 returns-3 : tie.Need-returns-3
-returns-3 c = let s = c.before.before.before.before.before.before.before.before in arrives-full _ _ _ _ _ _ s.requires.0 s.requires.1 (search rules) (search rules) _ _ c.before.before.before.before.before.enter-vertex.ensures c.before.enum_told.given.1
+returns-3 c = let s = c.before.before.before.before.before.before.before.before in arrives_full _ _ _ _ _ _ s.requires.0 s.requires.1 (search rules) (search rules) _ _ c.before.before.before.before.before.enter-vertex.ensures c.before.enum_told.given.1
 
 pub arrive-spec : {M : Type 1} → statement M
 arrive-spec =

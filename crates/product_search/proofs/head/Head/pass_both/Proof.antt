@@ -2,7 +2,7 @@
 use native.Mathlib.Omega.{arith}
 use Prim.Native.Nat.{◌-◌}
 use Rattle.table_adjacency.proofs.ChainFacts.{heads}
-use Rattle.product_search.proofs.BothFacts.{PassingBoth, both-start, both-requires, both-goes, both-bound, both-next, both-full, both_end}
+use Rattle.product_search.proofs.BothFacts.{PassingBoth, both-start, both_requires, both-goes, both_bound, both-next, both_full, both_end}
 use borrow.Author.Rules.{rules}
 use Rattle.product_search.proofs.head.Head.pass_both.Statement.{statement}
 use Rattle.product_search.proofs.head.Head.pass_both.Tie as tie
@@ -24,13 +24,13 @@ loop-holds : tie.Need-loop-init invariant-loop decreases-loop
 loop-holds c = let s = c.before.before.before.before.before.before.before.before.before in both-start _ _ _ _ _ _ _ _ _ _ s.requires.0 s.requires.2 s.requires.3 s.requires.4 s.requires.1 _ c.first-arc.ensures
 
 try-both-requires : tie.Need-try-both-requires invariant-loop decreases-loop
-try-both-requires c κs = let s = c.before.before.before.before.before.before.before.before.before.before.before.before.before in both-requires _ _ _ _ _ _ _ _ _ _ s.requires.0 s.requires.2 s.requires.3 s.requires.4 _ _ _ c.before.before.before.loop.invariant c.before.if1.true
+try-both-requires c κs = let s = c.before.before.before.before.before.before.before.before.before.before.before.before.before in both_requires _ _ _ _ _ _ _ _ _ _ s.requires.0 s.requires.2 s.requires.3 s.requires.4 _ _ _ c.before.before.before.loop.invariant c.before.if1.true
 
 same_length : tie.Need-same-length invariant-loop decreases-loop
 same_length c = search rules
 
 returns : tie.Need-returns invariant-loop decreases-loop
-returns c = let s = c.before.before.before.before.before.before.before.before.before.before.before.before.before.before.before.before.before in both-full _ _ _ _ _ _ _ _ _ _ s.requires.0 s.requires.2 s.requires.3 s.requires.4 _ _ _ c.before.before.before.before.before.before.before.loop.invariant c.before.before.before.before.before.if1.true _ _ c.before.before.before.try-both.ensures c.if2.true
+returns c = let s = c.before.before.before.before.before.before.before.before.before.before.before.before.before.before.before.before.before in both_full _ _ _ _ _ _ _ _ _ _ s.requires.0 s.requires.2 s.requires.3 s.requires.4 _ _ _ c.before.before.before.before.before.before.before.loop.invariant c.before.before.before.before.before.if1.true _ _ c.before.before.before.try-both.ensures c.if2.true
 
 mul-i : tie.Need-overflow-mul-i invariant-loop decreases-loop
 mul-i c = let s = c.before.before.before.before.before.before.before.before.before.before.before.before.before.before.before.before.before in omega (arith, s.requires.2.few, c.before.before.before.before.before.if1.true)
@@ -39,7 +39,7 @@ shared-slice-read-i : tie.Need-shared-slice-read-i invariant-loop decreases-loop
 shared-slice-read-i c = let s = c.before.before.before.before.before.before.before.before.before.before.before.before.before.before.before.before.before.before in omega (arith, s.requires.4.first.arcs_fit, c.before.before.before.before.before.before.if1.true)
 
 cast-i : tie.Need-overflow-cast-i invariant-loop decreases-loop
-cast-i c = let s = c.before.before.before.before.before.before.before.before.before.before.before.before.before.before.before.before.before.before in omega (arith, both-bound _ _ _ _ _ _ _ _ _ _ s.requires.0 s.requires.2 s.requires.3 s.requires.4 _ _ _ c.before.before.before.before.before.before.before.before.loop.invariant c.before.before.before.before.before.before.if1.true)
+cast-i c = let s = c.before.before.before.before.before.before.before.before.before.before.before.before.before.before.before.before.before.before in omega (arith, both_bound _ _ _ _ _ _ _ _ _ _ s.requires.0 s.requires.2 s.requires.3 s.requires.4 _ _ _ c.before.before.before.before.before.before.before.before.loop.invariant c.before.before.before.before.before.before.if1.true)
 
 loop-less : tie.Need-loop-smaller invariant-loop decreases-loop
 loop-less c = let s = c.before.before.before.before.before.before.before.before.before.before.before.before.before.before.before.before.before.before in omega (arith, c.before.before.before.before.before.before.if1.true, both-goes _ _ _ _ _ _ _ _ _ _ s.requires.0 s.requires.2 s.requires.3 s.requires.4 _ _ _ c.before.before.before.before.before.before.before.before.loop.invariant c.before.before.before.before.before.before.if1.true)

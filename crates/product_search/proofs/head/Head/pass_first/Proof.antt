@@ -2,7 +2,7 @@
 use native.Mathlib.Omega.{arith}
 use Prim.Native.Nat.{◌-◌}
 use Rattle.table_adjacency.proofs.ChainFacts.{heads}
-use Rattle.product_search.proofs.FirstFacts.{PassingFirst, first-start, first-requires, first_goes, first-bound, first_next, first-full, first-end}
+use Rattle.product_search.proofs.FirstFacts.{PassingFirst, first-start, first_requires, first_goes, first_bound, first_next, first_full, first_end}
 use borrow.Author.Rules.{rules}
 use Rattle.product_search.proofs.head.Head.pass_first.Statement.{statement}
 use Rattle.product_search.proofs.head.Head.pass_first.Tie as tie
@@ -24,13 +24,13 @@ loop-holds : tie.Need-loop-init invariant-loop decreases-loop
 loop-holds c = let s = c.before.before.before.before.before.before in first-start _ _ _ _ _ _ _ s.requires.0 s.requires.2 s.requires.3 s.requires.1 _ c.first-arc.ensures
 
 try-first-requires : tie.Need-try-first-requires invariant-loop decreases-loop
-try-first-requires c κs = let s = c.before.before.before.before.before.before.before.before.before.before in first-requires _ _ _ _ _ _ _ s.requires.0 s.requires.2 s.requires.3 _ _ _ c.before.before.before.loop.invariant c.before.if1.true
+try-first-requires c κs = let s = c.before.before.before.before.before.before.before.before.before.before in first_requires _ _ _ _ _ _ _ s.requires.0 s.requires.2 s.requires.3 _ _ _ c.before.before.before.loop.invariant c.before.if1.true
 
 same_length : tie.Need-same-length invariant-loop decreases-loop
 same_length c = search rules
 
 returns : tie.Need-returns invariant-loop decreases-loop
-returns c = let s = c.before.before.before.before.before.before.before.before.before.before.before.before.before.before in first-full _ _ _ _ _ _ _ s.requires.0 s.requires.2 s.requires.3 _ _ _ c.before.before.before.before.before.before.before.loop.invariant c.before.before.before.before.before.if1.true _ _ c.before.before.before.try-first.ensures c.if2.true
+returns c = let s = c.before.before.before.before.before.before.before.before.before.before.before.before.before.before in first_full _ _ _ _ _ _ _ s.requires.0 s.requires.2 s.requires.3 _ _ _ c.before.before.before.before.before.before.before.loop.invariant c.before.before.before.before.before.if1.true _ _ c.before.before.before.try-first.ensures c.if2.true
 
 mul-i : tie.Need-overflow-mul-i invariant-loop decreases-loop
 mul-i c = let s = c.before.before.before.before.before.before.before.before.before.before.before.before.before.before in omega (arith, s.requires.2.few, c.before.before.before.before.before.if1.true)
@@ -39,7 +39,7 @@ shared-slice-read-i : tie.Need-shared-slice-read-i invariant-loop decreases-loop
 shared-slice-read-i c = let s = c.before.before.before.before.before.before.before.before.before.before.before.before.before.before.before in omega (arith, s.requires.3.arcs_fit, c.before.before.before.before.before.before.if1.true)
 
 cast-i : tie.Need-overflow-cast-i invariant-loop decreases-loop
-cast-i c = let s = c.before.before.before.before.before.before.before.before.before.before.before.before.before.before.before in omega (arith, first-bound _ _ _ _ _ _ _ s.requires.0 s.requires.2 s.requires.3 _ _ _ c.before.before.before.before.before.before.before.before.loop.invariant c.before.before.before.before.before.before.if1.true)
+cast-i c = let s = c.before.before.before.before.before.before.before.before.before.before.before.before.before.before.before in omega (arith, first_bound _ _ _ _ _ _ _ s.requires.0 s.requires.2 s.requires.3 _ _ _ c.before.before.before.before.before.before.before.before.loop.invariant c.before.before.before.before.before.before.if1.true)
 
 loop-less : tie.Need-loop-smaller invariant-loop decreases-loop
 loop-less c = let s = c.before.before.before.before.before.before.before.before.before.before.before.before.before.before.before in omega (arith, c.before.before.before.before.before.before.if1.true, first_goes _ _ _ _ _ _ _ s.requires.0 s.requires.2 s.requires.3 _ _ _ c.before.before.before.before.before.before.before.before.loop.invariant c.before.before.before.before.before.before.if1.true)
@@ -51,7 +51,7 @@ same-length-2 : tie.Need-same-length-2 invariant-loop decreases-loop
 same-length-2 c = search rules
 
 returns-2 : tie.Need-returns-2 invariant-loop decreases-loop
-returns-2 c = let s = c.before.before.before.before.before.before.before.before.before in first-end _ _ _ _ _ _ _ s.requires.0 s.requires.2 s.requires.3 _ _ _ c.before.before.loop.invariant c.if1.false
+returns-2 c = let s = c.before.before.before.before.before.before.before.before.before in first_end _ _ _ _ _ _ _ s.requires.0 s.requires.2 s.requires.3 _ _ _ c.before.before.loop.invariant c.if1.false
 
 pub pass-first-spec : {M : Type 1} → statement M
 pass-first-spec =

@@ -2,7 +2,7 @@
 use native.Mathlib.Omega.{arith}
 use Prim.Native.Nat.{◌-◌}
 use Rattle.table_adjacency.proofs.ChainFacts.{heads}
-use Rattle.product_search.proofs.SecondFacts.{PassingSecond, second_start, second-requires, second-goes, second-bound, second-next, second-full, second_end}
+use Rattle.product_search.proofs.SecondFacts.{PassingSecond, second_start, second_requires, second_goes, second_bound, second_next, second_full, second_end}
 use borrow.Author.Rules.{rules}
 use Rattle.product_search.proofs.head.Head.pass_second.Statement.{statement}
 use Rattle.product_search.proofs.head.Head.pass_second.Tie as tie
@@ -24,13 +24,13 @@ loop-holds : tie.Need-loop-init invariant-loop decreases-loop
 loop-holds c = let s = c.before.before.before.before.before.before in second_start _ _ _ _ _ _ _ _ _ s.requires.0 s.requires.2 s.requires.3 s.requires.1 _ c.first-arc.ensures
 
 try-second-requires : tie.Need-try-second-requires invariant-loop decreases-loop
-try-second-requires c κs = let s = c.before.before.before.before.before.before.before.before.before.before in second-requires _ _ _ _ _ _ _ _ _ s.requires.0 s.requires.2 s.requires.3 _ _ _ c.before.before.before.loop.invariant c.before.if1.true
+try-second-requires c κs = let s = c.before.before.before.before.before.before.before.before.before.before in second_requires _ _ _ _ _ _ _ _ _ s.requires.0 s.requires.2 s.requires.3 _ _ _ c.before.before.before.loop.invariant c.before.if1.true
 
 same_length : tie.Need-same-length invariant-loop decreases-loop
 same_length c = search rules
 
 returns : tie.Need-returns invariant-loop decreases-loop
-returns c = let s = c.before.before.before.before.before.before.before.before.before.before.before.before.before.before in second-full _ _ _ _ _ _ _ _ _ s.requires.0 s.requires.2 s.requires.3 _ _ _ c.before.before.before.before.before.before.before.loop.invariant c.before.before.before.before.before.if1.true _ _ c.before.before.before.try-second.ensures c.if2.true
+returns c = let s = c.before.before.before.before.before.before.before.before.before.before.before.before.before.before in second_full _ _ _ _ _ _ _ _ _ s.requires.0 s.requires.2 s.requires.3 _ _ _ c.before.before.before.before.before.before.before.loop.invariant c.before.before.before.before.before.if1.true _ _ c.before.before.before.try-second.ensures c.if2.true
 
 mul-j : tie.Need-overflow-mul-j invariant-loop decreases-loop
 mul-j c = let s = c.before.before.before.before.before.before.before.before.before.before.before.before.before.before in omega (arith, s.requires.2.few, c.before.before.before.before.before.if1.true)
@@ -39,13 +39,13 @@ shared-slice-read-j : tie.Need-shared-slice-read-j invariant-loop decreases-loop
 shared-slice-read-j c = let s = c.before.before.before.before.before.before.before.before.before.before.before.before.before.before.before in omega (arith, s.requires.3.arcs_fit, c.before.before.before.before.before.before.if1.true)
 
 cast-j : tie.Need-overflow-cast-j invariant-loop decreases-loop
-cast-j c = let s = c.before.before.before.before.before.before.before.before.before.before.before.before.before.before.before in omega (arith, second-bound _ _ _ _ _ _ _ _ _ s.requires.0 s.requires.2 s.requires.3 _ _ _ c.before.before.before.before.before.before.before.before.loop.invariant c.before.before.before.before.before.before.if1.true)
+cast-j c = let s = c.before.before.before.before.before.before.before.before.before.before.before.before.before.before.before in omega (arith, second_bound _ _ _ _ _ _ _ _ _ s.requires.0 s.requires.2 s.requires.3 _ _ _ c.before.before.before.before.before.before.before.before.loop.invariant c.before.before.before.before.before.before.if1.true)
 
 loop-less : tie.Need-loop-smaller invariant-loop decreases-loop
-loop-less c = let s = c.before.before.before.before.before.before.before.before.before.before.before.before.before.before.before in omega (arith, c.before.before.before.before.before.before.if1.true, second-goes _ _ _ _ _ _ _ _ _ s.requires.0 s.requires.2 s.requires.3 _ _ _ c.before.before.before.before.before.before.before.before.loop.invariant c.before.before.before.before.before.before.if1.true)
+loop-less c = let s = c.before.before.before.before.before.before.before.before.before.before.before.before.before.before.before in omega (arith, c.before.before.before.before.before.before.if1.true, second_goes _ _ _ _ _ _ _ _ _ s.requires.0 s.requires.2 s.requires.3 _ _ _ c.before.before.before.before.before.before.before.before.loop.invariant c.before.before.before.before.before.before.if1.true)
 
 loop-again : tie.Need-loop-preserved invariant-loop decreases-loop
-loop-again c = let s = c.before.before.before.before.before.before.before.before.before.before.before.before.before.before.before in second-next _ _ _ _ _ _ _ _ _ s.requires.0 s.requires.2 s.requires.3 _ _ _ c.before.before.before.before.before.before.before.before.loop.invariant c.before.before.before.before.before.before.if1.true _ _ c.before.before.before.before.try-second.ensures c.before.if2.false
+loop-again c = let s = c.before.before.before.before.before.before.before.before.before.before.before.before.before.before.before in second_next _ _ _ _ _ _ _ _ _ s.requires.0 s.requires.2 s.requires.3 _ _ _ c.before.before.before.before.before.before.before.before.loop.invariant c.before.before.before.before.before.before.if1.true _ _ c.before.before.before.before.try-second.ensures c.before.if2.false
 
 same-length-2 : tie.Need-same-length-2 invariant-loop decreases-loop
 same-length-2 c = search rules

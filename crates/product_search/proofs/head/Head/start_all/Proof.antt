@@ -1,6 +1,6 @@
 -- `product_search::head::Head::start_all` meets its contract. Assumes nothing.
 use Prim.Native.Nat.{◌-◌}
-use Rattle.product_search.proofs.StartFacts.{StartingAll, all_start, all-requires, all-next, all-full, all_end}
+use Rattle.product_search.proofs.StartFacts.{StartingAll, all_start, all_requires, all-next, all_full, all_end}
 use borrow.Author.Rules.{rules}
 use Rattle.product_search.proofs.head.Head.start_all.Statement.{statement}
 use Rattle.product_search.proofs.head.Head.start_all.Tie as tie
@@ -18,13 +18,13 @@ loop-holds : tie.Need-loop-init invariant-loop decreases-loop
 loop-holds c = let s = c.before.before.before in all_start _ _ _ _ _ s.requires.0 s.requires.2 s.requires.1
 
 start-one-requires : tie.Need-start-one-requires invariant-loop decreases-loop
-start-one-requires c κs = let s = c.before.before.before.before.before.before.before in all-requires _ _ _ _ _ s.requires.0 s.requires.2 _ _ _ c.before.before.before.loop.invariant c.before.if1.true
+start-one-requires c κs = let s = c.before.before.before.before.before.before.before in all_requires _ _ _ _ _ s.requires.0 s.requires.2 _ _ _ c.before.before.before.loop.invariant c.before.if1.true
 
 same_length : tie.Need-same-length invariant-loop decreases-loop
 same_length c = search rules
 
 returns : tie.Need-returns invariant-loop decreases-loop
-returns c = let s = c.before.before.before.before.before.before.before.before.before.before.before in all-full _ _ _ _ _ s.requires.0 s.requires.2 _ _ _ c.before.before.before.before.before.before.before.loop.invariant c.before.before.before.before.before.if1.true _ _ c.before.before.before.start-one.ensures c.if2.true
+returns c = let s = c.before.before.before.before.before.before.before.before.before.before.before in all_full _ _ _ _ _ s.requires.0 s.requires.2 _ _ _ c.before.before.before.before.before.before.before.loop.invariant c.before.before.before.before.before.if1.true _ _ c.before.before.before.start-one.ensures c.if2.true
 
 add-q : tie.Need-overflow-add-q invariant-loop decreases-loop
 add-q c = search rules

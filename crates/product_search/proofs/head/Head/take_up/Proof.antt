@@ -1,6 +1,6 @@
 -- `product_search::head::Head::take_up` meets its contract. Assumes nothing.
 use native.Mathlib.Omega.{arith}
-use Rattle.product_search.proofs.TakeFacts.{take-over}
+use Rattle.product_search.proofs.TakeFacts.{take_over}
 use borrow.Author.Rules.{rules}
 use Rattle.product_search.proofs.head.Head.take_up.Statement.{statement}
 use Rattle.product_search.proofs.head.Head.take_up.Tie as tie
@@ -29,7 +29,7 @@ same_length : tie.Need-same-length
 same_length c = search rules
 
 returns : tie.Need-returns
-returns c = let s = c.before.before.before.before.before.before.before.before.before.before.before.before.before.before.before.before.before in take-over _ _ _ _ _ _ _ _ _ _ _ s.requires.0 s.requires.1 s.requires.2 s.requires.3 _ c.before.before.before.before.before.load-vertex.ensures _ c.before.before.before.before.moves_out.ensures c.before.if1.true
+returns c = let s = c.before.before.before.before.before.before.before.before.before.before.before.before.before.before.before.before.before in take_over _ _ _ _ _ _ _ _ _ _ _ s.requires.0 s.requires.1 s.requires.2 s.requires.3 _ c.before.before.before.before.before.load-vertex.ensures _ c.before.before.before.before.moves_out.ensures c.before.if1.true
 
 lead-on-requires : tie.Need-lead-on-requires
 lead-on-requires c κs = let s = c.before.before.before.before.before.before.before.before.before.before.before.before.before.before.before.before.before in (s.requires.0, s.requires.1, s.requires.2, s.requires.3, c.before.before.before.before.before.load-vertex.ensures)
