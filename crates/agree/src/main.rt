@@ -1,6 +1,8 @@
 // The program `agree`: the pair line and the table from standard input, the table of the accounts that agree, or the
 // refusal, to standard output. All that matters is `agree_text`; one byte more than the longest input is read, so that
 // a longer one is known.
+#![tactic(auto)]
+
 use agree_text::agree_text;
 use agree_text::keep::OUTPUT_LENT;
 

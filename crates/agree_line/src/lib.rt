@@ -1,3 +1,5 @@
 // The pair line of the program agree.
+#![tactic(auto)]
+
 pub mod line;
 pub mod pair;

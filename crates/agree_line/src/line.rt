@@ -14,14 +14,14 @@ use text_columns::decimal::{Number, read_decimal};
 use text_columns::label::line_end;
 
 // The number of pairs and the place behind the line.
-#[derive(Drop)]
+#[derive(Clone, Copy)]
 pub struct LineParts {
     pub count: usize,
     pub next: usize,
 }
 
 // A first line, or its refusal.
-#[derive(Drop)]
+#[derive(Clone, Copy)]
 pub enum PairLine {
     Line(LineParts),
     Refused(Refusal),

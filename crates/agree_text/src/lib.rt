@@ -1,4 +1,6 @@
 // The text of the program `agree`: the first line of its input, and the line of a refusal.
+#![tactic(auto)]
+
 pub mod keep;
 
 ghost use Rattle.std.specs.Prelude.{◌≤◌, length};

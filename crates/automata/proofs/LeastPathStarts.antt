@@ -14,7 +14,7 @@ use Rattle.automata.specs.Lexicographic.{lex_cases, lex_first}
 use Rattle.automata.specs.Least.{plus, Least}
 use Rattle.automata.specs.Graph.{Within}
 use Rattle.automata.specs.Automaton.{Tuple, Automaton, graph, size, initial_of}
-use Rattle.automata.specs.Paths.{Trace, weight}
+use Rattle.automata.specs.Paths.{Trace}
 use Rattle.automata.specs.TraceOrder.{Before}
 use Rattle.automata.specs.Lookup.{lookup, arcs_enough}
 use Rattle.automata.specs.LeastPath.{counting, at_most, least_onward, from_start, follow, lowest_start, still, counted, Account, path_from, least_path}

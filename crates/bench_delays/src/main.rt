@@ -1,5 +1,7 @@
 // The closing delays of two large tables, 1,024 states and some 8,190 arcs each, on four pairs in both directions: a
 // program to time. It prints the delays of state 0 on the first pair, and on it turned round.
+#![tactic(auto)]
+
 ghost use Rattle.std.specs.Prelude.{◌≡◌, true, false, ◌+◌, ◌*◌, ◌≤◌, length};
 ghost use Rattle.delays_relaxation.specs.Edges.{edges, Joined, Readable};
 ghost use Rattle.automata.specs.Layout.{arc_size, state_size};

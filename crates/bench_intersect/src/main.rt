@@ -1,5 +1,7 @@
 // A build of 1,000 configurations and 7,992 arcs, or, where standard input begins with h, of half the size: a program
 // to time. It prints the counts of the table that was built.
+#![tactic(auto)]
+
 ghost use Rattle.std.specs.Prelude.{◌≡◌, ◌+◌, ◌*◌, ◌≤◌, length};
 ghost use Rattle.automata.specs.Layout.{arc_size, config_size, delays_size, state_size, step_size};
 

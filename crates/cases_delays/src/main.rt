@@ -1,6 +1,8 @@
 // Prints the closing delays of small tables: of each state the least delay, the least of the pair turned round (which
 // is the greatest, negated), and whether a final state is reached. Each is worked out by hand beside its table; a delay
 // is the number of symbols that a path to a final state spells on the pair's first tape, less that on its second.
+#![tactic(auto)]
+
 ghost use Rattle.std.specs.Prelude.{◌≡◌, ◌+◌, ◌*◌, ◌≤◌, length};
 ghost use Rattle.automata.specs.Memory.{Sound};
 ghost use Rattle.automata.specs.Layout.{arc_size, delays_size};

@@ -1,6 +1,8 @@
 // Lists of pairs, judged for an auto-intersection, for a forecast and for a join: each line is an answer with the pairs
 // by value, each with its limit, for a join also as they are named in the product. The lists stand in the file `stdin`,
 // in the form that the crate `cases` reads.
+#![tactic(auto)]
+
 ghost use Rattle.std.specs.Prelude.{◌+◌, ◌≤◌, ◌<◌};
 
 use cases::input::{bytes, next, number};

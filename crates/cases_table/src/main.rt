@@ -1,5 +1,7 @@
 // Judges tables in memory, one of each kind of fault, and prints a line for each: the number of the case and of the
 // answer, 0 where the table is accepted. What is expected, worked out from document 01, stands beside each case.
+#![tactic(auto)]
+
 mod sample;
 
 use sample::{ARCS_END, ARCS_LENT, STATES_END, STATES_LENT, changed_arcs, changed_states};

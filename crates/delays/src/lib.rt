@@ -1,5 +1,6 @@
 // The closing delays of all pairs in a region of the work space, and the test for viable configurations that reads
 // them.
+#![tactic(auto)]
 
 ghost use Rattle.std.specs.Prelude.{◌≡◌, ◌+◌, ◌*◌, ◌≤◌, ◌<◌, length, get_or};
 ghost use Rattle.automata.specs.Closing.{with_delay≤};

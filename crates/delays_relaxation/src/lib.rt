@@ -1,5 +1,7 @@
 // Closing delays by relaxation over a table in memory. One vector of the work space holds the delays; rounds read and
 // write it in place, from the last arc to the first.
+#![tactic(auto)]
+
 pub mod cycles;
 pub mod listing;
 pub mod places;
@@ -20,7 +22,7 @@ use table::bytes::{get16, put16};
 use table::layout::{ARC_SIZE, DELAYS_SIZE, FINAL_PLACE, STATE_SIZE};
 
 // An arc as relaxation reads it: its states, and the lengths of its labels on two tapes.
-#[derive(Drop)]
+#[derive(Clone, Copy)]
 pub struct Edge {
     pub source: u16,
     pub target: u16,

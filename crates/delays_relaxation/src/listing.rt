@@ -9,7 +9,7 @@ use table::arc::{source_at, target_at};
 use table::layout::{ABSENT, ARC_SIZE, FINAL_PLACE, STATE_SIZE};
 
 // How far the search is: the states on its stack, and the places of the list that are free, which are the first.
-#[derive(Drop)]
+#[derive(Clone, Copy)]
 pub struct Search {
     pub depth: usize,
     pub free: usize,

@@ -1,6 +1,8 @@
 // The program `draw`: the text of a table, or an input of `agree`, from standard input, and to standard output a graph
 // for Graphviz: a node for each state with its weights, an edge for each arc with its labels and its weight. A refusal
 // is a graph of one node.
+#![tactic(auto)]
+
 mod graph;
 
 use crate::graph::draw_input;

@@ -1,4 +1,5 @@
 // What a forecast of space counts: in the work space, where each state has 64 bytes, and in the arc records.
+#![tactic(auto)]
 
 ghost use Rattle.std.specs.Prelude.{◌≡◌, false, ◌+◌, ◌*◌, ◌≤◌, ◌<◌, [], map, eqb, length, get_or};
 ghost use Rattle.automata.specs.Lists.{if};

@@ -1,4 +1,6 @@
 // Forecasts by value, and in lent bytes for callers in C.
+#![tactic(auto)]
+
 ghost use Rattle.std.specs.Prelude.{◌≡◌, ◌+◌, ◌*◌, ◌≤◌, length};
 ghost use Rattle.automata.specs.Calls.Forecast.{forecast_size, forecast_parts, forecast_record, forecast_records};
 ghost use Rattle.automata.specs.Calls.Outcome.{overwrite};
@@ -18,7 +20,7 @@ const OVER: u16 = 2;
 const MIXED: u16 = 3;
 
 // What a build on a pair of tapes can need. A mixed pair has neither delay nor number, and one that is over no number.
-#[derive(Drop)]
+#[derive(Clone, Copy)]
 pub struct Forecast {
     pub mixed: bool,
     pub over: bool,
@@ -27,14 +29,14 @@ pub struct Forecast {
 }
 
 // The forecasts of a call: the first `used` of four.
-#[derive(Drop)]
+#[derive(Clone, Copy)]
 pub struct ForecastList {
     pub forecasts: [Forecast; 4],
     pub used: usize,
 }
 
 // What a call that forecasts answers: a refusal, or, where there is none, a forecast for each pair.
-#[derive(Drop)]
+#[derive(Clone, Copy)]
 pub struct ForecastAnswer {
     pub judged: Judged,
     pub told: ForecastList,

@@ -9,7 +9,7 @@ use table::judge::judge;
 use table::pair::PairList;
 
 // The first refusal, and where there is none the pairs by value and the parts of the work space.
-#[derive(Drop)]
+#[derive(Clone, Copy)]
 pub struct Prepared {
     pub judged: Judged,
     pub pairs: PairList,

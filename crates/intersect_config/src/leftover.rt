@@ -15,7 +15,7 @@ const LEFTOVER_ROOM: usize = 72;
 pub const LEFTOVER_SIZE: usize = 74;
 
 // What one tape has in advance of the other: `len` symbols of the second tape or of the first, 0 past them.
-#[derive(Drop)]
+#[derive(Clone, Copy)]
 pub struct Leftover {
     pub second: bool,
     pub len: u8,
@@ -23,7 +23,7 @@ pub struct Leftover {
 }
 
 // What an arc leaves of a pair of tapes, if they are still compatible.
-#[derive(Drop)]
+#[derive(Clone, Copy)]
 pub struct Advanced {
     pub compatible: bool,
     pub leftover: Leftover,

@@ -7,7 +7,7 @@ use search_rows::Reached;
 use table::bytes::{get16, put16};
 
 // The numbers of its configurations, and of the arc of the input table that it follows.
-#[derive(Drop)]
+#[derive(Clone, Copy)]
 pub struct EdgeRecord {
     pub from: Reached,
     pub arc: u16,

@@ -21,7 +21,7 @@ use table::record::InputState;
 
 // How many configurations were taken up and how many reached, how many arcs there are between them, whether a step was
 // too long, and whether there were more configurations than there is room for.
-#[derive(Drop)]
+#[derive(Clone, Copy)]
 pub struct Head {
     pub taken: usize,
     pub reached: usize,

@@ -14,7 +14,7 @@ use table::layout::ARC_SIZE;
 use table::record::InputState;
 
 // No step, a compatible and viable step that is too long, or a step to a successor.
-#[derive(Drop)]
+#[derive(Clone, Copy)]
 pub enum Kind {
     Nothing,
     Late,

@@ -4,7 +4,7 @@ use table::answer::Counts;
 use table::pair::PairList;
 
 // The counts of the table read, the pairs of tapes that are to agree, with their limits, and the parts of work space.
-#[derive(Drop)]
+#[derive(Clone, Copy)]
 pub struct Plan {
     pub counts: Counts,
     pub pairs: PairList,

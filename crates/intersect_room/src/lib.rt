@@ -1,2 +1,4 @@
 // The work space of a build: how it is divided.
+#![tactic(auto)]
+
 pub mod room;

@@ -5,7 +5,7 @@ ghost use Rattle.intersect_room.specs.Room.{RoomFor};
 use table::layout::{CONFIG_SIZE, DELAYS_SIZE, STEP_SIZE};
 
 // The most configurations and arcs, and where the records of arcs and the closing delays begin.
-#[derive(Drop)]
+#[derive(Clone, Copy)]
 pub struct Room {
     pub states: usize,
     pub arcs: usize,
@@ -14,7 +14,7 @@ pub struct Room {
 }
 
 // The room, if the work space is as long as needed.
-#[derive(Drop)]
+#[derive(Clone, Copy)]
 pub struct RoomAnswer {
     pub enough: bool,
     pub room: Room,

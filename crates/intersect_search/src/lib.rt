@@ -1,2 +1,4 @@
 // The search over the configurations of the auto-intersection that are reached, in work space.
+#![tactic(auto)]
+
 pub mod explore;

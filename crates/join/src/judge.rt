@@ -45,7 +45,7 @@ fn in_turn(first: Judged, second: Judged, narrow: bool, pairs: Judged, enough: b
 }
 
 // The first refusal, and where there is none the room of the build.
-#[derive(Drop)]
+#[derive(Clone, Copy)]
 pub struct Prepared {
     pub judged: Judged,
     pub room: Room,

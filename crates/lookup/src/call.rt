@@ -17,7 +17,7 @@ use table::bytes::zero;
 const CELL: usize = 8;
 
 // What the call answers: the weight, none, or a refusal.
-#[derive(Drop)]
+#[derive(Clone, Copy)]
 pub enum WeightAnswer {
     Weight(u64),
     Nothing,

@@ -1,3 +1,5 @@
 // The weight of a tuple as it is called.
+#![tactic(auto)]
+
 pub mod call;
 pub mod judge;

@@ -1,7 +1,7 @@
 // What the search for the least weight of a tuple answers.
 
 // The weight, or none.
-#[derive(Drop)]
+#[derive(Clone, Copy)]
 pub enum Weight64 {
     Sum(u64),
     Nothing,

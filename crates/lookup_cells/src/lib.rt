@@ -1,5 +1,7 @@
 // The least weight of a tuple, by shortest distances on cells: one for each state and combination of positions in the
 // strings.
+#![tactic(auto)]
+
 pub mod answer;
 pub mod chain;
 pub mod ends;

@@ -1,5 +1,7 @@
 // Numbers for the labels of arcs: arcs with the same number have the same labels, so that what is found out of one
 // holds of the other. An arc whose labels got no number has 65,535.
+#![tactic(auto)]
+
 ghost use Rattle.std.specs.Prelude.{◌≡◌, true, ◌+◌, ◌*◌, ◌≤◌, ◌<◌, min, length};
 ghost use Rattle.table.specs.Region.{part};
 ghost use Rattle.lookup_labels.specs.Numbers.{words_at, Numbers, Numbered};

@@ -10,7 +10,7 @@ use table::arc::labels_start;
 use table::layout::{LABEL_SIZE, SYMBOLS_PLACE};
 
 // How far the number of a combination moves, or that the labels do not end there.
-#[derive(Drop)]
+#[derive(Clone, Copy)]
 pub enum Step {
     Moved(usize),
     Stuck,

@@ -7,7 +7,7 @@ use lookup_tuple::Strings;
 
 // The position in each string, and its place in the text; the number of combinations in the strings behind each; the
 // number of this combination, and of all.
-#[derive(Drop)]
+#[derive(Clone, Copy)]
 pub struct Spot {
     pub starts: [usize; 8],
     pub positions: [usize; 8],
@@ -17,7 +17,7 @@ pub struct Spot {
 }
 
 // How many combinations of positions there are in the strings behind each, and in all.
-#[derive(Drop)]
+#[derive(Clone, Copy)]
 pub struct Spans {
     pub spans: [usize; 8],
     pub all: usize,

@@ -8,7 +8,7 @@ use crate::line::{LineCount, count_lines, line_end, sizes_fit, symbols_fit};
 use table::answer::{Judged, Refusal};
 
 // The first refusal, and where there is none the strings by their places.
-#[derive(Drop)]
+#[derive(Clone, Copy)]
 pub struct TupleJudged {
     pub judged: Judged,
     pub strings: Strings,

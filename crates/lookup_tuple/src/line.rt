@@ -26,7 +26,7 @@ pub fn line_end(text: &[u8], from: usize) -> usize
 }
 
 // How many lines a text has, where it ends with one.
-#[derive(Drop)]
+#[derive(Clone, Copy)]
 pub enum LineCount {
     Lines(usize),
     Unended,

@@ -1,5 +1,7 @@
 // Lists of pairs of tapes as they are lent, three bytes a pair: judged over the whole list, and read into an array of
 // four by value. The tests on pairs by value serve lists lent as records, too.
+#![tactic(auto)]
+
 ghost use Rattle.std.specs.Prelude.{◌≡◌, true, map, ◌+◌, ◌≤◌, ◌<◌, eqb, leb, get_or, take};
 ghost use Rattle.automata.specs.Limits.{max_pairs};
 ghost use Rattle.automata.specs.Lists.{and, any};
@@ -200,7 +202,7 @@ fn limits_fit(list: PairList) -> bool
 }
 
 // A judgement of a list of pairs, and the pairs by value where there is no refusal.
-#[derive(Drop)]
+#[derive(Clone, Copy)]
 pub struct PairsJudged {
     pub judged: Judged,
     pub pairs: PairList,

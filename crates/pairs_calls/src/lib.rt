@@ -1,4 +1,6 @@
 // The calls that take pairs of tapes, over pairs lent as records.
+#![tactic(auto)]
+
 ghost use Rattle.std.specs.Prelude.{◌≡◌, map};
 ghost use Rattle.automata.specs.Calls.Outcome.{built_of, joined_of, slices_of};
 ghost use Rattle.automata.specs.Calls.Intersect.{intersect_outcome};

@@ -1,4 +1,6 @@
 // The forecast over pairs of tapes that are lent as records.
+#![tactic(auto)]
+
 ghost use Rattle.std.specs.Prelude.{◌≡◌, map};
 ghost use Rattle.automata.specs.TapePair.{tapes_of};
 ghost use Rattle.automata.specs.Calls.Forecast.{foretold_of, forecast_outcome};

@@ -1,4 +1,6 @@
 // Lists of pairs of tapes lent as records: each pair looked at, the first four read by value, and the list judged.
+#![tactic(auto)]
+
 ghost use Rattle.std.specs.Prelude.{◌≡◌, map, get_or};
 ghost use Rattle.automata.specs.Lists.{and};
 ghost use Rattle.automata.specs.TapePair.{tapes_of};

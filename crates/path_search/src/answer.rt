@@ -2,7 +2,7 @@
 use table::answer::Refusal;
 
 // The weight, the starting state of the path and its number of arcs.
-#[derive(Drop)]
+#[derive(Clone, Copy)]
 pub struct PathTold {
     pub weight: u64,
     pub start: usize,
@@ -10,7 +10,7 @@ pub struct PathTold {
 }
 
 // A path, none, or a refusal.
-#[derive(Drop)]
+#[derive(Clone, Copy)]
 pub enum PathAnswer {
     Path(PathTold),
     Nothing,
@@ -18,14 +18,14 @@ pub enum PathAnswer {
 }
 
 // A cell, or none.
-#[derive(Drop)]
+#[derive(Clone, Copy)]
 pub enum Reached {
     Cell(usize),
     Nowhere,
 }
 
 // The cell at which the search ended, and how many cells it found.
-#[derive(Drop)]
+#[derive(Clone, Copy)]
 pub struct Searched {
     pub end: Reached,
     pub found: usize,

@@ -1,4 +1,6 @@
 // The aligned product as it is called.
+#![tactic(auto)]
+
 pub mod call;
 pub mod finish;
 pub mod prepare;

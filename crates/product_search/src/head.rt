@@ -19,7 +19,7 @@ use table_adjacency::first_arc;
 
 // How many states were taken up and how many reached, how many arcs there are between them, and whether the search was
 // given up: there were more states than there is room for, or more arcs than are looked for.
-#[derive(Drop)]
+#[derive(Clone, Copy)]
 pub struct Head {
     pub taken: usize,
     pub reached: usize,

@@ -3,7 +3,7 @@ use table::answer::Counts;
 
 // The counts of both tables read, the most states and arcs that there is room for, where the records of moves begin in
 // the work space, and how many moves are looked for: the search is given up with one more.
-#[derive(Drop)]
+#[derive(Clone, Copy)]
 pub struct Plan {
     pub first: Counts,
     pub second: Counts,

@@ -21,14 +21,14 @@ pub const ENDED: u16 = 65535;
 pub const NO_ARC: u16 = 65535;
 
 // A state of the product: an input state on each side, `ENDED` where that side's path has ended.
-#[derive(Drop)]
+#[derive(Clone, Copy)]
 pub struct Vertex {
     pub first: InputState,
     pub second: InputState,
 }
 
 // A move between two of them: the number of the arc that each side follows, `NO_ARC` where that side's path has ended.
-#[derive(Drop)]
+#[derive(Clone, Copy)]
 pub struct Move {
     pub from: Reached,
     pub first: u16,

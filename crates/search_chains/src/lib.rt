@@ -2,6 +2,8 @@
 // head of the chain with the row's number, and the record's successor in its own chain. A link is the number of a
 // record and one, or 0 where the chain ends. Document 01: "the same configuration is one state, however often it is
 // reached".
+#![tactic(auto)]
+
 ghost use Rattle.std.specs.Prelude.{◌≡◌, ◌+◌, ◌*◌, ◌/◌, ◌≤◌, ◌<◌, length};
 ghost use Rattle.table.specs.Region.{part};
 ghost use Rattle.table.specs.Endian.{le};
@@ -14,7 +16,7 @@ use table::bytes::{copy_into, get16, get64, put16};
 
 // How records are compared, part by part: the first `head` bytes are the first part; the others stand `pitch` bytes
 // apart behind it, and the second byte of each tells how many bytes of it count behind these two.
-#[derive(Drop)]
+#[derive(Clone, Copy)]
 pub struct Shape {
     pub head: usize,
     pub pitch: usize,

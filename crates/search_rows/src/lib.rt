@@ -1,4 +1,6 @@
 // What searching and entering a record answer, and a record kept where there is room for it.
+#![tactic(auto)]
+
 ghost use Rattle.std.specs.Prelude.{◌≡◌, ◌+◌, ◌*◌, ◌≤◌, ◌<◌, length};
 ghost use Rattle.search_rows.specs.Kept.{stored_within};
 ghost use Rattle.automata.specs.Layout.{step_size};
@@ -7,11 +9,11 @@ use table::bytes::copy_into;
 use table::layout::STEP_SIZE;
 
 // The number of a record among those that a search has reached, in the order reached.
-#[derive(Drop)]
+#[derive(Clone, Copy)]
 pub struct Reached(pub u16);
 
 // What entering a record came to: it stood there already, it is new, or there is no room for it.
-#[derive(Drop)]
+#[derive(Clone, Copy)]
 pub enum Entered {
     At(Reached),
     New(Reached),
@@ -19,7 +21,7 @@ pub enum Entered {
 }
 
 // What a search came to.
-#[derive(Drop)]
+#[derive(Clone, Copy)]
 pub enum Found {
     At(Reached),
     Nothing,

@@ -4,7 +4,7 @@ ghost use Rattle.automata.specs.Answer.{forget, beside};
 ghost use Rattle.table.specs.Answers.{refusal_number, judged_as};
 
 // The refusals of document 01's list, in its order, numbers 1 to 13, and 14 of document 02 (request 2.3).
-#[derive(Drop)]
+#[derive(Clone, Copy)]
 pub enum Refusal {
     Short,
     Form,
@@ -45,7 +45,7 @@ pub fn refusal_number(r: Refusal) -> u8
 }
 
 // Nothing but whether there is a refusal, and which.
-#[derive(Drop)]
+#[derive(Clone, Copy)]
 pub enum Judged {
     Fine,
     Refused(Refusal),
@@ -69,7 +69,7 @@ pub fn both(a: Judged, b: Judged) -> Judged
 }
 
 // How many tapes, states and arcs a table has.
-#[derive(Drop)]
+#[derive(Clone, Copy)]
 pub struct Counts {
     pub tapes: usize,
     pub states: usize,
@@ -77,7 +77,7 @@ pub struct Counts {
 }
 
 // What a call that makes a table answers: its counts, or a refusal.
-#[derive(Drop)]
+#[derive(Clone, Copy)]
 pub enum TableAnswer {
     Table(Counts),
     Refused(Refusal),

@@ -7,7 +7,7 @@ pub const PAIR: usize = 3;
 pub const MAX_LIMIT: u8 = 64;
 
 // Two tapes, counted from 1, and the longest leftover allowed between them.
-#[derive(Drop)]
+#[derive(Clone, Copy)]
 pub struct Pair {
     pub first: u8,
     pub second: u8,
@@ -15,7 +15,7 @@ pub struct Pair {
 }
 
 // The pairs of a call: the first `used` of four.
-#[derive(Drop)]
+#[derive(Clone, Copy)]
 pub struct PairList {
     pub pairs: [Pair; 4],
     pub used: usize,

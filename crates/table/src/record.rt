@@ -9,29 +9,29 @@ use crate::bytes::{get32, put32};
 use crate::layout::{ABSENT, AMOUNT_PLACE, FINAL_PLACE, PRESENT};
 
 // The number of a state of a table that is read.
-#[derive(Drop)]
+#[derive(Clone, Copy)]
 pub struct InputState(pub u16);
 
 // The number of a state of a table that is made.
-#[derive(Drop)]
+#[derive(Clone, Copy)]
 pub struct ResultState(pub u16);
 
 // An initial or a final weight.
-#[derive(Drop)]
+#[derive(Clone, Copy)]
 pub enum Weight {
     Absent,
     Present(u32),
 }
 
 // A state: its initial and its final weight.
-#[derive(Drop)]
+#[derive(Clone, Copy)]
 pub struct State {
     pub initial: Weight,
     pub last: Weight,
 }
 
 // A label on one tape: its length, and its symbols as text bytes, 0 past the length.
-#[derive(Drop)]
+#[derive(Clone, Copy)]
 pub struct Label {
     pub len: u8,
     pub symbols: [u8; 8],

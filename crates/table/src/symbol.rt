@@ -22,7 +22,7 @@ const SYMBOL_NUMBERS: [u8; 256] = [
 ];
 
 // The number of a byte's symbol, if it is one.
-#[derive(Drop)]
+#[derive(Clone, Copy)]
 pub enum SymbolNumber {
     Symbol(u8),
     NoSymbol,

@@ -1,5 +1,7 @@
 // The arcs of a table by their sources: the first arc of each state, and for each arc the next one that leaves the same
 // state.
+#![tactic(auto)]
+
 pub mod distinct;
 
 ghost use Rattle.std.specs.Prelude.{◌≡◌, length, replicate};

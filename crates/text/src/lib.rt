@@ -1,4 +1,5 @@
 // The text of a table: read into the records of a table in memory, and written from them.
+#![tactic(auto)]
 
 ghost use Rattle.std.specs.Prelude.{◌≡◌, ◌+◌, ◌*◌, ◌≤◌};
 ghost use Rattle.automata.specs.Calls.Outcome.{slices_of, made_of};
@@ -50,7 +51,7 @@ pub fn read(text: &[u8], states: &mut [u8], arcs: &mut [u8]) -> TableAnswer
 }
 
 // What the call `write` answers: the number of bytes written, or a refusal.
-#[derive(Drop)]
+#[derive(Clone, Copy)]
 pub enum WriteAnswer {
     Bytes(usize),
     Refused(Refusal),

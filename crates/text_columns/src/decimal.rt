@@ -11,7 +11,7 @@ ghost use Rattle.text_columns.specs.Columns.{number_as, number_of, last_column, 
 use table::answer::{Judged, Refusal};
 
 // A number read from its columns, or a refusal.
-#[derive(Drop)]
+#[derive(Clone, Copy)]
 pub enum Number {
     Value(usize),
     Refused(Refusal),

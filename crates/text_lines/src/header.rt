@@ -32,7 +32,7 @@ fn judge_counts(columns: Judged, tapes: usize, states: usize, arcs: usize) -> Ju
 }
 
 // The counts read from a header, or its refusal.
-#[derive(Drop)]
+#[derive(Clone, Copy)]
 pub enum HeaderLine {
     Counts(Counts),
     Refused(Refusal),

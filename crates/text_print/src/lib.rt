@@ -1,2 +1,4 @@
 // The text of a table printed from its records.
+#![tactic(auto)]
+
 pub mod print;

@@ -1,2 +1,4 @@
 // The records of a table stored from its text.
+#![tactic(auto)]
+
 pub mod store;

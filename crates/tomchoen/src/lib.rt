@@ -1,4 +1,6 @@
 // The library: every public call, for Rattle under one roof and for C as functions on numbers and byte slices.
+#![tactic(auto)]
+
 pub mod c;
 
 pub use forecast_records::{Forecast, ForecastAnswer, ForecastList};
