@@ -3,6 +3,6 @@
 # time grows when the input doubles.
 set -e
 cd "$(dirname "$0")/.."
-rt check agree >/dev/null
+tools/build.sh agree >/dev/null
 cargo build --release --offline --quiet --manifest-path tests/Cargo.toml
 tests/target/release/bench_agree target/bin/agree tests/target/release/agree_reference

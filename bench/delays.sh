@@ -1,6 +1,6 @@
 #!/usr/bin/env bash
-# Times the closing delays of two large tables. `rt check bench_delays` proves and builds the program first.
+# Times the closing delays of two large tables. `tools/build.sh bench_delays` proves and builds the program first.
 set -e
 cd "$(dirname "$0")/.."
-rt check bench_delays >/dev/null
+tools/build.sh bench_delays >/dev/null
 time target/bin/bench_delays

@@ -1,7 +1,7 @@
 #!/usr/bin/env bash
-# Times a build of 1,000 configurations and 7,992 arcs, and one of half the size. `rt check bench_intersect` proves and builds the program first.
+# Times a build of 1,000 configurations and 7,992 arcs, and one of half the size. `tools/build.sh bench_intersect` proves and builds the program first.
 set -e
 cd "$(dirname "$0")/.."
-rt check bench_intersect >/dev/null
+tools/build.sh bench_intersect >/dev/null
 time target/bin/bench_intersect </dev/null
 time printf h | target/bin/bench_intersect

@@ -3,6 +3,6 @@
 # the library's time grows with the input.
 set -e
 cd "$(dirname "$0")/.."
-rt staticlib tomchoen >/dev/null
+tools/build.sh tomchoen >/dev/null
 cargo build --release --offline --quiet --manifest-path tests/library/Cargo.toml
 tests/library/target/release/bench

@@ -3,6 +3,6 @@
 # microseconds of both, their ratio, and how the time of a path grows with the input.
 set -e
 cd "$(dirname "$0")/.."
-rt staticlib tomchoen >/dev/null
+tools/build.sh tomchoen >/dev/null
 cargo build --release --offline --quiet --manifest-path tests/library/Cargo.toml
 tests/library/target/release/bench_paths

@@ -4,7 +4,7 @@
 #     [DESTDIR=FOLDER] tools/install.sh PREFIX
 #
 # PREFIX is where the files will be found (/usr/local, say); with DESTDIR they are put below that folder instead, for a
-# package. `rt staticlib tomchoen` makes the library first. Files that stand there already are replaced. Exit status: 0
+# package. `tools/build.sh tomchoen` makes the library first. Files that stand there already are replaced. Exit status: 0
 # installed, 1 something is missing or cannot be written, 2 wrong usage.
 set -eu
 
@@ -21,7 +21,7 @@ prefix=${1%/}
 
 root=$(cd "$(dirname "$0")/.." && pwd)
 library=$root/target/staticlib/libtomchoen.a
-[ -f "$library" ] || stop 1 "$library is not there: run 'rt staticlib tomchoen' first"
+[ -f "$library" ] || stop 1 "$library is not there: run 'tools/build.sh tomchoen' first"
 place=${DESTDIR:-}$prefix
 docs=$place/share/doc/tomchoen
 

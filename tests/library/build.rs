@@ -1,4 +1,4 @@
-//! Links the static library that `rt staticlib tomchoen` wrote.
+//! Links the static library that `tools/build.sh tomchoen` wrote.
 
 use std::path::Path;
 

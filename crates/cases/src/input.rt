@@ -12,7 +12,7 @@ use table::layout::{ARC_SIZE, STATE_SIZE};
 pub const NO_NUMBER: usize = 99999999;
 
 // A line that is being read: how many numbers are still to pass, the digits just read, and whether the number is found.
-#[derive(Drop)]
+#[derive(Clone, Copy)]
 struct Scan {
     left: usize,
     inside: bool,

@@ -6,11 +6,10 @@ use mathlib.Core.Bool.{Bool, true, false, not}
 use mathlib.Core.List.{List}
 use native.Mathlib.Omega.{arith}
 use native.Mathlib.Decide.{ℕ_discrete}
-use lib.Dec.{eqb, leb}
-use lib.ListN.{length, get_or}
+use lib.Dec.{leb}
+use lib.ListN.{get_or}
 use Rattle.table.specs.Region.{part}
 use Rattle.table.specs.Endian.{le}
-use Rattle.automata.specs.Lists.{or}
 use Rattle.automata.specs.Closing.{with_delay≤}
 use Rattle.automata.proofs.TestFacts.{eqb_false}
 use Rattle.automata.specs.Layout.{pair_delays, opposite_place, reaching_place}

@@ -6,7 +6,7 @@ use native.Mathlib.Decide.{dec_lt}
 use native.Mathlib.Omega.{arith}
 use Rattle.automata.specs.Lists.{All}
 use lib.Dec.{eqb}
-use lib.ListN.{length, get_or, drop, replicate, get_or-replicate}
+use lib.ListN.{length, get_or, get_or-replicate}
 use lib.Seq.{ext_get_or, get_or-drop}
 use Rattle.table.specs.Region.{part}
 use Rattle.table.specs.Endian.{le}

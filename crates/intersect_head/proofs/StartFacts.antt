@@ -1,5 +1,5 @@
 -- The configurations in which paths start, from what the calls answer and leave.
-use Prim.Native.Nat.{ℕ, ◌+◌, ◌-◌, ◌*◌, ◌≤◌, ◌<◌}
+use Prim.Native.Nat.{ℕ, ◌+◌, ◌*◌, ◌≤◌, ◌<◌}
 use mathlib.Core.Path.{◌≡◌, refl, sym, ap, ap₂, ◌∙◌, subst}
 use mathlib.Core.Bool.{Bool, true, false, not}
 use mathlib.Core.Option.{Option, none, some}
@@ -123,7 +123,7 @@ module _ (p : Plan) (h : Head) (states : List ℕ) (q : ℕ) (v : List ℕ) (k :
   used = p.pairs.used
 
   pub state-lent : state_size * q + state_size ≤ length states
-  state-lent = omega (arith, states_lent_lem p states k.arcs (length v) k.explorable, k.state_fits)
+  state-lent = omega (arith, states_lent p states k.arcs (length v) k.explorable, k.state_fits)
 
   pub state_small : q < 1024
   state_small = omega (arith, states_few p states k.arcs (length v) k.explorable, k.state_fits)

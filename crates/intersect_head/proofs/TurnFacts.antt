@@ -280,7 +280,7 @@ module _ (p : Plan) (h : Head) (arcs : List ℕ) (v : List ℕ) (q : Takable p h
     module _ (first next : List ℕ) (x : Chained p.counts.states p.counts.arcs arcs first next) where
       -- the first arc of the chain
       chain-start : Chaining p h arcs v d h v (get_or first d.state.0 0)
-      chain-start = to-first h v 0 (get_or first d.state.0 0) turn_start (first-arc p.counts.states p.counts.arcs arcs first next x d.state.0 state_fits_lem)
+      chain-start = to-first h v 0 (get_or first d.state.0 0) turn_start (first-arc p.counts.states p.counts.arcs arcs first next x d.state.0 state_fits)
 
       -- found by the state's number
       pub chain_begin : (q : ℕ) → q ≡ d.state.0 → Chaining p h arcs v d h v (get_or first q 0)

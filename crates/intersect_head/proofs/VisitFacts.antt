@@ -1,5 +1,5 @@
 -- What an arc comes to, from what the calls answer and leave.
-use Prim.Native.Nat.{ℕ, ◌+◌, ◌-◌, ◌≤◌, ◌<◌}
+use Prim.Native.Nat.{ℕ, ◌+◌, ◌≤◌, ◌<◌}
 use mathlib.Core.Path.{◌≡◌, refl, sym, ap, ◌∙◌, subst}
 use mathlib.Core.Bool.{Bool, true, false}
 use mathlib.Core.Option.{some}
@@ -11,7 +11,7 @@ use Rattle.automata.specs.Automaton.{Arc}
 use Rattle.automata.specs.Config as automata
 use Rattle.automata.specs.Config.{same_config}
 use Rattle.automata.specs.Explore.{insert, index_of}
-use Rattle.automata.specs.Offer.{Offer, late, to, is_late, offer}
+use Rattle.automata.specs.Offer.{Offer, is_late, offer}
 use Rattle.automata.specs.Search.{note}
 use Rattle.automata.proofs.TestFacts
 use Rattle.automata.proofs.AppendFacts.{or-none}

@@ -1,5 +1,5 @@
 -- What an arc offers a configuration, from what the calls answer.
-use Prim.Native.Nat.{ℕ, ◌+◌, ◌-◌, ◌*◌, ◌≤◌, ◌<◌}
+use Prim.Native.Nat.{ℕ, ◌+◌, ◌*◌, ◌≤◌, ◌<◌}
 use mathlib.Core.Path.{◌≡◌, refl, sym, ap, ◌∙◌, subst}
 use mathlib.Core.Bool.{Bool, true, false, not}
 use mathlib.Core.Option.{Option, none, some, map, some-injective}
@@ -182,13 +182,13 @@ module _ (p : Plan) (c : Config) (arcs : List ℕ) (j : ℕ) (w : List ℕ) (o :
           omega (arith, s, t)
 
       pub viable_fits : (used ≤ 4) × (GoodConfig used r.config) × (p.room.delays + delays_size * r.config.state.0 + delays_size ≤ length w)
-      viable_fits = (used_four, f.good, omega (arith, state_fits_lem, o.explorable.delays_fit))
+      viable_fits = (used_four, f.good, omega (arith, state_fits, o.explorable.delays_fit))
 
       module _ (b : Bool) (t : TellsViable p.room.delays used r.config w b) where
         -- the test is the definition's
         tested : (states : List ℕ) → Explorable p states arcs (length w) → HoldsClosing (tables_in p states arcs) p.room.delays p.counts.states w
             → b ≡ viable_in p states arcs (config_as used r.config)
-        tested states ex hc = t (tables_in p states arcs) p.counts.states hc ex.delays_fit state_fits_lem
+        tested states ex hc = t (tables_in p states arcs) p.counts.states hc ex.delays_fit state_fits
             (length_closings (lent p.counts states arcs) p.pairs (omega (arith, ex.named.used_fit, ex.four_pairs)))
 
         -- nothing, where it is not viable
@@ -240,7 +240,7 @@ module _ (p : Plan) (c : Config) (arcs : List ℕ) (j : ℕ) (w : List ℕ) (o :
           pub offers_to : l ≡ false → Offers p c arcs j w (record { kind = To; config = r.config })
           offers_to z = record {
             good = f.good;
-            stored = λ k. stored_form used p.counts.states r.config used_four f.good state_fits_lem
+            stored = λ k. stored_form used p.counts.states r.config used_four f.good state_fits
                 (not_long used (pairs_in p) r.config used_four f.good count_pairs o.explorable.within_limits (sym long-is ∙ z));
             meaning = λ states a ex hc g. ap (λ (y : Bool). if y late (to (config_as used r.config))) (sym z) ∙ offered_by states a ex hc g;
           }

@@ -33,7 +33,7 @@ use Rattle.intersect_trim.specs.Rows.{final_byte, Within}
 use Rattle.intersect_trim.specs.Result.{kept_states, kept_arcs, ArcsWithin, ArcsWritten}
 use Rattle.intersect_trim.specs.Model.{EdgeOf, result_of}
 use Rattle.intersect_trim.proofs.StateModel.{finals_model}
-use Rattle.intersect_trim.proofs.Meaning.{within_states, within_arcs, joins, states_fit_lem, arcs_fit, result_put}
+use Rattle.intersect_trim.proofs.Meaning.{within_states, within_arcs, joins, states_fit, arcs_fit, result_put}
 use Rattle.intersect_room.specs.declared.room.Room.{Room}
 use Rattle.intersect_offers.specs.declared.plan.Plan.{Plan}
 use Rattle.intersect_head.specs.declared.head.Head.{Head}
@@ -87,7 +87,7 @@ module _ (m : Memory) (s : Sound m) (ps : List TapePair) (v : Config → Bool) (
     pub states_room : length (kept_states m.state_bytes (take hd.reached marks) (rows 0 config_size hd.reached w)) ≤ state_size * hd.reached
     states_room =
         subst (λ (k : ℕ). length (kept_states m.state_bytes (take k marks) (rows 0 config_size k w)) ≤ state_size * k) (sym p.many)
-        (states_fit_lem m s cs es room.edges (length es) w p.placed p.held all_fit joined marks ranks kept numbers)
+        (states_fit m s cs es room.edges (length es) w p.placed p.held all_fit joined marks ranks kept numbers)
 
     -- and those of the hd.arcs between them no more than those of all edges
     pub arcs_room : length (kept_arcs marks ranks m.arc_bytes (edges_at room.edges hd.arcs w)) ≤ arc_size * hd.arcs

@@ -3,12 +3,10 @@ use mathlib.Core.Path.{◌≡◌, sym, ◌∙◌}
 use mathlib.Core.Bool.{true, false, true≢false}
 use Prim.Native.Nat.{ℕ, ◌+◌, ◌-◌, ◌*◌, ◌/◌, ◌≤◌, ◌<◌, min}
 use native.Mathlib.Omega.{arith}
-use lib.Dec.{leb}
 use borrow.Author.Tests.{le-leb, lt-leb}
 use Rattle.automata.specs.Calls.Work.{build_work}
 use Rattle.automata.specs.Layout.{config_size, delays_size, step_size}
 use Rattle.intersect_room.specs.Room.{lent_space, RoomFor}
-use Rattle.intersect_room.specs.declared.room.Room.{Room}
 use Rattle.intersect_room.specs.declared.room.RoomAnswer.{RoomAnswer}
 
 module _ (states arcs read work : ℕ) (r : RoomAnswer) where

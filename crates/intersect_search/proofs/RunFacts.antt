@@ -1,5 +1,5 @@
 -- All configurations that are reached, taken up one after the other.
-use Prim.Native.Nat.{ℕ, zero, suc, ◌-◌, ◌*◌, ◌≤◌, ◌<◌}
+use Prim.Native.Nat.{ℕ, zero, suc, ◌*◌, ◌≤◌, ◌<◌}
 use mathlib.Core.Path.{◌≡◌, refl, sym, ◌∙◌, subst}
 use mathlib.Core.Bool.{Bool, true, false}
 use mathlib.Core.List.{List}
@@ -9,7 +9,6 @@ use Rattle.automata.specs.Lists.{any, or}
 use Rattle.automata.specs.Automaton.{Arc}
 use Rattle.automata.specs.Config as automata
 use Rattle.automata.specs.Config.{same_config}
-use Rattle.automata.specs.Explore.{reached}
 use Rattle.automata.specs.Offer.{late_up_to}
 use Rattle.automata.specs.Search.{searched}
 use Rattle.automata.specs.Intersect.{starts, out, reached_configs, delayed}

@@ -1,5 +1,5 @@
 -- What the edges and their records mean: the arcs of the result.
-use Prim.Native.Nat.{ℕ, suc, ◌+◌, ◌-◌, ◌*◌, ◌<◌, ◌≤◌}
+use Prim.Native.Nat.{ℕ, suc, ◌+◌, ◌*◌, ◌<◌, ◌≤◌}
 use mathlib.Core.Path.{◌≡◌, refl, sym, ap, ap₂, ◌∙◌}
 use mathlib.Core.Bool.{Bool, true, false}
 use mathlib.Core.Option.{some}
@@ -16,7 +16,7 @@ use Rattle.automata.specs.Config.{Config}
 use Rattle.automata.specs.Memory.{Memory, Sound, Holds, table_of, arc_record, label_records, encode_arcs}
 use Rattle.automata.specs.Table.{WellFormed, WellFormedArc}
 use Rattle.automata.specs.Explore.{Edge}
-use Rattle.automata.specs.Trim.{rank, both_marked, ranked, kept_edges}
+use Rattle.automata.specs.Trim.{both_marked, ranked, kept_edges}
 use Rattle.automata.specs.Intersect.{arc_of}
 use Rattle.automata.proofs.ListFacts
 use Rattle.automata.proofs.RecordFacts.{All_at}

@@ -13,7 +13,7 @@ use Rattle.automata.specs.Automaton.{Arc, Automaton}
 use Rattle.automata.specs.Config.{Config}
 use Rattle.automata.specs.Memory.{Memory, Sound, table_of, encode_states, encode_arcs}
 use Rattle.automata.specs.Explore.{Edge}
-use Rattle.automata.specs.Trim.{at_marks, rank, kept_edges}
+use Rattle.automata.specs.Trim.{at_marks, kept_edges}
 use Rattle.automata.specs.Intersect.{state_of, arc_of}
 use Rattle.automata.specs.Calls.Outcome.{overwrite, put, made_of, slices_of}
 use Rattle.automata.proofs.RankFacts.{length_at_marks, rank-le}

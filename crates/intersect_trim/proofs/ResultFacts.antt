@@ -1,13 +1,12 @@
 -- The records of the result, written one after the other.
-use Prim.Native.Nat.{ℕ, zero, suc, ◌+◌, ◌-◌, ◌*◌, ◌<◌, ◌≤◌}
+use Prim.Native.Nat.{ℕ, suc, ◌+◌, ◌-◌, ◌*◌, ◌<◌, ◌≤◌}
 use mathlib.Core.Path.{◌≡◌, refl, sym, ap, ap₂, ◌∙◌}
 use mathlib.Core.Bool.{Bool, true, false}
 use mathlib.Core.Logic.{◌≢◌}
 use mathlib.Core.List.{List, [], ◌∷◌, ◌++◌}
 use native.Mathlib.Omega.{arith}
-use lib.Dec.{eqb}
 use lib.ListN.{length, get_or, take, drop, length-append}
-use Rattle.automata.specs.Lists.{if, filter, All}
+use Rattle.automata.specs.Lists.{if, filter}
 use Rattle.automata.specs.Records.{write_all}
 use Rattle.automata.specs.Memory.{zeros}
 use Rattle.automata.specs.Trim.{at_marks}

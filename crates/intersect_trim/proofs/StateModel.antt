@@ -1,5 +1,5 @@
 -- What the rows and their records mean: the marks of accepting configurations, and the states of the result.
-use Prim.Native.Nat.{ℕ, zero, suc, ◌+◌, ◌-◌, ◌*◌, ◌<◌, ◌≤◌}
+use Prim.Native.Nat.{ℕ, zero, suc, ◌+◌, ◌*◌, ◌<◌, ◌≤◌}
 use mathlib.Core.Path.{◌≡◌, refl, sym, ap, ap₂, ◌∙◌}
 use mathlib.Core.Bool.{Bool, true, false}
 use mathlib.Core.Option.{Option, none, some}
@@ -8,7 +8,7 @@ use native.Mathlib.Omega.{arith}
 use lib.Dec.{eqb}
 use lib.ListN.{length, get_or, get_elem?, take, drop}
 use lib.Seq.{get_or-take, get_or-drop}
-use Rattle.automata.specs.Lists.{if, and, all, All, guard, is_some}
+use Rattle.automata.specs.Lists.{if, and, all, guard, is_some}
 use Rattle.automata.specs.Records.{write_all}
 use Rattle.automata.specs.Automaton.{State, Arc, Automaton, final_of}
 use Rattle.automata.specs.Leftover.{Leftover, nothing, same_leftover}
@@ -24,7 +24,7 @@ use Rattle.automata.proofs.MemoryFacts.{state_field, length_encode_states}
 use Rattle.automata.specs.Layout.{state_size, final_place}
 use Rattle.intersect_config.specs.Leftovers.{leftover_size}
 use Rattle.table.specs.Region.{part}
-use Rattle.table.specs.Endian.{le, to_le}
+use Rattle.table.specs.Endian.{le}
 use Rattle.table.proofs.EndianFacts.{le-to_le}
 use Rattle.intersect_edges.specs.Marked.{bit, is_mark, bits, bools}
 use Rattle.intersect_trim.specs.Rows.{row_state, plain_from, row_plain, final_byte, Within, RowOf, RowsOf}

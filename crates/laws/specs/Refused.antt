@@ -22,7 +22,7 @@ use Rattle.automata.specs.IntersectCall.{named}
 use Rattle.automata.specs.Product.{Vertex, product_system, initials_from, all_pairs, cross_product}
 use Rattle.automata.specs.TableText.{write_table}
 use Rattle.automata.specs.Join.{Lent}
-use Rattle.automata.specs.Calls.Work.{lookup_work, path_work, enough}
+use Rattle.automata.specs.Calls.Work.{lookup_work, path_work}
 use Rattle.automata.specs.Calls.Lookup.{lines}
 use Rattle.automata.specs.Calls.LeastPath.{places_in}
 

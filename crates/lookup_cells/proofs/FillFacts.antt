@@ -18,7 +18,7 @@ use Rattle.automata.proofs.WellFormedFacts.{well_formed, weights_bounded}
 use Rattle.table.specs.Answers.{lent}
 use Rattle.table.specs.Records.{arc_at, content_at}
 use Rattle.table.specs.declared.answer.Counts.{Counts}
-use Rattle.table.proofs.SoundFacts.{states_lent_lem, arcs_lent_lem, few_states, few_arcs, arc_target}
+use Rattle.table.proofs.SoundFacts.{states_lent, arcs_lent, few_states, few_arcs, arc_target}
 use Rattle.automata.specs.Cells.{place}
 use Rattle.automata.specs.Layout.{arc_size}
 use Rattle.lookup_tuple.specs.declared.Strings.{Strings}
@@ -65,7 +65,7 @@ module _ (c : Counts) (states arcs text : List ℕ) (s : Strings) (room : ℕ) (
   pub chains_ask : (arc_size * c.arcs ≤ length arcs) × (c.arcs ≤ 8192) × ((e : ℕ) → e < c.arcs → target_of arcs e < 1024)
   unfolding arc_at content_at
   chains_ask = (
-    arcs_lent_lem (lent c states arcs) f.sound,
+    arcs_lent (lent c states arcs) f.sound,
     few_arcs (lent c states arcs) f.sound,
     λ e lt. omega (arith, arc_target (lent c states arcs) f.sound e lt, few_states (lent c states arcs) f.sound),
   )
@@ -94,7 +94,7 @@ module _ (c : Counts) (states arcs text : List ℕ) (s : Strings) (room : ℕ) (
     all_positive = omega (arith, all_at text f.tuple s st spans sp, combinations_positive f.tuple)
 
     pub stated : (w : List ℕ) → length w ≡ room → Stated states c.states spans.all w
-    stated w l = record { lent = states_lent_lem (lent c states arcs) f.sound; some_combination = all_positive; fits = omega (arith, l, all_room) }
+    stated w l = record { lent = states_lent (lent c states arcs) f.sound; some_combination = all_positive; fits = omega (arith, l, all_room) }
 
     pub positive : Positive spans
     positive = spans_positive text f.tuple s st spans sp

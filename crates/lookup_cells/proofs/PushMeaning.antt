@@ -21,7 +21,7 @@ use Rattle.automata.specs.Layout.{arc_size, label_size}
 use Rattle.table.specs.Answers.{lent}
 use Rattle.table.specs.Records.{label_as, label_at, labels_at, content_at, arc_at, arc_as, Padded}
 use Rattle.table.specs.declared.answer.Counts.{Counts}
-use Rattle.table.proofs.SoundFacts.{few_tapes, few_states, few_arcs, arcs_lent_lem, arc_loaded, arc_canonical, arc_source, arc_target}
+use Rattle.table.proofs.SoundFacts.{few_tapes, few_states, few_arcs, arcs_lent, arc_loaded, arc_canonical, arc_source, arc_target}
 use Rattle.table.specs.declared.record.Label.{Label}
 use Rattle.lookup_moves.specs.declared.spot.Spot.{Spot}
 use Rattle.lookup_moves.specs.Moves.{Laid, Labelled, Spotted}
@@ -76,7 +76,7 @@ module _ (c : Counts) (states arcs text : List ℕ) (sound : Sound (lent c state
     arc_labelled : Labelled arcs (labels_start (arc_size * e))
     unfolding arc_at content_at
     arc_labelled = record {
-      lent = omega (arith, arcs_lent_lem (lent c states arcs) sound);
+      lent = omega (arith, arcs_lent (lent c states arcs) sound);
       short = labels_short 8 (labels_start (arc_size * e)) arcs
           (subst (λ (k : ℕ). All Padded (labels_at 8 k arcs)) (add_assoc (arc_size * e) 4 4) (arc_canonical (lent c states arcs) sound e lt).padded);
     }
@@ -163,7 +163,7 @@ module _ (c : Counts) (states arcs text : List ℕ) (sound : Sound (lent c state
   pub ready : Ready c arcs text s
   ready = record {
     laid = subst (λ (n : ℕ). Laid n (length text) s) tapes-are spot.laid;
-    lent = arcs_lent_lem (lent c states arcs) sound;
+    lent = arcs_lent (lent c states arcs) sound;
     few_arcs = few_arcs (lent c states arcs) sound;
     few_states = few_states (lent c states arcs) sound;
     each = arc_passable;

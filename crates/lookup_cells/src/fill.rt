@@ -3,7 +3,7 @@
 // answer.
 ghost use Rattle.std.specs.Prelude.{◌≡◌, length};
 ghost use Rattle.automata.specs.Automaton.{Tuple};
-ghost use Rattle.automata.specs.OrderedSum.{ℕ-sum};
+ghost use Rattle.automata.specs.OrderedSum.{ℕ_sum};
 ghost use Rattle.automata.specs.Lookup.{lookup};
 ghost use Rattle.automata.specs.Memory.{table_of};
 ghost use Rattle.table.specs.Answers.{lent};
@@ -91,7 +91,7 @@ pub fn least_weight(
 ) -> Weight64
     requires { Fillable (lent counts states.now arcs.now) text.now strings (length work.old) }
     ensures { (t : Tuple) → Stands text.now t strings → length t ≡ counts.tapes → option_as result
-        ≡ lookup ℕ-sum (table_of (lent counts states.now arcs.now)) t }
+        ≡ lookup ℕ_sum (table_of (lent counts states.now arcs.now)) t }
 {
     fill_cells(counts, states, arcs, text, strings, work);
     let spans = spans_of(strings);

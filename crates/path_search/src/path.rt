@@ -3,7 +3,7 @@
 ghost use Rattle.std.specs.Prelude.{◌≡◌, ◌*◌, ◌≤◌, ◌<◌, length};
 ghost use Rattle.std.proofs.Math.Option.{some};
 ghost use Rattle.automata.specs.Automaton.{Tuple};
-ghost use Rattle.automata.specs.OrderedSum.{ℕ-sum};
+ghost use Rattle.automata.specs.OrderedSum.{ℕ_sum};
 ghost use Rattle.automata.specs.LeastPath.{least_path};
 ghost use Rattle.automata.specs.LeastPathCall.{listed};
 ghost use Rattle.automata.specs.Memory.{table_of};
@@ -114,9 +114,9 @@ pub fn find_path(
     requires { Traceable (lent counts states.now arcs.now) text.now strings (length work.old) }
     ensures { (t : Tuple) → Stands text.now t strings → length t ≡ counts.tapes
         → (path_as result ≡ told_answer (listed (places_in list.old)
-        (least_path ℕ-sum (table_of (lent counts states.now arcs.now)) t)))
+        (least_path ℕ_sum (table_of (lent counts states.now arcs.now)) t)))
         × (list.new ≡ path_in (listed (places_in list.old)
-        (least_path ℕ-sum (table_of (lent counts states.now arcs.now)) t)) list.old) }
+        (least_path ℕ_sum (table_of (lent counts states.now arcs.now)) t)) list.old) }
 {
     fill_cells(counts, states, arcs, text, strings, work);
     let spans = spans_of(strings);

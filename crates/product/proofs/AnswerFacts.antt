@@ -27,7 +27,6 @@ use Rattle.automata.specs.Layout.{arc_size, state_size, step_size, vertex_size}
 use Rattle.table.specs.Answers.{lent}
 use Rattle.product_search.specs.declared.plan.Plan.{Plan}
 use Rattle.product_search.specs.declared.head.Head.{Head}
-use Rattle.product_search.specs.declared.vertex.Vertex.{Vertex}
 use Rattle.product_search.specs.Vertices.{vertex_of}
 use Rattle.product_search.specs.Moves.{HoldsMoves, RecordOf, move_at}
 use Rattle.product_search.specs.Plans.{first_in, second_in}

@@ -24,10 +24,9 @@ use Rattle.automata.proofs.SoundFacts.{sound_holds}
 use Rattle.automata.specs.Layout.{step_size, vertex_size, label_size, labels_size}
 use Rattle.table.specs.Region.{part}
 use Rattle.table.specs.Endian.{le, to_le}
-use Rattle.table.specs.Records.{option_of, state_as, state_bytes}
+use Rattle.table.specs.Records.{option_of, state_as}
 use Rattle.table.specs.declared.record.Weight.{Weight}
 use Rattle.table.specs.declared.record.Weight.TheVariants.{Absent, Present}
-use Rattle.table.specs.declared.record.State.{State}
 use Rattle.table.proofs.RegionFacts.{part-part}
 use Rattle.table.proofs.EndianFacts.{le-to_le}
 use Rattle.search_chains.specs.Chain.{fronts}
@@ -239,7 +238,7 @@ module _ (a b : Memory) (sa : Sound a) (sb : Sound b) where
     stand_rest at x es h j y e = subst (λ (k : ℕ). RecordOf A B cs y (move_at k w)) (omega arith) (h (suc j) y e)
 
     -- their arcs are within the bytes
-    pub moves_fit : (at : ℕ) (es : List (Edge (Content ℕ))) → Stand at es → Moves a.state_bytes a.arc_bytes b.state_bytes b.arc_bytes w (moves_at at (length es) w)
+    pub moves_fit_lem : (at : ℕ) (es : List (Edge (Content ℕ))) → Stand at es → Moves a.state_bytes a.arc_bytes b.state_bytes b.arc_bytes w (moves_at at (length es) w)
     unfolding Moves moves_at
     moves_fit_lem at [] h = tt
     moves_fit_lem at (x ∷ es) h = ((arc_of_lem zero x (move_at at w) (stand_first at x es h)).fits, moves_fit_lem (at + step_size) es (stand_rest at x es h))

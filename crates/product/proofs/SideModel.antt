@@ -2,12 +2,11 @@
 use mathlib.Core.Path.{◌≡◌, refl, sym, ap, subst, ◌∙◌}
 use mathlib.Core.Option.{Option, none, some, some-injective, none-ne-some}
 use mathlib.Core.List.{List, ◌++◌}
-use Prim.Native.Nat.{ℕ, zero, suc, ◌+◌, ◌-◌, ◌*◌, ◌≤◌, ◌<◌}
+use Prim.Native.Nat.{ℕ, zero, suc, ◌+◌, ◌*◌, ◌≤◌, ◌<◌}
 use native.Mathlib.Omega.{arith}
-use lib.Dec.{eqb}
-use lib.ListN.{length, get_elem?, get_or, take}
+use lib.ListN.{length, get_elem?, get_or}
 use lib.Seq.{take_at}
-use Rattle.automata.specs.Lists.{All, Each}
+use Rattle.automata.specs.Lists.{Each}
 use Rattle.automata.specs.Records.{write_all}
 use Rattle.automata.specs.OrderedSum.{ℕ_sum}
 use Rattle.automata.specs.Automaton.{Automaton, State, Arc}
@@ -30,7 +29,7 @@ use Rattle.table.specs.declared.record.Weight.TheVariants.{Absent, Present}
 use Rattle.table.specs.Records.{option_of, state_as, state_at, arc_as, arc_at, content_at}
 use Rattle.table.proofs.RegionFacts.{part-part}
 use Rattle.table.proofs.LoadedFacts.{zeros_label}
-use Rattle.table.proofs.SoundFacts.{few_tapes, few_states, few_arcs, states_lent_lem, arcs_lent_lem, state_loaded, arc-bytes, arc_loaded}
+use Rattle.table.proofs.SoundFacts.{few_tapes, few_states, few_arcs, states_lent, arcs_lent, state_loaded, arc-bytes, arc_loaded}
 use Rattle.product_search.specs.Vertices.{ended, place_number, PlaceBelow}
 use Rattle.product_search.specs.Moves.{no_arc}
 use Rattle.product_records.specs.Sums.{place_state, amount, side_sum, side_labels, PlaceFits, SideFits}
@@ -80,7 +79,7 @@ module _ (m : Memory) (s : Sound m) where
 
   place_there : (x : Option ℕ) → PlaceBelow (length A.states) x → (place_number x ≡ ended → ⊥) → state_size * place_number x + state_size ≤ length m.state_bytes
   place_there none h e = absurd (e refl)
-  place_there (some q) h e = omega (arith, below q h, states_lent_lem m s)
+  place_there (some q) h e = omega (arith, below q h, states_lent m s)
 
   place_small : (x : Option ℕ) → PlaceBelow (length A.states) x → WellFormedState (record { initial = initial_at (system A) x; final = final_at ℕ_sum (system A) x })
   place_small none h = record { initial = tt; final = omega arith }
@@ -136,7 +135,7 @@ module _ (m : Memory) (s : Sound m) where
         record {
           fits = record {
             place_there = place_there x h;
-            arc_there = λ _. omega (arith, there, arcs_lent_lem m s);
+            arc_there = λ _. omega (arith, there, arcs_lent m s);
             small = omega (arith, sum, formed.weight);
           };
           sum = sum;

@@ -55,12 +55,14 @@ Leads xs ys = (s : Content ℕ × ℕ) → s ∈ xs → (r : Content ℕ × ℕ)
 
 -- the pairs of steps
 both_there : (ss rs : List (Content ℕ × ℕ)) (s r : Content ℕ × ℕ) → s ∈ ss → r ∈ rs → ◌∈◌ {A = Step} (both ℕ_sum s r) (all_both ℕ_sum ss rs)
+both_there [] rs s r x'' m = elim x'' [ ]
 both_there (x ∷ ss) rs s r (here e) m =
     Memᴰ.append_left (all_both ℕ_sum ss rs) (subst (λ (z : Content ℕ × ℕ). ◌∈◌ {A = Step} (both ℕ_sum s r) (map (both ℕ_sum z) rs)) e (ListFacts.map_keeps (both ℕ_sum s) rs m))
 both_there (x ∷ ss) rs s r (there k) m = Memᴰ.append_right (map (both ℕ_sum x) rs) (both_there ss rs s r k m)
 
 both-from : (ss rs : List (Content ℕ × ℕ)) (x : Step) → x ∈ all_both ℕ_sum ss rs
     → (s : Content ℕ × ℕ) × (r : Content ℕ × ℕ) × (s ∈ ss) × (r ∈ rs) × (x ≡ both ℕ_sum s r)
+both-from [] rs x m = elim m [ ]
 both-from (s ∷ ss) rs x m = elim (Memᴰ.append_cases (map (both ℕ_sum s) rs) m) [
   | inl a ↦ (let y = ListFacts.map_members (both ℕ_sum s) rs a in (s, y.0, here refl, y.1, y.2))
   | inr a ↦ (let y = both-from ss rs x a in (y.0, y.1, there y.2, y.3, y.4))
@@ -79,12 +81,14 @@ module _ (xs xs' ys ys' : List (Content ℕ × ℕ)) (first : Leads xs xs') (sec
       (both ℕ_sum s.0 r.0, both_there xs' ys' s.0 r.0 s.1 r.1, (λ i. (some (s.2 i), some (r.2 i))) ∙ sym (ap (λ (z : Step). z.1) y.4))
 
   first_also : (n : ℕ) (o : Option ℕ) → Also (all_after_first ℕ_sum n o ys) (all_after_first ℕ_sum n o ys')
+  first_also n none u m = elim m [ ]
   first_also n (some f) u m =
       let y = ListFacts.map_members (after_first ℕ_sum {C = ℕ} n f) ys m in
       let r = second y.0 y.1 in
       (after_first ℕ_sum n f r.0, ListFacts.map_keeps (after_first ℕ_sum {C = ℕ} n f) ys' r.1, (λ i. (none, some (r.2 i))) ∙ sym (ap (λ (z : Step). z.1) y.2))
 
   second_also : (n : ℕ) (o : Option ℕ) → Also (all_after_second ℕ_sum n o xs) (all_after_second ℕ_sum n o xs')
+  second_also n none u m = elim m [ ]
   second_also n (some f) u m =
       let y = ListFacts.map_members (after_second ℕ_sum {D = ℕ} n f) xs m in
       let r = first y.0 y.1 in
@@ -107,6 +111,7 @@ abbrev Joins : List (Arc ℕ) → List (Arc ℕ) → Type 0
 Joins xs ys = (a : Arc ℕ) → a ∈ xs → (b : Arc ℕ) × (b ∈ ys) × (b.source ≡ a.source) × (b.target ≡ a.target)
 
 out-leads : (A A' : Automaton ℕ) → Joins A.arcs A'.arcs → (y : Option ℕ) → Leads (out_at ℕ_sum (system A) y) (out_at ℕ_sum (system A') y)
+out-leads A A' j none s m = elim m [ ]
 out-leads A A' j (some q) s m =
     let f : Arc ℕ → Content ℕ × ℕ = λ a. (content a, a.target) in
     let p : Arc ℕ → Bool = λ a. eqb a.source q in
@@ -137,6 +142,7 @@ moves_join A B A' B' f g n m o p c d k = ends_also _ _
 -- ---- the arcs in chains
 
 chained_from : (next : List ℕ) (k : ℕ) (xs : List (Arc ℕ)) (a : Arc ℕ) → a ∈ chained_arcs next k xs → a ∈ xs
+chained_from next k [] a m = elim m [ ]
 chained_from next k (x ∷ xs) a m = go (in_chain next k) m (chained_from next (suc k) xs a)
   where
     go : (b : Bool) → a ∈ if b (x ∷ chained_arcs next (suc k) xs) (chained_arcs next (suc k) xs) → (a ∈ chained_arcs next (suc k) xs → a ∈ xs) → a ∈ (x ∷ xs)

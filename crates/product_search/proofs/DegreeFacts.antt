@@ -137,11 +137,11 @@ module _ (p : Plan) (c : Vertex) (s1 f1 n1 s2 f2 n2 : List ℕ) (d1 d2 : ℕ) (x
         let ss : List Step = all_after_second ℕ_sum B.tapes (final_at ℕ_sum (system B) b.1) xs in
         let first_is = ap (λ (z : Vertex). z.first.0) e in
         let second_is = ap (λ (z : Vertex). z.second.0) e in
-        let z1 = x1.meaning a1 A b.0 i.first r.first_arcs first-is in
+        let z1 = x1.meaning a1 A b.0 i.first r.first_arcs first_is in
         let z2 = x2.meaning a2 B b.1 i.second r.second_arcs second_is in
         let u : d1 * d2 ≡ length ps = ap₂ (λ (k n : ℕ). k * n) z1 z2 ∙ sym (length_both xs ys) in
         let v : k1 ≡ length fs
-        = o1.0 ∙ ap₂ (λ (t : Bool) (n : ℕ). if t n 0) (t1 A b.0 r.first_states first-is below.0) z2 ∙ sym (length_first A.tapes (final_at ℕ_sum (system A) b.0) ys) in
+        = o1.0 ∙ ap₂ (λ (t : Bool) (n : ℕ). if t n 0) (t1 A b.0 r.first_states first_is below.0) z2 ∙ sym (length_first A.tapes (final_at ℕ_sum (system A) b.0) ys) in
         let w : k2 ≡ length ss
         = o2.0 ∙ ap₂ (λ (t : Bool) (n : ℕ). if t n 0) (t2 B b.1 r.second_states second_is below.1) z1 ∙ sym (length_second B.tapes (final_at ℕ_sum (system B) b.1) xs) in
         let l = length-append ps (fs ++ ss) in

@@ -1,5 +1,5 @@
 -- All states of the product that are reached, taken up one after the other.
-use Prim.Native.Nat.{ℕ, zero, suc, ◌+◌, ◌-◌, ◌*◌, ◌≤◌, ◌<◌}
+use Prim.Native.Nat.{ℕ, zero, suc, ◌+◌, ◌*◌, ◌≤◌, ◌<◌}
 use mathlib.Core.Path.{◌≡◌, refl, sym, ap, ◌∙◌, subst}
 use mathlib.Core.Logic.{inl, inr}
 use mathlib.Core.Bool.{true, false}
@@ -184,10 +184,10 @@ module _ (counts : Counts) (states arcs : List ℕ) (s : Sound (lent counts stat
   m = lent counts states arcs
 
   states_lent_lem : StatesLent counts states
-  states_lent = record { few = SoundFacts.few_states m s; lent = SoundFacts.states_lent m s }
+  states_lent_lem = record { few = SoundFacts.few_states m s; lent = SoundFacts.states_lent m s }
 
   arcs_lent_lem : ArcsLent counts arcs
-  arcs_lent = record { few = SoundFacts.few_arcs m s; lent = SoundFacts.arcs_lent m s }
+  arcs_lent_lem = record { few = SoundFacts.few_arcs m s; lent = SoundFacts.arcs_lent m s }
 
   few_states : length (table_of m).states ≤ 1024
   few_states = omega (arith, SoundFacts.few_states m s, (sound_holds m s).states)

@@ -1,17 +1,14 @@
 -- The search along a chain: what a link that is followed passes, and what the search tells at its end.
-use Prim.Native.Nat.{ℕ, zero, suc, ◌+◌, ◌-◌, ◌*◌, ◌≤◌, ◌<◌}
+use Prim.Native.Nat.{ℕ, suc, ◌+◌, ◌*◌, ◌≤◌, ◌<◌}
 use mathlib.Core.Path.{◌≡◌, sym, ap, ◌∙◌, subst}
 use mathlib.Core.List.{List, []}
 use native.Mathlib.Decide.{dec_lt, ℕ_discrete}
 use native.Mathlib.Omega.{arith}
 use native.Mathlib.Nat.{zero-add}
-use lib.Dec.{leb}
 use lib.ListN.{length, get_or}
 use lib.Seq.{ext_get_or}
 use borrow.Author.Tests.{le-leb, lt-leb}
-use Rattle.automata.specs.Lists.{if}
 use Rattle.table.specs.Region.{part}
-use Rattle.table.specs.Endian.{le}
 use Rattle.table.proofs.RegionFacts.{length_part, get_d_part}
 use Rattle.table.proofs.RowFacts.{mul_step}
 use Rattle.search_rows.specs.declared.Found.TheVariants.{At, Nothing}

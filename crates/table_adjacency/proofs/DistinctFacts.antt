@@ -10,7 +10,7 @@ use lib.ListN.{length, get_or, set, replicate, length-set, length-replicate, get
 use lib.Seq.{get_or-set_same, get_or-set_other}
 use borrow.Author.Tests.{lt-ltb}
 use Rattle.table.specs.Arcs.{source_of, target_of}
-use Rattle.table_adjacency.specs.Chains.{in_chain, FirstIn, Linked, Chainable}
+use Rattle.table_adjacency.specs.Chains.{in_chain, FirstIn, Chainable}
 use Rattle.table_adjacency.specs.Distinct.{Between, Grown, Marked, MarksArc, Markable, MarksState, MarksAll, LinkedFrom, SameMarks, LinksArc, LinksAll, LinksDistinct}
 use Rattle.table_adjacency.proofs.ChainFacts.{First, first-arc, next-arc}
 use Rattle.automata.specs.Layout.{arc_size}

@@ -34,7 +34,7 @@ use Rattle.table.specs.declared.answer.Judged.TheVariants.{Fine, Refused}
 use Rattle.table.proofs.RegionFacts.{length_splice, splice_front, splice-twice, splice-behind}
 use Rattle.table.proofs.AnswerFacts.{forget-ok}
 use Rattle.table.proofs.TableFacts.{judged_sound}
-use Rattle.table.proofs.SoundFacts.{few_states, few_arcs, states_lent_lem, arcs_lent_lem}
+use Rattle.table.proofs.SoundFacts.{few_states, few_arcs, states_lent, arcs_lent}
 use Rattle.tapes_records.specs.Rewritten.{rewritten, raised_arc}
 use Rattle.intersect_room.specs.Room.{lent_space}
 use Rattle.tapes_records.specs.Results.{fitting, Copies, Copied, Raisable, AllRaisable, Appends}
@@ -53,16 +53,16 @@ module _ (one two : Memory) (states arcs : ℕ) (p : Appends one two states arcs
   -- each table and room for it
   pub first-copies : Copies one 0 0 states arcs
   first-copies = record {
-    states_lent = states_lent_lem one p.first_sound;
-    arcs_lent = arcs_lent_lem one p.first_sound;
+    states_lent = states_lent one p.first_sound;
+    arcs_lent = arcs_lent one p.first_sound;
     states_fit = omega (arith, p.states_fit);
     arcs_fit = omega (arith, p.arcs_fit);
   }
 
   pub second_copies : (state_at arc_at states2 arcs2 : ℕ) → state_at ≡ state_size * one.states → arc_at ≡ arc_size * one.arcs → states2 ≡ states → arcs2 ≡ arcs → Copies two state_at arc_at states2 arcs2
   second_copies state_at arc_at states2 arcs2 e f g h = record {
-    states_lent = states_lent_lem two p.second_sound;
-    arcs_lent = arcs_lent_lem two p.second_sound;
+    states_lent = states_lent two p.second_sound;
+    arcs_lent = arcs_lent two p.second_sound;
     states_fit = omega (arith, p.states_fit, e, g);
     arcs_fit = omega (arith, p.arcs_fit, f, h);
   }

@@ -25,7 +25,7 @@ use Rattle.table.specs.Answers.{judged_as, refusal_number}
 use Rattle.table.specs.declared.answer.Refusal.{Refusal}
 use Rattle.table.specs.declared.answer.Judged.{Judged}
 use Rattle.table.specs.declared.answer.Judged.TheVariants.{Refused}
-use Rattle.table.proofs.SoundFacts.{states_lent_lem, arcs_lent_lem}
+use Rattle.table.proofs.SoundFacts.{states_lent, arcs_lent}
 use Rattle.table.proofs.RegionFacts.{splice_front, splice-twice}
 use Rattle.tapes_records.specs.Results.{fitting, Copies, Copied}
 
@@ -75,7 +75,7 @@ fitted_counts space A = go (leb (length A.states) (state_cap space)) (leb (lengt
 
 -- a table that was judged may be copied to where it fits
 pub copy_ready : (m : Memory) → Sound m → (states arcs : ℕ) → state_size * m.states ≤ states → arc_size * m.arcs ≤ arcs → Copies m 0 0 states arcs
-copy_ready m s states arcs e f = record { states_lent = states_lent_lem m s; arcs_lent = arcs_lent_lem m s; states_fit = omega (arith, e); arcs_fit = omega (arith, f) }
+copy_ready m s states arcs e f = record { states_lent = states_lent m s; arcs_lent = arcs_lent m s; states_fit = omega (arith, e); arcs_fit = omega (arith, f) }
 
 -- what the copying calls leave
 pub table_copied : (m : Memory) (state_at arc_at : ℕ) (old_states old_arcs new_states new_arcs : List ℕ) → new_states ≡ splice state_at (take (state_size * m.states - 0) (drop 0 m.state_bytes)) old_states

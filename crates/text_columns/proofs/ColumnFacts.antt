@@ -19,7 +19,7 @@ use Rattle.automata.proofs.TestFacts.{and_true}
 use Rattle.automata.proofs.NumberFacts.{leading_column-only}
 use Rattle.table.specs.declared.answer.Refusal.{Refusal}
 use Rattle.text_columns.specs.declared.decimal.Number.{Number}
-use Rattle.text_columns.specs.declared.decimal.Number.TheVariants.{Value, Refused}
+use Rattle.text_columns.specs.declared.decimal.Number.TheVariants.{Refused}
 use Rattle.text_columns.specs.Columns.{number_as, last_column, read_decimal, columns_value}
 
 -- ---- one column

@@ -30,7 +30,7 @@ use Rattle.text_print.proofs.PrintedFacts.{state_sized, arc_sized, length_header
 use Rattle.table.specs.Endian.{le, to_le}
 use Rattle.table.proofs.EndianFacts.{le-to_le}
 use Rattle.table.proofs.LoadedFacts.{label_bytes_lem}
-use Rattle.table.proofs.SoundFacts.{few_tapes, few_states, states_lent_lem, arcs_lent_lem}
+use Rattle.table.proofs.SoundFacts.{few_tapes, few_states, states_lent, arcs_lent}
 use Rattle.text_columns.specs.Columns.{decimal_text}
 use Rattle.text_store.specs.Recode.{recoded}
 use Rattle.text_print.specs.Printed.{weight_of_record, line_of_state, columns_of_label, numbers_of_record, line_of_arc, header_of}
@@ -138,8 +138,8 @@ table_printed c ss bs xs us vs ws s h e f g =
     let st = recoded line_of_state state_size c.states ss in
     let ar = recoded (line_of_arc c.tapes) arc_size c.arcs bs in
     let lh : length hd ≡ header_width = length_header c in
-    let ls : length st ≡ c.states * state_width = length_recoded line_of_state state_size state_width state_sized c.states ss (omega (arith, states_lent_lem m s)) in
-    let la : length ar ≡ c.arcs * (arc_width + c.tapes * label_width) = length_recoded (line_of_arc c.tapes) arc_size (arc_width + c.tapes * label_width) (λ y k. arc_sized c.tapes y k (few_tapes m s)) c.arcs bs (omega (arith, arcs_lent_lem m s)) in
+    let ls : length st ≡ c.states * state_width = length_recoded line_of_state state_size state_width state_sized c.states ss (omega (arith, states_lent m s)) in
+    let la : length ar ≡ c.arcs * (arc_width + c.tapes * label_width) = length_recoded (line_of_arc c.tapes) arc_size (arc_width + c.tapes * label_width) (λ y k. arc_sized c.tapes y k (few_tapes m s)) c.arcs bs (omega (arith, arcs_lent m s)) in
     let lt : length (hd ++ st) ≡ header_width + c.states * state_width = length-append hd st ∙ omega arith in
     let p = splice-behind 0 header_width hd st xs us vs e f (omega arith) (omega arith) in
     let q = splice-behind 0 (header_width + c.states * state_width) (hd ++ st) ar xs vs ws p g (omega arith) (omega arith) in

@@ -22,8 +22,7 @@ use path::record::path_into;
 use table::answer::Counts;
 
 // Reads the text of a table.
-#[unsafe(no_mangle)]
-pub extern "C" fn tomchoen_read(text: &[u8], out_states: &mut [u8], out_arcs: &mut [u8]) -> u64
+pub fn tomchoen_read(text: &[u8], out_states: &mut [u8], out_arcs: &mut [u8]) -> u64
     ensures { tells_made result out_states.new out_arcs.new
         ≡ told_made (read_outcome text.now
         (slices_of out_states.old out_arcs.old)) }
@@ -33,8 +32,7 @@ pub extern "C" fn tomchoen_read(text: &[u8], out_states: &mut [u8], out_arcs: &m
 }
 
 // Writes the text of a table.
-#[unsafe(no_mangle)]
-pub extern "C" fn tomchoen_write(
+pub fn tomchoen_write(
     tapes: usize,
     states: usize,
     arcs: usize,
@@ -56,8 +54,7 @@ pub extern "C" fn tomchoen_write(
 }
 
 // Keeps the accounts that agree on pairs of tapes, three bytes a pair: its tapes and its limit.
-#[unsafe(no_mangle)]
-pub extern "C" fn tomchoen_build(
+pub fn tomchoen_build(
     tapes: usize,
     states: usize,
     arcs: usize,
@@ -91,8 +88,7 @@ pub extern "C" fn tomchoen_build(
 }
 
 // The aligned product of two tables.
-#[unsafe(no_mangle)]
-pub extern "C" fn tomchoen_product(
+pub fn tomchoen_product(
     first_tapes: usize,
     first_states: usize,
     first_arcs: usize,
@@ -139,8 +135,7 @@ pub extern "C" fn tomchoen_product(
 }
 
 // Joins two tables on pairs of tapes, three bytes a pair: its tapes and its limit.
-#[unsafe(no_mangle)]
-pub extern "C" fn tomchoen_join(
+pub fn tomchoen_join(
     first_tapes: usize,
     first_states: usize,
     first_arcs: usize,
@@ -194,8 +189,7 @@ pub extern "C" fn tomchoen_join(
 }
 
 // Appends the second table to the first.
-#[unsafe(no_mangle)]
-pub extern "C" fn tomchoen_union(
+pub fn tomchoen_union(
     first_tapes: usize,
     first_states: usize,
     first_arcs: usize,
@@ -239,8 +233,7 @@ pub extern "C" fn tomchoen_union(
 }
 
 // Chooses tapes, one byte a tape.
-#[unsafe(no_mangle)]
-pub extern "C" fn tomchoen_project(
+pub fn tomchoen_project(
     tapes: usize,
     states: usize,
     arcs: usize,
@@ -271,8 +264,7 @@ pub extern "C" fn tomchoen_project(
 }
 
 // Drops the tapes marked in a mask.
-#[unsafe(no_mangle)]
-pub extern "C" fn tomchoen_drop(
+pub fn tomchoen_drop(
     tapes: usize,
     states: usize,
     arcs: usize,
@@ -303,8 +295,7 @@ pub extern "C" fn tomchoen_drop(
 }
 
 // Looks the weight of a tuple up.
-#[unsafe(no_mangle)]
-pub extern "C" fn tomchoen_lookup(
+pub fn tomchoen_lookup(
     tapes: usize,
     states: usize,
     arcs: usize,
@@ -328,8 +319,7 @@ pub extern "C" fn tomchoen_lookup(
 
 // Looks the weight of a tuple up with the path behind it: weight, starting state and number of arcs in `result`, the
 // arc numbers in `list`.
-#[unsafe(no_mangle)]
-pub extern "C" fn tomchoen_path(
+pub fn tomchoen_path(
     tapes: usize,
     states: usize,
     arcs: usize,
@@ -354,8 +344,7 @@ pub extern "C" fn tomchoen_path(
 }
 
 // Tells for pairs of tapes, three bytes a pair, what a build on each can need. No limit is read.
-#[unsafe(no_mangle)]
-pub extern "C" fn tomchoen_forecast(
+pub fn tomchoen_forecast(
     tapes: usize,
     states: usize,
     arcs: usize,

@@ -101,6 +101,8 @@ module _ (A : Automaton ℕ) where
 
   ends_at : (q : ℕ) (o : Option ℕ) → final_of A q ≡ o → (x : Rest) → x ∈ ending o → Ends q x
   unfolding rest_of
+  ends_at q none e x x4 = elim x4 [ ]
+  ends_at q (some f) e x (Memᴰ.tail x9) = elim x9 [ ]
   ends_at q (some f) e x (here m) = subst (Ends q) (sym m) (record { es = []; p = q; f = f; walk = stop; final = e; same = refl })
 
   -- an arc before what ends
@@ -179,6 +181,7 @@ module _ (A : Automaton ℕ) where
     where
       go : (q : ℕ) (s : State ℕ) → get_elem? A.states q ≡ some s → (o : Option ℕ) → s.initial ≡ o
           → x ∈ elim o [ none ↦ [] | some i ↦ map (from q i) (rests n q) ] → (π : SuccessfulPath A) × (account_of π ≡ x)
+      go q s at none e m = elim m [ ]
       go q s at (some i) e m = by_rest n q i x (ap (λ (o : Option (State ℕ)). bind o (λ s. s.initial)) at ∙ e) m
 
   -- the accounts of such a table, where the listed paths are distinct

@@ -18,7 +18,7 @@ use Rattle.automata.specs.Config.{Config, same_config, start_at, follow, advance
 use Rattle.automata.specs.Viable.{Viable, DecidesViable}
 use Rattle.automata.specs.Closing.{closing_tables}
 use Rattle.automata.specs.Closing as Closing
-use Rattle.automata.specs.Explore.{Edge, edges, edge_graph, reached}
+use Rattle.automata.specs.Explore.{Edge, edges, edge_graph}
 use Rattle.automata.specs.Trim.{trimmed, Coaccessible}
 use Rattle.automata.specs.Trim as Trim
 use Rattle.automata.specs.Marks.{coaccessible}

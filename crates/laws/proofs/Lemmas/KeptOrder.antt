@@ -93,6 +93,7 @@ module _ {C : Type 0} (G : KeyedGraph C) (cs : List C) (marks : List Bool) (o : 
   renumbered_increases : (x y : Arrival) → FromMarked x → x ⊏ y → renumbered x ⊏ renumbered y
   renumbered_increases (start s) (start t) m h = h
   renumbered_increases (start s) (step j f) m h = tt
+  renumbered_increases (step i e) (start t) m h = elim h [ ]
   renumbered_increases (step i e) (step j f) m (inl h) = inl (rank-strict marks i j m h)
   renumbered_increases (step i e) (step j f) m (inr (p, h)) = inr (ap (rank marks) p, h)
 

@@ -28,6 +28,10 @@ pub ≺_irreflexive : (s : Key) → s ≺ s → ⊥
 
 -- before what is before
 pub ≺_transitive : (s t u : Key) → s ≺ t → t ≺ u → s ≺ u
+≺_transitive [] [] u h k = elim h [ ]
+≺_transitive [] (n ∷ t) [] h k = elim k [ ]
+≺_transitive (m ∷ s) [] u h k = elim h [ ]
+≺_transitive (m ∷ s) (n ∷ t) [] h k = elim k [ ]
 ≺_transitive [] (n ∷ t) (o ∷ u) h k = tt
 ≺_transitive (m ∷ s) (n ∷ t) (o ∷ u) (inl h) (inl k) = inl (omega arith)
 ≺_transitive (m ∷ s) (n ∷ t) (o ∷ u) (inl h) (inr (f, k)) = inl (omega arith)
@@ -43,6 +47,9 @@ pub ⊏_irreflexive : (x : Arrival) → x ⊏ x → ⊥
 pub ⊏_transitive : (x y z : Arrival) → x ⊏ y → y ⊏ z → x ⊏ z
 ⊏_transitive (start s) (start t) (start u) h k = ≺_transitive s t u h k
 ⊏_transitive (start s) (start t) (step i e) h k = tt
+⊏_transitive (start s) (step i e) (start u) h k = elim k [ ]
+⊏_transitive (step i e) (start t) z h k = elim h [ ]
+⊏_transitive (step i e) (step j f) (start u) h k = elim k [ ]
 ⊏_transitive (start s) (step i e) (step j f) h k = tt
 ⊏_transitive (step i e) (step j f) (step l g) (inl h) (inl k) = inl (omega arith)
 ⊏_transitive (step i e) (step j f) (step l g) (inl h) (inr (q, k)) = inl (omega arith)
@@ -203,6 +210,7 @@ module _ {C : Type 0} (same : C → C → Bool) (decided : Decides same) where
     last y d m = elim (Memᴰ.append_cases seen m) [ inl l ↦ inl l | inr r ↦ inr (only r) ]
       where
         only : ◌∈◌ {A = Arrival × C} (y, d) ((x, c) ∷ []) → (y ≡ x) × (d ≡ c)
+        only (there x5) = elim x5 [ ]
         only (here e) = (ap (λ (z : Arrival × C). z.0) e, ap (λ (z : Arrival × C). z.1) e)
 
     -- what held of a vertex before still does
@@ -249,9 +257,11 @@ module _ {C : Type 0} (same : C → C → Bool) (decided : Decides same) where
             absent m = false_not_true e (member_complete same decided c cs m)
 
             apart : (u v : C) → u ∈ cs → v ∈ (c ∷ []) → (u ≡ v) → ⊥
+            apart u v h (there x7) p = elim x7 [ ]
             apart u v h (here q) p = absent (subst (λ (z : C). z ∈ cs) (p ∙ q) h)
 
             before : (u v : Arrival) → u ∈ xs → v ∈ (x ∷ []) → u ⊏ v
+            before u v h (there x6) = elim x6 [ ]
             before u v h (here q) =
                 let (k, p) = ListFacts.place xs h in
                 let b : k < length xs = ListFacts.place_bound xs k p in

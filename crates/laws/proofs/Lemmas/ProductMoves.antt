@@ -26,6 +26,7 @@ module _ {W : Type 0} where
   -- the initial states of a list, by number ...
   pub initials_members : (k : ℕ) (ss : List (State W)) (p : ℕ) → p ∈ initials_from k ss
       → (j : ℕ) × (s : State W) × (i : W) × (k + j ≡ p) × (get_elem? ss j ≡ some s) × (s.initial ≡ some i)
+  initials_members k [] p h = elim h [ ]
   initials_members k (s ∷ ss) p h = go s.initial refl h (λ m. initials_members (suc k) ss p m)
     where
       Found : Type 0
@@ -52,6 +53,7 @@ module _ {W : Type 0} where
 
 -- all pairs ...
 pub pairs_members : (ps qs : List ℕ) (c : Vertex) → c ∈ all_pairs ps qs → (p : ℕ) × (q : ℕ) × (p ∈ ps) × (q ∈ qs) × (c ≡ (some p, some q))
+pairs_members [] qs c h = elim h [ ]
 pairs_members (x ∷ ps) qs c h = elim (Memᴰ.append_cases (map (λ q. (some x, some q)) qs) h) [
   | inl m ↦ (let (q, i, e) = ListFacts.map_members (λ (q : ℕ). (some x, some q)) qs m in (x, q, here refl, i, e))
   | inr m ↦ (let (p, q, i, j, e) = pairs_members ps qs c m in (p, q, there i, j, e))
@@ -198,6 +200,7 @@ module _ (S : OrderedSum) (A B : Automaton S.W) where
 
   -- what each list holds
   both_members : (ss rs : List (ℕ × Arc W)) (z : Keyed) → z ∈ all_key_both ss rs → (s : ℕ × Arc W) × (r : ℕ × Arc W) × (s ∈ ss) × (r ∈ rs) × (z ≡ key_both s r)
+  both_members [] rs z h = elim h [ ]
   both_members (s ∷ ss) rs z h = elim (Memᴰ.append_cases (map (key_both s) rs) h) [
     | inl m ↦ (let (r, i, e) = ListFacts.map_members (key_both s) rs m in (s, r, here refl, i, e))
     | inr m ↦ (let (t, r, i, j, e) = both_members ss rs z m in (t, r, there i, j, e))
@@ -205,6 +208,7 @@ module _ (S : OrderedSum) (A B : Automaton S.W) where
 
   -- and the other way round
   both_keep : (ss rs : List (ℕ × Arc W)) (s r : ℕ × Arc W) → s ∈ ss → r ∈ rs → key_both s r ∈ all_key_both ss rs
+  both_keep [] rs s r x'' j = elim x'' [ ]
   both_keep (t ∷ ss) rs s r (here e) j =
       Memᴰ.append_left (all_key_both ss rs) (subst (λ (u : ℕ × Arc W). key_both u r ∈ map (key_both t) rs) (sym e) (ListFacts.map_keeps (key_both t) rs j))
   both_keep (t ∷ ss) rs s r (there i) j = Memᴰ.append_right (map (key_both t) rs) (both_keep ss rs s r i j)

@@ -1,0 +1,5 @@
+use Rattle.agree_line.proofs.LineFacts.{line_judged}
+use Rattle.agree_line.proofs.line.judge_line.Goals as goal
+
+pub returns : goal.returns
+returns c = let p = c in line_judged _ _ p.requires.1 p.judge_pairs-pairs.result c.line_end.result c.both.result p.judge_pairs-pairs.ensures c.line_end.ensures c.both.ensures

@@ -1,0 +1,7 @@
+use Rattle.pairs.proofs.ListFacts.{length_made}
+use Rattle.pairs.proofs.PairFacts.{side}
+use borrow.Author.Rules.{rules}
+use Rattle.pairs.proofs.firsts_of.Goals as goal
+
+pub returns : goal.returns
+returns c = let s = c in side (λ p. p.first) s.args.pairs.used s.args.pairs.pairs (search (rules, length_made))

@@ -1,0 +1,13 @@
+use Rattle.path_search.proofs.SearchedFacts.{Searching, searching_start, searching_none, order_room, here_lt, end_requires, searching_found, searching_turn}
+use Rattle.path_search.proofs.ReadFacts.{weights_kept}
+use Prim.Native.Nat.{◌-◌, ◌*◌}
+use native.Mathlib.Omega.{arith}
+use Rattle.path_search.proofs.search.search.Given as goal
+
+abbrev pub invariant-loop-head : goal.invariant-loop-head
+invariant-loop-head l =
+    Searching l.counts l.states l.arcs l.text l.strings l.spans l.found l.initial.work l.head l.count l.work
+
+abbrev pub decreases-loop-head : goal.decreases-loop-head
+decreases-loop-head l =
+    l.counts.states * l.spans.all - l.head

@@ -1,0 +1,17 @@
+use Rattle.path_search.proofs.TightFacts.{shift_start, shift_turn, shift_end, label_short, shift_bound}
+use Rattle.path_search.specs.Tight.{shift_by}
+use Prim.Native.Nat.{◌+◌, ◌-◌, ◌*◌, ◌≤◌}
+use mathlib.Core.Path.{◌≡◌, ◌∙◌}
+use native.Mathlib.Omega.{arith}
+use borrow.Author.Rules.{rules}
+use Rattle.automata.specs.Layout.{arc_size, label_size}
+use Rattle.table.specs.Arcs.{labels_start}
+use Rattle.path_search.proofs.tight.shift_of.Given as goal
+
+abbrev pub invariant-loop-h : goal.invariant-loop-h
+invariant-loop-h l =
+    (l.h ≤ l.counts.tapes) × (l.at ≡ labels_start (arc_size * l.e) + label_size * l.h) × (l.shift ≤ l.h * 2549158503125000)
+    × (l.shift + shift_by (l.counts.tapes - l.h) l.h l.at l.arcs l.behind ≡ shift_by l.counts.tapes 0 (labels_start (arc_size * l.e)) l.arcs l.behind)
+
+abbrev pub decreases-loop-h : goal.decreases-loop-h
+decreases-loop-h l = l.counts.tapes - l.h

@@ -1,0 +1,11 @@
+use Rattle.product_search.proofs.StartFacts.{admits_at, admits_new, admits_full}
+use Rattle.product_search.proofs.head.Head.admit.Goals as goal
+
+pub returns-in-At : goal.returns-in-At
+returns-in-At c = let s = c in admits_at _ _ _ _ s.requires.0 s.requires.1 _ _ c.enter_vertex.ensures _ c.in-At.is
+
+pub returns-in-New : goal.returns-in-New
+returns-in-New c = let s = c in admits_new _ _ _ _ s.requires.0 s.requires.1 _ _ c.enter_vertex.ensures _ c.in-New.is
+
+pub returns-in-Full : goal.returns-in-Full
+returns-in-Full c = let s = c in admits_full _ _ _ _ s.requires.0 s.requires.1 _ _ c.enter_vertex.ensures c.in-Full.is

@@ -1,0 +1,9 @@
+use mathlib.Core.Bool.{true, false}
+use Rattle.text_columns.proofs.LabelFacts.{label_judged_lem}
+use Rattle.text_columns.proofs.label.judge_label_column.Goals as goal
+
+pub returns-then-label_fits : goal.returns-then-label_fits
+returns-then-label_fits c = let s = c in label_judged_lem _ _ true s.requires c.label_fits.ensures c.if-label_fits.true
+
+pub returns : goal.returns
+returns c = let s = c in label_judged_lem _ _ false s.requires c.label_fits.ensures c.if-label_fits.false
