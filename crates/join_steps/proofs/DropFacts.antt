@@ -7,7 +7,7 @@ use native.Mathlib.Omega.{arith}
 use lib.Dec.{T, eqb, ltb, lt→ltb}
 use lib.ListN.{get_or, take}
 use borrow.Author.Tests.{ne_eqb}
-use Rattle.automata.specs.Lists.{and, or, any, all}
+use Rattle.automata.specs.Lists.{or, any, all}
 use Rattle.automata.specs.Tapes.{seconds, place_after}
 use Rattle.automata.specs.TapePair as automata
 use Rattle.automata.specs.Memory.{Memory}

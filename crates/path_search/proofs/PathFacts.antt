@@ -23,7 +23,7 @@ use Rattle.table_adjacency.specs.Chains.{Chainable}
 use Rattle.table.specs.Answers.{lent}
 use Rattle.table.specs.Records.{arc_at}
 use Rattle.table.specs.declared.answer.Counts.{Counts}
-use Rattle.table.proofs.SoundFacts.{few_tapes, few_states, few_arcs, states_lent_lem, arcs_lent_lem, arc_source, arc_target}
+use Rattle.table.proofs.SoundFacts.{few_tapes, few_states, few_arcs, states_lent, arcs_lent, arc_source, arc_target}
 use Rattle.lookup_tuple.specs.declared.Strings.{Strings}
 use Rattle.lookup_tuple.specs.Strings.{Stands}
 use Rattle.lookup_moves.specs.declared.spot.Spans.{Spans}
@@ -84,12 +84,12 @@ module _ (c : Counts) (states arcs text : List ℕ) (s : Strings) (size : ℕ) (
   }
 
   pub states_there : state_size * c.states ≤ length states
-  states_there = states_lent_lem (lent c states arcs) f.sound
+  states_there = states_lent (lent c states arcs) f.sound
 
   pub chainable : Chainable c.states c.arcs arcs 1024 8192
   unfolding arc_at
   chainable = record {
-    whole = arcs_lent_lem (lent c states arcs) f.sound;
+    whole = arcs_lent (lent c states arcs) f.sound;
     few = few_arcs (lent c states arcs) f.sound;
     sources = arc_source (lent c states arcs) f.sound;
     states_fit = few_states (lent c states arcs) f.sound;
@@ -130,7 +130,7 @@ module _ (c : Counts) (states arcs text : List ℕ) (s : Strings) (size : ℕ) (
       some_combination = positive;
       few_tapes = few_tapes (lent c states arcs) f.sound;
       few_arcs = few_arcs (lent c states arcs) f.sound;
-      lent = arcs_lent_lem (lent c states arcs) f.sound;
+      lent = arcs_lent (lent c states arcs) f.sound;
       labelled = λ e lt. ((ready_at 0 positive).each e lt).labelled;
       source = arc_source (lent c states arcs) f.sound;
       fits = omega (arith, three_numbers, l, small);

@@ -2,7 +2,6 @@ use Rattle.path_search.proofs.FollowArcsFacts.{shift_requires, shift_fits, follo
 use mathlib.Core.Path.{refl}
 use native.Mathlib.Nat.{mod-le}
 use native.Mathlib.Omega.{arith}
-use borrow.Author.Rules.{rules}
 use Rattle.path_search.proofs.follow.follow_arc.Goals as goal
 
 pub shift_of-requires : goal.shift_of-requires
@@ -12,13 +11,13 @@ pub overflow_add-to : goal.overflow_add-to
 overflow_add-to c =
     let s = c in
     let r = mod-le s.args.here s.args.spans.all in
-    let x = shift_fits _ _ _ _ _ s.requires.0 _ _ s.requires.3 c.Shift-of.ensures in
+    let x = shift_fits _ _ _ _ _ s.requires.0 _ _ s.requires.3 c.shift_of.ensures in
     omega (arith, r, x, s.requires.4, s.requires.1.room, s.well_formed)
 
 pub returns-in_default : goal.returns-in_default
 returns-in_default c =
     let s = c in
-    (follow_nowhere _ _ _ _ _ s.requires.0 _ _ _ s.requires.3 s.requires.5 _ _ c.Shift-of.ensures refl _ _ _ c.tight_to-step.ensures c.in_default.is, refl)
+    (follow_nowhere _ _ _ _ _ s.requires.0 _ _ _ s.requires.3 s.requires.5 _ _ c.shift_of.ensures refl _ _ _ c.tight_to-step.ensures c.in_default.is, refl)
 
 pub overflow_mul-counts : goal.overflow_mul-counts
 overflow_mul-counts c =
@@ -27,10 +26,10 @@ overflow_mul-counts c =
 pub enter_cell-requires : goal.enter_cell-requires
 enter_cell-requires c =
     let s = c in
-    (s.requires.2, reached_lt _ _ _ _ _ s.requires.0 _ _ _ s.requires.3 s.requires.5 _ _ c.Shift-of.ensures refl _ _ c.tight_to-step.ensures c.in-Cell.is)
+    (s.requires.2, reached_lt _ _ _ _ _ s.requires.0 _ _ _ s.requires.3 s.requires.5 _ _ c.shift_of.ensures refl _ _ c.tight_to-step.ensures c.in-Cell.is)
 
 pub returns : goal.returns
 returns c =
     let s = c in
     let e = c.enter_cell.ensures in
-    (follow_there _ _ _ _ _ s.requires.0 _ _ _ s.requires.3 s.requires.5 _ _ c.Shift-of.ensures refl _ _ _ _ _ c.tight_to-step.ensures c.in-Cell.is e.0, e.1)
+    (follow_there _ _ _ _ _ s.requires.0 _ _ _ s.requires.3 s.requires.5 _ _ c.shift_of.ensures refl _ _ _ _ _ c.tight_to-step.ensures c.in-Cell.is e.0, e.1)

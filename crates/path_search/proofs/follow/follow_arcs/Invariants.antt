@@ -1,9 +1,5 @@
-use Rattle.path_search.proofs.FollowArcsFacts.{Following, following_start, following_turn, following_up, following_end}
-use Rattle.path_search.proofs.ReadFacts.{state_lt, weights_kept}
-use Prim.Native.Nat.{◌-◌, ◌/◌}
-use mathlib.Core.Path.{refl}
-use native.Mathlib.Omega.{arith}
-use borrow.Author.Rules.{rules}
+use Rattle.path_search.proofs.FollowArcsFacts.{Following}
+use Prim.Native.Nat.{◌-◌}
 use Rattle.path_search.proofs.follow.follow_arcs.Given as goal
 
 abbrev pub invariant-loop-e : goal.invariant-loop-e

@@ -1,6 +1,5 @@
 use native.Mathlib.Omega.{arith}
 use Rattle.path_search.proofs.ListFacts.{short-told, path-told, counted_walk}
-use borrow.Author.Rules.{rules}
 use Rattle.path_search.proofs.path.list_path.Goals as goal
 
 pub returns-then-list-count : goal.returns-then-list-count

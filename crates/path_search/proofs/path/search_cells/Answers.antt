@@ -1,6 +1,5 @@
 use mathlib.Core.Path.{◌∙◌}
 use Rattle.path_search.proofs.CellsFacts.{started_kept, started_weights, cells_searched}
-use borrow.Author.Rules.{rules}
 use Rattle.path_search.proofs.path.search_cells.Goals as goal
 
 pub search-requires : goal.search-requires

@@ -2,7 +2,6 @@ use Rattle.path_search.proofs.SearchedFacts.{from_requires, start_other, start_h
 use mathlib.Core.Path.{refl}
 use lib.Arith.{digits_lt}
 use native.Mathlib.Omega.{arith}
-use borrow.Author.Rules.{rules}
 use Rattle.path_search.proofs.search.enter_start.Goals as goal
 
 pub from_state-requires : goal.from_state-requires

@@ -1,8 +1,6 @@
-use Rattle.path_search.proofs.SearchedFacts.{Starting, starting-first, starting_turn, starting_end}
+use Rattle.path_search.proofs.SearchedFacts.{starting-first, starting_turn, starting_end}
 use Rattle.path_search.proofs.ReadFacts.{weights_kept}
-use Prim.Native.Nat.{◌-◌}
 use native.Mathlib.Omega.{arith}
-use borrow.Author.Rules.{rules}
 use Rattle.path_search.proofs.search.enter_starts.Goals as goal
 
 pub loop-q-init : goal.loop-q-init

@@ -1,8 +1,5 @@
-use Rattle.path_search.proofs.SearchedFacts.{Starting, starting-first, starting_turn, starting_end}
-use Rattle.path_search.proofs.ReadFacts.{weights_kept}
+use Rattle.path_search.proofs.SearchedFacts.{Starting}
 use Prim.Native.Nat.{◌-◌}
-use native.Mathlib.Omega.{arith}
-use borrow.Author.Rules.{rules}
 use Rattle.path_search.proofs.search.enter_starts.Given as goal
 
 abbrev pub invariant-loop-q : goal.invariant-loop-q

@@ -1,7 +1,6 @@
 use Rattle.path_search.proofs.SearchedFacts.{end_absent, end_early, end_last}
 use native.Mathlib.Nat.{mod-lt}
 use native.Mathlib.Omega.{arith}
-use borrow.Author.Rules.{rules}
 use Rattle.path_search.proofs.search.is_end.Goals as goal
 
 pub returns-in_default : goal.returns-in_default

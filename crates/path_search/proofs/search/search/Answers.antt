@@ -1,6 +1,5 @@
-use Rattle.path_search.proofs.SearchedFacts.{Searching, searching_start, searching_none, order_room, here_lt, end_requires, searching_found, searching_turn}
+use Rattle.path_search.proofs.SearchedFacts.{searching_start, searching_none, order_room, here_lt, end_requires, searching_found, searching_turn}
 use Rattle.path_search.proofs.ReadFacts.{weights_kept}
-use Prim.Native.Nat.{◌-◌, ◌*◌}
 use native.Mathlib.Omega.{arith}
 use Rattle.path_search.proofs.search.search.Goals as goal
 

@@ -1,7 +1,5 @@
-use Rattle.path_search.proofs.SearchedFacts.{Searching, searching_start, searching_none, order_room, here_lt, end_requires, searching_found, searching_turn}
-use Rattle.path_search.proofs.ReadFacts.{weights_kept}
+use Rattle.path_search.proofs.SearchedFacts.{Searching}
 use Prim.Native.Nat.{◌-◌, ◌*◌}
-use native.Mathlib.Omega.{arith}
 use Rattle.path_search.proofs.search.search.Given as goal
 
 abbrev pub invariant-loop-head : goal.invariant-loop-head

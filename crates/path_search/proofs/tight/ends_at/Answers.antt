@@ -1,6 +1,5 @@
 use Rattle.path_search.proofs.TightFacts.{laid_parts, ends-moved, ends_stuck}
 use native.Mathlib.Omega.{arith}
-use borrow.Author.Rules.{rules}
 use Rattle.path_search.proofs.tight.ends_at.Goals as goal
 
 pub overflow_mul-e : goal.overflow_mul-e

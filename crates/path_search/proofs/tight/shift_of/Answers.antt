@@ -1,11 +1,8 @@
-use Rattle.path_search.proofs.TightFacts.{shift_start, shift_turn, shift_end, label_short, shift_bound}
-use Rattle.path_search.specs.Tight.{shift_by}
-use Prim.Native.Nat.{◌+◌, ◌-◌, ◌*◌, ◌≤◌}
-use mathlib.Core.Path.{◌≡◌, ◌∙◌}
+use Rattle.path_search.proofs.TightFacts.{shift_start, shift_turn, shift_end, shift_bound}
+use Prim.Native.Nat.{◌+◌, ◌-◌}
+use mathlib.Core.Path.{◌∙◌}
 use native.Mathlib.Omega.{arith}
 use borrow.Author.Rules.{rules}
-use Rattle.automata.specs.Layout.{arc_size, label_size}
-use Rattle.table.specs.Arcs.{labels_start}
 use Rattle.path_search.proofs.tight.shift_of.Goals as goal
 
 pub labels_start-at-requires : goal.labels_start-at-requires

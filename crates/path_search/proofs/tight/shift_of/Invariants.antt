@@ -1,9 +1,6 @@
-use Rattle.path_search.proofs.TightFacts.{shift_start, shift_turn, shift_end, label_short, shift_bound}
 use Rattle.path_search.specs.Tight.{shift_by}
 use Prim.Native.Nat.{◌+◌, ◌-◌, ◌*◌, ◌≤◌}
-use mathlib.Core.Path.{◌≡◌, ◌∙◌}
-use native.Mathlib.Omega.{arith}
-use borrow.Author.Rules.{rules}
+use mathlib.Core.Path.{◌≡◌}
 use Rattle.automata.specs.Layout.{arc_size, label_size}
 use Rattle.table.specs.Arcs.{labels_start}
 use Rattle.path_search.proofs.tight.shift_of.Given as goal

@@ -1,6 +1,5 @@
 use Rattle.path_search.proofs.TrailFacts.{before_fits, before_is}
 use native.Mathlib.Omega.{arith}
-use borrow.Author.Rules.{rules}
 use Rattle.path_search.proofs.trail.cell_before.Goals as goal
 
 pub overflow_mul-result : goal.overflow_mul-result
@@ -15,9 +14,9 @@ shift_of-requires c =
 pub overflow_add-result : goal.overflow_add-result
 overflow_add-result c =
     let s = c in
-    omega (arith, before_fits s.requires.0 s.requires.1 c.source_at-source.ensures c.Shift-of.result)
+    omega (arith, before_fits s.requires.0 s.requires.1 c.source_at-source.ensures c.shift_of.result)
 
 pub returns : goal.returns
 returns c =
     let s = c in
-    before_is s.args.counts _ s.args.spans _ _ _ _ c.source_at-source.ensures c.Shift-of.ensures
+    before_is s.args.counts _ s.args.spans _ _ _ _ c.source_at-source.ensures c.shift_of.ensures

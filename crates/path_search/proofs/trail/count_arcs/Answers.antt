@@ -1,7 +1,5 @@
-use Rattle.path_search.proofs.TrailFacts.{Counting, count_first, count_cell, count_stop, count_behind, count_turn, count_end}
-use Rattle.lookup_moves.specs.Distances.{cells_of}
+use Rattle.path_search.proofs.TrailFacts.{count_first, count_cell, count_stop, count_behind, count_turn, count_end}
 use native.Mathlib.Omega.{arith}
-use borrow.Author.Rules.{rules}
 use Rattle.path_search.proofs.trail.count_arcs.Goals as goal
 
 pub loop-left-init : goal.loop-left-init

@@ -1,7 +1,5 @@
-use Rattle.path_search.proofs.TrailFacts.{Counting, count_first, count_cell, count_stop, count_behind, count_turn, count_end}
+use Rattle.path_search.proofs.TrailFacts.{Counting}
 use Rattle.lookup_moves.specs.Distances.{cells_of}
-use native.Mathlib.Omega.{arith}
-use borrow.Author.Rules.{rules}
 use Rattle.path_search.proofs.trail.count_arcs.Given as goal
 
 abbrev pub invariant-loop-left : goal.invariant-loop-left

@@ -1,7 +1,5 @@
-use Rattle.path_search.proofs.TrailFacts.{Writing, write_first, write_cell, write_length, write_room, write_behind, write_turn, write_end}
-use Rattle.lookup_moves.specs.Distances.{cells_of}
+use Rattle.path_search.proofs.TrailFacts.{write_first, write_cell, write_room, write_behind, write_turn, write_end}
 use native.Mathlib.Omega.{arith}
-use borrow.Author.Rules.{rules}
 use Rattle.path_search.proofs.trail.write_arcs.Goals as goal
 
 pub loop-left-init : goal.loop-left-init

@@ -1,7 +1,5 @@
-use Rattle.path_search.proofs.TrailFacts.{Writing, write_first, write_cell, write_length, write_room, write_behind, write_turn, write_end}
+use Rattle.path_search.proofs.TrailFacts.{Writing}
 use Rattle.lookup_moves.specs.Distances.{cells_of}
-use native.Mathlib.Omega.{arith}
-use borrow.Author.Rules.{rules}
 use Rattle.path_search.proofs.trail.write_arcs.Given as goal
 
 abbrev pub invariant-loop-left : goal.invariant-loop-left
