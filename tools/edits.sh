@@ -9,7 +9,6 @@ cd "$(dirname "$0")/.."
 copy=$(mktemp -d)
 trap 'rm -rf "$copy"' EXIT
 cp -r crates crates.txt "$copy"
-[ ! -d target ] || cp -r target "$copy"
 rm -rf "$copy"/crates/*/must-fail
 names=${*:-$(ls tests/edits)}
 for name in $names; do

@@ -164,7 +164,7 @@ def turned(path, text, table, fields, alone):
             return table[word]
         return word
 
-    return re.sub(WORD if not rust else r"(?<![\w.'\"-])" + r"[a-z][\w'-]*" + r"|(?<=\.)[a-z][\w'-]*", one, text)
+    return re.sub(WORD if not rust else r"(?<![\w.'\"-])" + r"[a-zℕ][\w'-]*" + r"|(?<=\.)[a-z][\w'-]*", one, text)
 
 
 def main(argv):

@@ -16,7 +16,7 @@ pub const STATE_SPACE: usize = 60 * STATE_SIZE;
 pub const ARC_SPACE: usize = 200 * ARC_SIZE;
 
 // A table, read or made.
-#[derive(Drop)]
+#[derive(Clone, Copy)]
 pub struct Table {
     pub counts: Counts,
     pub states: [u8; STATE_SPACE],

@@ -20,7 +20,6 @@ ghost use Rattle.automata.specs.Calls.Forecast.{forecast_recorded};
 ghost use Rattle.pairs.specs.PairBytes.{pairs_of};
 ghost use Rattle.c_answers.specs.Words.{tells_made, told_made, tells_built, told_built, tells_joined, told_joined, tells_written, told_written, tells_found, told_found, tells_recorded, told_recorded, tells_path, told_path};
 
-
 // Reads the text of a table.
 #[unsafe(no_mangle)]
 pub extern "C" fn tomchoen_read(text: &[u8], out_states: &mut [u8], out_arcs: &mut [u8]) -> u64
@@ -298,7 +297,17 @@ pub extern "C" fn tomchoen_path(
         ≡ told_path (path_recorded (memory_of tapes states arcs state_bytes.now arc_bytes.now)
         tuple.now res.old list.old work.old) }
 {
-    tomchoen::c::tomchoen_path(tapes, states, arcs, state_bytes, arc_bytes, tuple, res, list, work)
+    tomchoen::c::tomchoen_path(
+        tapes,
+        states,
+        arcs,
+        state_bytes,
+        arc_bytes,
+        tuple,
+        res,
+        list,
+        work,
+    )
 }
 
 // Tells for pairs of tapes, three bytes a pair, what a build on each can need. No limit is read.
@@ -318,5 +327,14 @@ pub extern "C" fn tomchoen_forecast(
         arc_bytes.now) (tapes_of (pairs_of pairs.now)) res.old
         work.old) }
 {
-    tomchoen::c::tomchoen_forecast(tapes, states, arcs, state_bytes, arc_bytes, pairs, res, work)
+    tomchoen::c::tomchoen_forecast(
+        tapes,
+        states,
+        arcs,
+        state_bytes,
+        arc_bytes,
+        pairs,
+        res,
+        work,
+    )
 }

@@ -1,0 +1,9 @@
+use Rattle.tomchoen.proofs.WordFacts.{made_told}
+use Rattle.tomchoen.proofs.FitFacts.{project_counts}
+use Rattle.tomchoen.proofs.c.tomchoen_project.Goals as goal
+
+pub table_word-requires : goal.table_word-requires
+table_word-requires c = project_counts _ _ _ _ _ _ c.project-answer.ensures
+
+pub returns : goal.returns
+returns c = made_told _ _ _ _ _ c.project-answer.ensures c.table_word.ensures
