@@ -16,15 +16,10 @@ use Rattle.automata.specs.AgreeText.{input_limit, shortest_line, pair_line}
 use Rattle.automata.proofs.AnswerFacts.{require-ok, forget_map, forget_unit, refused_map}
 use Rattle.automata.proofs.NumberFacts.{decimal_lawful}
 use Rattle.automata.specs.Layout.{newline, entry_width, pairs_column, pair_width}
-use Rattle.table.specs.declared.answer.Refusal.{Refusal}
-use Rattle.table.specs.declared.answer.Judged.{Judged}
-use Rattle.table.specs.declared.answer.Judged.TheVariants as judged
-use Rattle.table.specs.Answers.{refusal_number, judged_as}
+use Rattle.table.specs.Answers.{Judged, judged_as}
 use Rattle.table.proofs.AnswerFacts.{both_judged, forget-ok}
 use Rattle.table.proofs.SequenceFacts.{first_short, first_value}
-use Rattle.text_columns.specs.declared.decimal.Number.{Number}
-use Rattle.text_columns.specs.declared.decimal.Number.TheVariants.{Value, Refused}
-use Rattle.text_columns.specs.Columns.{number_as, read_decimal}
+use Rattle.text_columns.specs.Columns.{Number, number_as, read_decimal}
 use Rattle.text_lines.proofs.LineFacts.{line_end_is}
 use Rattle.agree_line.specs.PairColumns.{pairs_read}
 use Rattle.agree_line.specs.LineParts.{count_read, line_read, rest_read, parts_read}
@@ -109,36 +104,36 @@ module _ (n : ℕ) (x : List ℕ) (h : shortest_line ≤ length x) where
         let b = behind in
         ap (λ (m : ℕ). forget ((pair_line n).read (take m (drop pairs_column x)))) (sym w) ∙ first_value (pair_line n) (drop pairs_column x) (omega arith)
 
-    module _ (j : Judged) (q : judged_as j ≡ forget (line_read n (take (shortest_line + n * pair_width - pairs_column) (drop pairs_column x)))) where
-      judged_first : judged_as j ≡ forget (read_first (pair_line n) (drop pairs_column x))
+    module _ (j : Answer (Unit {0})) (q : j ≡ forget (line_read n (take (shortest_line + n * pair_width - pairs_column) (drop pairs_column x)))) where
+      judged_first : j ≡ forget (read_first (pair_line n) (drop pairs_column x))
       judged_first =
           let w : shortest_line + n * pair_width - pairs_column ≡ 1 + n * pair_width = omega arith in
           q ∙ ap (λ (m : ℕ). forget (line_read n (take m (drop pairs_column x)))) w ∙ line_first
 
       -- a line that is refused
-      pub rest_refused : (r : Refusal) → j ≡ judged.Refused r → refused (refusal_number r) ≡ rest_read n x
+      pub rest_refused : (r : ℕ) → j ≡ refused r → refused r ≡ rest_read n x
       unfolding rest_read
-      rest_refused r f = refused_map (read_first (pair_line n) (drop pairs_column x)) (to_parts n) (refusal_number r) (sym judged_first ∙ ap judged_as f)
+      rest_refused r f = refused_map (read_first (pair_line n) (drop pairs_column x)) (to_parts n) r (sym judged_first ∙ f)
 
       -- a line that is read
-      pub rest_fine : j ≡ judged.Fine → ok (n, shortest_line + n * pair_width) ≡ rest_read n x
+      pub rest_fine : j ≡ ok tt → ok (n, shortest_line + n * pair_width) ≡ rest_read n x
       unfolding rest_read
       rest_fine f =
-          let g = forget-ok (read_first (pair_line n) (drop pairs_column x)) (sym judged_first ∙ ap judged_as f) in
+          let g = forget-ok (read_first (pair_line n) (drop pairs_column x)) (sym judged_first ∙ f) in
           sym (ap (λ (i : Answer (List TapePair × List ℕ)). i >>= λ a. ok (to_parts n a)) g.1)
 
 -- ---- the first line
-module _ (x : List ℕ) (r : Number) (e : number_as r ≡ count_read x) where
+module _ (x : List ℕ) where
   -- a number of pairs that is refused decides
-  pub parts_refused : (k : Refusal) → r ≡ Refused k → refused (refusal_number k) ≡ parts_read x
+  pub parts_refused : (k : ℕ) → refused k ≡ count_read x → refused k ≡ parts_read x
   unfolding parts_read
-  parts_refused k f = rw (← e, f)
+  parts_refused k e = rw (← e)
 
   -- the bounds of a number of pairs
-  pub parts_counted : (n : ℕ) → r ≡ Value n → (n < 1000) × (shortest_line ≤ length x)
-  parts_counted n f = count_known x n (sym e ∙ ap number_as f)
+  pub parts_counted : (n : ℕ) → ok n ≡ count_read x → (n < 1000) × (shortest_line ≤ length x)
+  parts_counted n e = count_known x n (sym e)
 
   -- otherwise the rest of the line decides
-  pub parts_value : (n : ℕ) → r ≡ Value n → rest_read n x ≡ parts_read x
+  pub parts_value : (n : ℕ) → ok n ≡ count_read x → rest_read n x ≡ parts_read x
   unfolding parts_read
-  parts_value n f = rw (← e, f)
+  parts_value n e = rw (← e)

@@ -10,14 +10,13 @@ use Rattle.automata.specs.TapePair.{TapePair}
 use Rattle.automata.specs.Decimal.{decimal}
 use Rattle.automata.specs.AgreeText.{pair_columns}
 use Rattle.automata.proofs.AnswerFacts.{bind_ok, beside-ok, forget_map}
-use Rattle.table.specs.declared.answer.Judged.{Judged}
-use Rattle.table.specs.Answers.{judged_as}
+use Rattle.table.specs.Answers.{Judged, judged_as}
 use Rattle.table.specs.Region.{splice}
 use Rattle.table.proofs.AnswerFacts.{beside-next, beside_first, beside-last, both_judged}
 use Rattle.table.proofs.RegionFacts.{two_stores, splice_snoc}
-use Rattle.text_columns.specs.declared.decimal.Number.{Number}
-use Rattle.text_columns.specs.declared.decimal.Number.TheVariants.{Value, Refused}
-use Rattle.text_columns.specs.Columns.{number_as, number_of, read_decimal}
+use Rattle.std.specs.Prelude.{Ok, Err}
+use Rattle.std.specs.Result.{result_unwrap_or}
+use Rattle.text_columns.specs.Columns.{Number, number_as, read_decimal}
 use Rattle.text_store.specs.Recode.{recoded}
 use Rattle.text_store.proofs.RecodeFacts.{recoded-copies}
 use Rattle.agree_line.specs.PairBytes.{saturated, bytes_of_pair, pair_bytes}
@@ -97,12 +96,12 @@ pairs_end x at left j e = rw e (beside-last (judged_as j) [])
 
 -- ---- what is kept of a pair
 
-value_is : (n : Number) → number_of n ≡ value_of (number_as n)
-value_is (Value n) = refl
-value_is (Refused k) = refl
+value_is : (n : Number) → result_unwrap_or n 0 ≡ value_of (number_as n)
+value_is (Ok n) = refl
+value_is (Err k) = refl
 
 -- the byte of a number that was read
-pub byte_kept : (x : List ℕ) (n : Number) (m r : ℕ) → number_as n ≡ read_decimal x → m ≡ number_of n → r ≡ saturated m → r ≡ byte_of_column x
+pub byte_kept : (x : List ℕ) (n : Number) (m r : ℕ) → number_as n ≡ read_decimal x → m ≡ result_unwrap_or n 0 → r ≡ saturated m → r ≡ byte_of_column x
 byte_kept x n m r p q e = e ∙ ap saturated (q ∙ value_is n ∙ ap value_of p)
 
 -- three stores write the bytes of a pair

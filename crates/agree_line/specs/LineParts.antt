@@ -1,5 +1,5 @@
 -- The parts of the first line of an input.
-use Rattle.std.specs.Prelude.{List, ℕ, ◌+◌, ◌*◌, leb, length, take, drop}
+use Rattle.std.specs.Prelude.{Result, Ok, Err, List, ℕ, ◌+◌, ◌*◌, leb, length, take, drop}
 use Rattle.automata.specs.Answer.{◌>>=◌, Answer, ok, refused, require}
 use Rattle.automata.specs.Refusal.{size, short}
 use Rattle.automata.specs.TapePair.{TapePair}
@@ -8,8 +8,8 @@ use Rattle.automata.specs.Decimal.{decimal}
 use Rattle.automata.specs.Layout.{entry_width, pairs_column, pair_width}
 use Rattle.automata.specs.AgreeText.{input_limit, shortest_line, pair_line}
 use Rattle.table.specs.Answers.{refusal_number}
-use Rattle.agree_line.specs.declared.line.PairLine.{PairLine}
-use Rattle.agree_line.specs.declared.line.PairLine.TheVariants as line
+use Rattle.table.specs.declared.answer.Refusal.{Refusal}
+use Rattle.agree_line.specs.declared.line.LineParts.{LineParts}
 
 -- the number of pairs
 unfoldable pub count_read : List ℕ → Answer ℕ
@@ -30,7 +30,11 @@ rest_read n x = read_first (pair_line n) (drop pairs_column x) >>= λ p. ok (n, 
 unfoldable pub parts_read : List ℕ → Answer (ℕ × ℕ)
 parts_read x = count_read x >>= λ n. rest_read n x
 
--- the parts told, or the refusal
+-- the parts told of a first line, or its refusal
+abbrev pub PairLine : Type 0
+PairLine = Result LineParts Refusal
+
+-- what it stands for
 abbrev pub parts_as : PairLine → Answer (ℕ × ℕ)
-parts_as (line.Line p) = ok (p.count, p.next)
-parts_as (line.Refused k) = refused (refusal_number k)
+parts_as (Ok p) = ok (p.count, p.next)
+parts_as (Err k) = refused (refusal_number k)

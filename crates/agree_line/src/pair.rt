@@ -8,35 +8,33 @@ ghost use Rattle.text_store.specs.Recode.{recoded};
 ghost use Rattle.agree_line.specs.PairBytes.{saturated};
 ghost use Rattle.agree_line.specs.PairColumns.{byte_of_column, read_pair, pairs_read, bytes_of_columns};
 
-use table::answer::{Judged, both};
+use table::answer::{Refusal, both};
 use table::layout::{ENTRY_WIDTH, LIMIT_COLUMN, PAIR_WIDTH, SECOND_COLUMN};
 use table::pair::PAIR;
-use text_columns::decimal::{judge_number, number_of, read_decimal};
+use text_columns::decimal::read_decimal;
+use text_store::recode::write_parts;
 
 // The columns of a pair hold three numbers.
-fn judge_pair(columns: &[u8]) -> Judged
+fn judge_pair(columns: &[u8]) -> Result<(), Refusal>
     requires { length columns.now ≡ pair_width }
     ensures { judged_as result ≡ forget (read_pair columns.now) }
 {
     let first = read_decimal(&columns[0..ENTRY_WIDTH]);
     let second = read_decimal(&columns[SECOND_COLUMN..LIMIT_COLUMN]);
     let limit = read_decimal(&columns[LIMIT_COLUMN..PAIR_WIDTH]);
-    let behind = both(judge_number(second), judge_number(limit));
-    both(judge_number(first), behind)
+    let behind = both(second.and(Ok(())), limit.and(Ok(())));
+    both(first.and(Ok(())), behind)
 }
 
 // The columns of so many pairs.
-pub fn judge_pairs(columns: &[u8], count: usize) -> Judged
+pub fn judge_pairs(columns: &[u8], count: usize) -> Result<(), Refusal>
     requires { length columns.now ≡ count * pair_width }
     ensures { judged_as result ≡ forget (pairs_read count columns.now) }
 {
-    let mut judged = Judged::Fine;
-    let mut left = count;
-    let mut at = 0;
-    while 0 < left {
+    let mut judged = Ok(());
+    for i in 0..count {
+        let at = PAIR_WIDTH * i;
         judged = both(judged, judge_pair(&columns[at..at + PAIR_WIDTH]));
-        left -= 1;
-        at += PAIR_WIDTH;
     }
     judged
 }
@@ -45,10 +43,7 @@ pub fn judge_pairs(columns: &[u8], count: usize) -> Judged
 fn saturate(n: usize) -> u8
     ensures { result ≡ saturated n }
 {
-    if 255 < n {
-        return 255;
-    }
-    n as u8
+    n.min(255) as u8
 }
 
 // The byte of the number in its columns.
@@ -56,8 +51,7 @@ fn byte_of(column: &[u8]) -> u8
     requires { length column.now ≡ entry_width }
     ensures { result ≡ byte_of_column column.now }
 {
-    let read = read_decimal(column);
-    saturate(number_of(read))
+    saturate(read_decimal(column).unwrap_or(0))
 }
 
 // The three bytes of the pair in its columns.
@@ -76,13 +70,5 @@ pub fn store_pairs(columns: &[u8], count: usize, pairs: &mut [u8])
     ensures { pairs.new ≡ splice 0 (recoded bytes_of_columns pair_width count columns.now)
         pairs.old }
 {
-    let mut left = count;
-    let mut at = 0;
-    let mut to = 0;
-    while 0 < left {
-        store_pair(&columns[at..at + PAIR_WIDTH], pairs, to);
-        left -= 1;
-        at += PAIR_WIDTH;
-        to += PAIR;
-    }
+    write_parts(columns, PAIR_WIDTH, count, pairs, 0, PAIR, store_pair);
 }

@@ -23,8 +23,8 @@ use Rattle.table.proofs.RegionFacts.{length_splice, take_splice_end}
 use Rattle.text_store.specs.Recode.{recoded}
 use Rattle.text_store.proofs.RecodeFacts.{recoded_take, length_recoded}
 use Rattle.agree_line.specs.declared.line.LineParts.{LineParts}
-use Rattle.agree_line.specs.declared.line.PairLine.{PairLine}
-use Rattle.agree_line.specs.declared.line.PairLine.TheVariants as line
+use Rattle.agree_line.specs.LineParts.{PairLine}
+use Rattle.std.specs.Prelude.{Ok, Err}
 use Rattle.agree_line.specs.PairBytes.{pair_bytes}
 use Rattle.agree_line.specs.PairColumns.{pairs_read, bytes_of_columns}
 use Rattle.agree_line.specs.LineParts.{count_read, line_read, rest_read, parts_read, parts_as}
@@ -147,7 +147,7 @@ told x q e =
 -- ---- what is answered
 
 -- a refusal is told as it is
-pub line_refused : (x bytes : List ℕ) (r : PairLine) (k : Refusal) → parts_as r ≡ parts_read x → r ≡ line.Refused k → FirstLine x bytes r
+pub line_refused : (x bytes : List ℕ) (r : PairLine) (k : Refusal) → parts_as r ≡ parts_read x → r ≡ Err k → FirstLine x bytes r
 line_refused x bytes r k e f = subst (FirstLine x bytes) (sym f) (record {
   answer = sym (first-refused x (refusal_number k) (sym e ∙ ap parts_as f));
   count_fits = omega arith;
@@ -155,7 +155,7 @@ line_refused x bytes r k e f = subst (FirstLine x bytes) (sym f) (record {
   next_fits = omega arith;
 })
 
-module _ (x : List ℕ) (r : PairLine) (p : LineParts) (e : parts_as r ≡ parts_read x) (f : r ≡ line.Line p) where
+module _ (x : List ℕ) (r : PairLine) (p : LineParts) (e : parts_as r ≡ parts_read x) (f : r ≡ Ok p) where
   -- what is told of the line
   pub line-told : Told x (p.count, p.next)
   line-told = told x (p.count, p.next) (sym e ∙ ap parts_as f)
@@ -170,7 +170,7 @@ module _ (x : List ℕ) (r : PairLine) (p : LineParts) (e : parts_as r ≡ parts
         (omega (arith, q, t.next_is), omega (arith, t.few, l))
 
     -- with the bytes of its pairs stored, the line is told as it is read
-    pub line-given : (after : List ℕ) → after ≡ splice 0 (recoded bytes_of_columns pair_width p.count (take (p.next - pairs_column) (drop pairs_column x))) bytes → FirstLine x after (line.Line p)
+    pub line-given : (after : List ℕ) → after ≡ splice 0 (recoded bytes_of_columns pair_width p.count (take (p.next - pairs_column) (drop pairs_column x))) bytes → FirstLine x after (Ok p)
     line-given after g =
         let t = line-told in
         let ys = recoded bytes_of_columns pair_width p.count (take (p.next - pairs_column) (drop pairs_column x)) in

@@ -29,14 +29,13 @@ use Rattle.automata.proofs.CallSteps.{intersect-table-refused, intersect_judged}
 use Rattle.laws.proofs.Results
 use Rattle.laws.proofs.AgreeCalls.{held_answer}
 use Rattle.table.specs.declared.answer.Refusal.{Refusal}
-use Rattle.table.specs.declared.answer.TableAnswer.{TableAnswer}
-use Rattle.table.specs.declared.answer.TableAnswer.TheVariants as table
+use Rattle.table.specs.Answers.{TableAnswer}
 use Rattle.table.specs.declared.answer.Counts.{Counts}
 use Rattle.table.specs.Answers.{refusal_number, table_as, lent}
 use Rattle.pairs.specs.PairBytes.{pairs_of}
 use Rattle.agree_line.specs.declared.line.LineParts.{LineParts}
-use Rattle.agree_line.specs.declared.line.PairLine.{PairLine}
-use Rattle.agree_line.specs.declared.line.PairLine.TheVariants as line
+use Rattle.agree_line.specs.LineParts.{PairLine}
+use Rattle.std.specs.Prelude.{Ok, Err}
 use Rattle.agree_line.specs.PairBytes.{pair_bytes}
 use Rattle.agree_text.specs.FirstLine.{line_as, line_bytes, count_of, next_of, FirstLine}
 use Rattle.agree_text.specs.Wrote.{Wrote}
@@ -67,12 +66,12 @@ module _ (m : Memory) (hs : length m.state_bytes ≤ states_lent) (ps : List Tap
 
   module _ (r : TableAnswer) (states arcs w : List ℕ) (q : built_of (table_as r) states arcs w ≡ intersect_outcome m ps s work) where
     -- a refusal is what is kept
-    pub kept_refused : (k : Refusal) → r ≡ table.Refused k → refused (refusal_number k) ≡ kept_of m ps
+    pub kept_refused : (k : Refusal) → r ≡ Err k → refused (refusal_number k) ≡ kept_of m ps
     unfolding held given
     kept_refused k f = ap (λ (z : TableAnswer). held (made_of (table_as z) states arcs)) (sym f) ∙ ap (λ (o : Built). held o.made) q ∙ kept_is
 
     -- the table in the slices is what is kept
-    pub kept_table : (c : Counts) → r ≡ table.Table c → decode_table (lent c states arcs) ≡ kept_of m ps
+    pub kept_table : (c : Counts) → r ≡ Ok c → decode_table (lent c states arcs) ≡ kept_of m ps
     unfolding held given
     kept_table c f = ap (λ (z : TableAnswer). held (made_of (table_as z) states arcs)) (sym f) ∙ ap (λ (o : Built). held o.made) q ∙ kept_is
 
@@ -86,13 +85,13 @@ module _ (text : List ℕ) (s : Slices) (room-is : space_of s ≡ room) where
 
   module _ (r : TableAnswer) (states arcs : List ℕ) (q : made_of (table_as r) states arcs ≡ read_outcome text s) (ps : List TapePair) where
     -- a text that is refused
-    pub text-refused : (k : Refusal) → r ≡ table.Refused k → refused (refusal_number k) ≡ kept_text text ps
+    pub text-refused : (k : Refusal) → r ≡ Err k → refused (refusal_number k) ≡ kept_text text ps
     unfolding held given kept_text
     text-refused k f = ap (λ (a : Answer (Automaton ℕ)). a >>= λ A. intersect_call true room ps A)
         (ap (λ (z : TableAnswer). held (made_of (table_as z) states arcs)) (sym f) ∙ ap held q ∙ read_held)
 
     -- what is kept of the table in the slices is what is kept of the text
-    pub text-table : (c : Counts) → r ≡ table.Table c → kept_of (lent c states arcs) ps ≡ kept_text text ps
+    pub text-table : (c : Counts) → r ≡ Ok c → kept_of (lent c states arcs) ps ≡ kept_text text ps
     unfolding held given kept_text kept_of
     text-table c f = ap (λ (a : Answer (Automaton ℕ)). a >>= λ A. intersect_call true room ps A)
         (ap (λ (z : TableAnswer). held (made_of (table_as z) states arcs)) (sym f) ∙ ap held q ∙ read_held)
@@ -128,7 +127,7 @@ kept_cut text ps = go (read_table state_space arc_space text) refl
 
 module _ (x bytes : List ℕ) (r : PairLine) (t : FirstLine x bytes r) where
   -- a first line that is refused decides
-  pub agree-refused : (k : Refusal) → r ≡ line.Refused k → write_output (refused (refusal_number k)) ≡ agree x
+  pub agree-refused : (k : Refusal) → r ≡ Err k → write_output (refused (refusal_number k)) ≡ agree x
   unfolding line_bytes
   agree-refused k f = sym (agree_is x ∙ ap write_output (go (read_pairs x) (ap (line_as x bytes) (sym f) ∙ t.answer)))
     where
@@ -138,7 +137,7 @@ module _ (x bytes : List ℕ) (r : PairLine) (t : FirstLine x bytes r) where
       go (refused n) e = let i : n ≡ refusal_number k = cc in ap refused i
 
   -- behind a first line that is told, what is kept of the rest decides
-  pub agree-line : (p : LineParts) → r ≡ line.Line p → write_output (kept_text (take (length x - p.next) (drop p.next x)) (pairs_of (take (3 * p.count) bytes))) ≡ agree x
+  pub agree-line : (p : LineParts) → r ≡ Ok p → write_output (kept_text (take (length x - p.next) (drop p.next x)) (pairs_of (take (3 * p.count) bytes))) ≡ agree x
   unfolding line_bytes
   agree-line p f =
       let w : List ℕ × List ℕ = (take (3 * p.count) bytes, drop p.next x) in
@@ -150,7 +149,7 @@ module _ (x bytes : List ℕ) (r : PairLine) (t : FirstLine x bytes r) where
       ∙ sym (agree_is x ∙ ap (λ (a : Answer (List TapePair × List ℕ)). write_output (a >>= λ p. kept_text p.1 p.0)) b.1)
 
   -- the bounds of a line that is told
-  pub line_bounds : (p : LineParts) → r ≡ line.Line p → (p.count ≤ 999) × (p.next ≤ length x) × (3 * p.count ≤ length bytes)
+  pub line_bounds : (p : LineParts) → r ≡ Ok p → (p.count ≤ 999) × (p.next ≤ length x) × (3 * p.count ≤ length bytes)
   line_bounds p f =
       let c : count_of r ≡ p.count = ap count_of f in
       let n : next_of r ≡ p.next = ap next_of f in

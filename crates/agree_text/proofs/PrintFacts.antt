@@ -24,8 +24,8 @@ use Rattle.automata.proofs.CallSteps.{write_table-refused, write_judged}
 use Rattle.automata.specs.Layout.{arc_width, header_width, label_width, state_width}
 use Rattle.table.specs.declared.answer.Refusal.{Refusal}
 use Rattle.table.specs.Answers.{refusal_number}
-use Rattle.text.specs.declared.WriteAnswer.{WriteAnswer}
-use Rattle.text.specs.declared.WriteAnswer.TheVariants as written
+use Rattle.std.specs.Prelude.{Ok, Err}
+use Rattle.text.specs.Answers.{WriteAnswer}
 use Rattle.text.specs.Answers.{written_as, written_of}
 use Rattle.agree_text.specs.Kept.{arcs_lent, output_lent, states_lent}
 use Rattle.agree_text.specs.Wrote.{Wrote}
@@ -61,7 +61,7 @@ module _ (m : Memory) (hs : length m.state_bytes ≤ states_lent) (ha : length m
 
   module _ (r : WriteAnswer) (after : List ℕ) (q : written_of (written_as r) after ≡ write_outcome m out) where
     -- a number of bytes: the text of the table
-    pub print_done : (n : ℕ) → r ≡ written.Bytes n → Wrote (write_output (decode_table m)) out after n
+    pub print_done : (n : ℕ) → r ≡ Ok n → Wrote (write_output (decode_table m)) out after n
     unfolding write_output print
     print_done n f = go (decode_table m) (ap (λ (z : WriteAnswer). written_of (written_as z) after) (sym f) ∙ q ∙ printed (decode_table m) refl)
       where
@@ -70,7 +70,7 @@ module _ (m : Memory) (hs : length m.state_bytes ≤ states_lent) (ha : length m
         go (refused k) e = absurd (refused≢ok (sym (ap (λ (w : Written). w.answer) e)))
 
     -- a refusal: the output is as it was, and the line of the refusal is written over it
-    pub print-refused : (k : Refusal) → r ≡ written.Refused k → (last : List ℕ) (n : ℕ) → Wrote (write_output (refused (refusal_number k))) after last n
+    pub print-refused : (k : Refusal) → r ≡ Err k → (last : List ℕ) (n : ℕ) → Wrote (write_output (refused (refusal_number k))) after last n
         → Wrote (write_output (decode_table m)) out last n
     unfolding print
     print-refused k f last n w = go (decode_table m) (ap (λ (z : WriteAnswer). written_of (written_as z) after) (sym f) ∙ q ∙ printed (decode_table m) refl)

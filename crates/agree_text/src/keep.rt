@@ -2,19 +2,19 @@
 ghost use Rattle.std.specs.Prelude.{◌≤◌, length};
 ghost use Rattle.automata.specs.Memory.{decode_table};
 ghost use Rattle.automata.specs.AgreeText.{write_output};
-ghost use Rattle.table.specs.Answers.{lent};
+ghost use Rattle.table.specs.Answers.{memory};
 ghost use Rattle.pairs.specs.PairBytes.{pairs_of};
 ghost use Rattle.agree_text.specs.Kept.{arcs_lent, kept_of, kept_text, output_lent, states_lent};
 ghost use Rattle.agree_text.specs.Wrote.{Wrote};
 
 use crate::write_refusal;
 use intersect::call::intersect;
-use table::answer::{Counts, TableAnswer};
 use table::layout::{
     ARC_SIZE, ARC_WIDTH, CONFIG_SIZE, DELAYS_SIZE, HEADER_WIDTH, LABEL_WIDTH, STATE_SIZE,
     STATE_WIDTH, STEP_SIZE,
 };
-use text::{WriteAnswer, read, write};
+use table::lent::Table;
+use text::{read, write};
 
 // How many states and arcs are lent to the table read and again to the result, and their bytes.
 const STATES: usize = 64;
@@ -33,40 +33,37 @@ pub const OUTPUT_LENT: usize = HEADER_WIDTH
     + ARCS * (ARC_WIDTH + 8 * LABEL_WIDTH);
 
 // The text of a table in the space that the program lends, or the line of its refusal.
-pub fn print_table(counts: Counts, states: &[u8], arcs: &[u8], output: &mut [u8]) -> usize
-    requires { ((length states.now ≤ states_lent) × (length arcs.now ≤ arcs_lent))
+pub fn print_table(table: &Table, output: &mut [u8]) -> usize
+    requires { ((length table.now.states.now ≤ states_lent) × (length table.now.arcs.now ≤ arcs_lent))
         × (output_lent ≤ length output.old) }
-    ensures { Wrote (write_output (decode_table (lent counts states.now arcs.now)))
-        output.old output.new result }
+    ensures { Wrote (write_output (decode_table (memory table.now))) output.old output.new result }
 {
-    let written = write(counts, states, arcs, output);
-    match written {
-        WriteAnswer::Bytes(n) => n,
-        WriteAnswer::Refused(k) => write_refusal(output, k),
+    match write(table, output) {
+        Ok(n) => n,
+        Err(k) => write_refusal(output, k),
     }
 }
 
 // The text of what is kept of a table in the space that the program lends.
-fn keep_table(counts: Counts, states: &[u8], arcs: &[u8], pairs: &[u8], output: &mut [u8]) -> usize
-    requires { (length states.now ≤ states_lent) × (output_lent ≤ length output.old) }
-    ensures { Wrote (write_output (kept_of (lent counts states.now arcs.now)
-        (pairs_of pairs.now))) output.old output.new result }
+fn keep_table(table: &Table, pairs: &[u8], output: &mut [u8]) -> usize
+    requires { (length table.now.states.now ≤ states_lent) × (output_lent ≤ length output.old) }
+    ensures { Wrote (write_output (kept_of (memory table.now) (pairs_of pairs.now)))
+        output.old output.new result }
 {
     let mut kept_states = [0u8; STATES_LENT];
     let mut kept_arcs = [0u8; ARCS_LENT];
     let mut work = [0u8; WORK_LENT];
-    let kept = intersect(
-        counts,
-        states,
-        arcs,
-        pairs,
-        &mut kept_states,
-        &mut kept_arcs,
-        &mut work,
-    );
+    let kept = intersect(table, pairs, &mut kept_states, &mut kept_arcs, &mut work);
     match kept {
-        TableAnswer::Table(c) => print_table(c, &kept_states, &kept_arcs, output),
-        TableAnswer::Refused(k) => write_refusal(output, k),
+        Ok(counts) => {
+            let made = Table {
+                counts,
+                states: &kept_states,
+                arcs: &kept_arcs,
+            };
+            print_table(&made, output)
+        }
+        Err(k) => write_refusal(output, k),
     }
 }
 
@@ -78,9 +75,15 @@ pub fn keep_text(text: &[u8], pairs: &[u8], output: &mut [u8]) -> usize
 {
     let mut states = [0u8; STATES_LENT];
     let mut arcs = [0u8; ARCS_LENT];
-    let table = read(text, &mut states, &mut arcs);
-    match table {
-        TableAnswer::Table(c) => keep_table(c, &states, &arcs, pairs, output),
-        TableAnswer::Refused(k) => write_refusal(output, k),
+    match read(text, &mut states, &mut arcs) {
+        Ok(counts) => {
+            let table = Table {
+                counts,
+                states: &states,
+                arcs: &arcs,
+            };
+            keep_table(&table, pairs, output)
+        }
+        Err(k) => write_refusal(output, k),
     }
 }

@@ -12,9 +12,9 @@ ghost use Rattle.agree_text.specs.FirstLine.{FirstLine};
 ghost use Rattle.agree_text.specs.Wrote.{Wrote};
 
 use crate::keep::{OUTPUT_LENT, keep_text};
-use agree_line::line::{PairLine, read_line};
+use agree_line::line::{LineParts, read_line};
 use agree_line::pair::store_pairs;
-use table::answer::{Refusal, refusal_number};
+use table::answer::Refusal;
 use table::bytes::copy_into;
 use table::layout::{NEWLINE, PAIRS_COLUMN};
 use table::pair::PAIR;
@@ -24,16 +24,12 @@ use text_columns::decimal::write_decimal;
 const PAIRS_LENT: usize = 999 * PAIR;
 
 // The first line of the input: where it ends, and the pairs of tapes with their limits, three bytes a pair.
-pub fn read_pair_line(input: &[u8], pairs: &mut [u8; PAIRS_LENT]) -> PairLine
+pub fn read_pair_line(input: &[u8], pairs: &mut [u8; PAIRS_LENT]) -> Result<LineParts, Refusal>
     ensures { FirstLine input.now pairs.new result }
 {
-    let line = read_line(input);
-    let PairLine::Line(p) = line else {
-        return line;
-    };
-    let next = p.next;
-    store_pairs(&input[PAIRS_COLUMN..next], p.count, pairs);
-    line
+    let p = read_line(input)?;
+    store_pairs(&input[PAIRS_COLUMN..p.next], p.count, pairs);
+    Ok(p)
 }
 
 // The line of a refusal, over the front of the output.
@@ -43,7 +39,7 @@ pub fn write_refusal(output: &mut [u8], r: Refusal) -> usize
 {
     let word = [114u8, 101, 102, 117, 115, 101, 100];
     copy_into(output, 0, &word);
-    write_decimal(output, 7, 4, refusal_number(r) as usize);
+    write_decimal(output, 7, 4, usize::from(u8::from(r)));
     output[11] = NEWLINE;
     12
 }
@@ -53,13 +49,11 @@ pub fn agree_text(input: &[u8], output: &mut [u8; OUTPUT_LENT]) -> usize
     ensures { Wrote (agree input.now) output.old output.new result }
 {
     let mut pairs = [0u8; PAIRS_LENT];
-    let line = read_pair_line(input, &mut pairs);
-    match line {
-        PairLine::Refused(k) => write_refusal(output, k),
-        PairLine::Line(p) => {
-            let next = p.next;
+    match read_pair_line(input, &mut pairs) {
+        Ok(p) => {
             let used = PAIR * p.count;
-            keep_text(&input[next..], &pairs[..used], output)
+            keep_text(&input[p.next..], &pairs[..used], output)
         }
+        Err(k) => write_refusal(output, k),
     }
 }

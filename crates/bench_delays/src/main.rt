@@ -52,11 +52,16 @@ fn put_arc(arcs: &mut [u8], at: usize, source: u16, target: u16, up: u8, down: u
 fn put_chain(arcs: &mut [u8], count: u16)
     requires { arc_size * count ≤ length arcs.old }
 {
-    let mut at: usize = 0;
     for k in 0..count {
         let odd = (k % 2) as u8;
-        put_arc(arcs, at, k / 8, k / 8 + 1, odd, 1 - odd);
-        at += ARC_SIZE;
+        put_arc(
+            arcs,
+            ARC_SIZE * usize::from(k),
+            k / 8,
+            k / 8 + 1,
+            odd,
+            1 - odd,
+        );
     }
 }
 
@@ -65,18 +70,11 @@ fn joined(arcs: &[u8], count: usize, states: u16) -> bool
     requires { arc_size * count ≤ length arcs.now }
     ensures { result ≡ true → Joined states (edges false 0 0 0 count arcs.now) }
 {
-    let mut left = count;
-    let mut from: usize = 0;
-    while 0 < left {
-        let e = edge_at(arcs, from, false, 0, 0);
-        if states <= e.source {
+    for k in 0..count {
+        let e = edge_at(arcs, ARC_SIZE * k, false, 0, 0);
+        if states <= e.source || states <= e.target {
             return false;
         }
-        if states <= e.target {
-            return false;
-        }
-        from += ARC_SIZE;
-        left -= 1;
     }
     true
 }
@@ -115,12 +113,11 @@ fn four_pairs(states: &[u8], arcs: &[u8], count: usize, order: &[u16])
 fn run(states: &[u8], arcs: &[u8], count: usize)
     requires { (1024 * state_size ≤ length states.now) × (arc_size * count ≤ length arcs.now) × (count ≤ 8192) }
 {
-    if !joined(arcs, count, 1024) {
-        return;
+    if joined(arcs, count, 1024) {
+        let mut order = [65535u16; 8192];
+        list_arcs(states, 1024, arcs, count, false, &mut order);
+        four_pairs(states, arcs, count, &order);
     }
-    let mut order = [65535u16; 8192];
-    list_arcs(states, 1024, arcs, count, false, &mut order);
-    four_pairs(states, arcs, count, &order);
 }
 
 // A chain, and then the same chain closed to a loop that adds and takes off: every delay becomes endless.

@@ -6,12 +6,13 @@ ghost use Rattle.std.specs.Prelude.{◌≡◌, ◌+◌, ◌*◌, ◌≤◌, leng
 ghost use Rattle.automata.specs.Layout.{arc_size, config_size, delays_size, state_size, step_size};
 
 use intersect::call::intersect;
-use table::answer::{Counts, TableAnswer, refusal_number};
+use table::answer::{Counts, Refusal};
 use table::arc::{label_place, store_ends};
 use table::bytes::copy_into;
 use table::layout::{
     ARC_SIZE, CONFIG_SIZE, DELAYS_SIZE, FINAL_PLACE, PRESENT, STATE_SIZE, STEP_SIZE,
 };
+use table::lent::Table;
 use table::record::ResultState;
 
 // Room for the states and for the arcs of a table of the largest size, and for the work of a build into such space.
@@ -61,48 +62,33 @@ fn put_arc(arcs: &mut [u8], at: usize, source: u16, target: u16)
 fn put_chain(arcs: &mut [u8], count: u16)
     requires { arc_size * count ≤ length arcs.old }
 {
-    let mut at: usize = 0;
     for k in 0..count {
-        put_arc(arcs, at, k / 8, k / 8 + 1);
-        at += ARC_SIZE;
+        put_arc(arcs, ARC_SIZE * usize::from(k), k / 8, k / 8 + 1);
     }
 }
 
 // What a build came to: its counts, or the number of a refusal.
-fn print_answer(answer: TableAnswer) {
+fn print_answer(answer: Result<Counts, Refusal>) {
     match answer {
-        TableAnswer::Table(c) => {
+        Ok(c) => {
             io::print_decimal(1, c.states as u64);
             io::write_all(1, b" ");
             io::print_decimal(1, c.arcs as u64);
         }
-        TableAnswer::Refused(r) => {
-            io::print_decimal(1, refusal_number(r) as u64);
+        Err(r) => {
+            io::print_decimal(1, u64::from(u8::from(r)));
         }
     }
     io::write_all(1, b"\n");
 }
 
 // Builds the table on tapes 1 = 2 with the limit 0.
-fn run(states: &[u8], arcs: &[u8], size: usize, count: usize) {
+fn run(table: &Table) {
     let mut out_states = state_space();
     let mut out_arcs = arc_space();
     let mut work = work_space();
-    let counts = Counts {
-        tapes: 2,
-        states: size,
-        arcs: count,
-    };
     let pairs = [1u8, 2, 0];
-    let answer = intersect(
-        counts,
-        states,
-        arcs,
-        &pairs,
-        &mut out_states,
-        &mut out_arcs,
-        &mut work,
-    );
+    let answer = intersect(table, &pairs, &mut out_states, &mut out_arcs, &mut work);
     print_answer(answer);
 }
 
@@ -111,7 +97,15 @@ fn run_whole(arcs: &[u8]) {
     let mut states = state_space();
     states[0] = PRESENT;
     states[LAST_FINAL] = PRESENT;
-    run(&states, arcs, 1000, 7992);
+    run(&Table {
+        counts: Counts {
+            tapes: 2,
+            states: 1000,
+            arcs: 7992,
+        },
+        states: &states,
+        arcs,
+    });
 }
 
 // The first 500 of its states.
@@ -119,7 +113,15 @@ fn run_half(arcs: &[u8]) {
     let mut states = state_space();
     states[0] = PRESENT;
     states[HALF_FINAL] = PRESENT;
-    run(&states, arcs, 500, 3992);
+    run(&Table {
+        counts: Counts {
+            tapes: 2,
+            states: 500,
+            arcs: 3992,
+        },
+        states: &states,
+        arcs,
+    });
 }
 
 fn main() {

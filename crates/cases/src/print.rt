@@ -1,8 +1,8 @@
 // What is printed of a case.
 use crate::input::bytes_of;
-use table::answer::{Counts, TableAnswer, refusal_number};
+use table::answer::{Counts, Refusal};
 use table::judge::all_zero;
-use text::WriteAnswer;
+use table::lent::Table;
 
 // A blank and a number.
 pub fn print_number(n: usize) {
@@ -12,11 +12,7 @@ pub fn print_number(n: usize) {
 
 // One of two words.
 pub fn print_whether(fine: bool, yes: &[u8], no: &[u8]) {
-    if fine {
-        io::write_all(1, yes);
-    } else {
-        io::write_all(1, no);
-    }
+    io::write_all(1, if fine { yes } else { no });
 }
 
 // Whether bytes are as they were lent.
@@ -40,50 +36,42 @@ pub fn print_clear_line(clear: bool) {
 }
 
 // The text of a table of at most 1,000 bytes.
-pub fn print_text(c: Counts, states: &[u8], arcs: &[u8]) {
+pub fn print_text(table: &Table) {
     let mut output = [0u8; 1000];
-    let answer = text::write(c, states, arcs, &mut output);
-    let WriteAnswer::Bytes(n) = answer else {
-        io::write_all(1, b"not written\n");
-        return;
-    };
-    if n <= 1000 {
-        io::write_all(1, &output[0..n]);
+    match text::write(table, &mut output) {
+        Ok(n) => {
+            io::write_all(1, &output[0..n.min(1000)]);
+        }
+        Err(_) => {
+            io::write_all(1, b"not written\n");
+        }
     }
 }
 
 // An answer: the counts of a table, or the number of a refusal.
-pub fn print_answer(answer: TableAnswer) {
+pub fn print_answer(answer: Result<Counts, Refusal>) {
     match answer {
-        TableAnswer::Table(c) => {
+        Ok(c) => {
             io::write_all(1, b" table");
             print_number(c.tapes);
             print_number(c.states);
             print_number(c.arcs);
         }
-        TableAnswer::Refused(r) => {
+        Err(r) => {
             io::write_all(1, b" refused");
-            print_number(refusal_number(r) as usize);
+            print_number(usize::from(u8::from(r)));
         }
     }
 }
 
 // Whether the first bytes of a slice are zero.
 pub fn front_clear(bytes: &[u8], n: usize) -> bool {
-    if bytes.len() < n {
-        return false;
-    }
-    all_zero(&bytes[0..n])
+    n <= bytes.len() && all_zero(&bytes[0..n])
 }
 
 // Whether the bytes of a slice from a place on are all 170.
 pub fn kept_from(bytes: &[u8], from: usize) -> bool {
-    for i in from..bytes.len() {
-        if bytes[i] != 170 {
-            return false;
-        }
-    }
-    from <= bytes.len()
+    from <= bytes.len() && bytes[from..].iter().all(|b| *b == 170)
 }
 
 // The same from the record of a number on, where a record has `size` bytes.
@@ -92,22 +80,32 @@ pub fn kept_records(bytes: &[u8], from: usize, size: usize) -> bool {
 }
 
 // Of a refusal, whether the result space kept its bytes.
-pub fn print_refused_kept(answer: TableAnswer, states: &[u8], arcs: &[u8]) {
-    if let TableAnswer::Refused(_) = answer {
+pub fn print_refused_kept(answer: Result<Counts, Refusal>, states: &[u8], arcs: &[u8]) {
+    if answer.is_err() {
         print_kept(kept_from(states, 0) && kept_from(arcs, 0));
     }
 }
 
 // The text of a table that was made.
-pub fn print_made(answer: TableAnswer, states: &[u8], arcs: &[u8]) {
-    if let TableAnswer::Table(c) = answer {
-        print_text(c, states, arcs);
+pub fn print_made(answer: Result<Counts, Refusal>, states: &[u8], arcs: &[u8]) {
+    if let Ok(counts) = answer {
+        print_text(&Table {
+            counts,
+            states,
+            arcs,
+        });
     }
 }
 
 // The answer, of a refusal whether the result space kept its bytes, whether so many bytes of work are clear, and the
 // table that was made.
-pub fn print_result(answer: TableAnswer, states: &[u8], arcs: &[u8], work: &[u8], n: usize) {
+pub fn print_result(
+    answer: Result<Counts, Refusal>,
+    states: &[u8],
+    arcs: &[u8],
+    work: &[u8],
+    n: usize,
+) {
     print_answer(answer);
     print_refused_kept(answer, states, arcs);
     print_clear_line(front_clear(work, n));

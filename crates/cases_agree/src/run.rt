@@ -1,15 +1,12 @@
 // One case: the first line and the table as one text, and what `agree` writes of it.
 use agree_text::agree_text;
 use agree_text::keep::OUTPUT_LENT;
-use cases::input::{find, least, named, number, string_after};
+use cases::input::{find, named, number, string_after};
 use table::bytes::copy_into;
 
 // Copies a part to a place of a text where there is room for it, and tells the place behind what stands there.
 fn append(text: &mut [u8], at: usize, part: &[u8]) -> usize {
-    if text.len() < at {
-        return at;
-    }
-    if text.len() - at < part.len() {
+    if text.len() < at || text.len() - at < part.len() {
         return at;
     }
     copy_into(text, at, part);
@@ -19,8 +16,7 @@ fn append(text: &mut [u8], at: usize, part: &[u8]) -> usize {
 // The same of the string that begins at a place of the input.
 fn append_string(text: &mut [u8], at: usize, input: &[u8], from: usize) -> usize {
     let end = find(input, from, b'}');
-    let start = least(from, end);
-    append(text, at, &input[start..end])
+    append(text, at, &input[from.min(end)..end])
 }
 
 // Writes the first bytes of a slice, where it has so many.

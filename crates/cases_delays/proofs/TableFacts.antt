@@ -1,6 +1,6 @@
 -- The records that are written are those of the table.
 use Prim.Native.Nat.{ℕ, ◌*◌}
-use mathlib.Core.Path.{◌≡◌, ap, ◌∙◌}
+use mathlib.Core.Path.{◌≡◌}
 use mathlib.Core.List.{List}
 use lib.ListN.{replicate}
 use Rattle.automata.specs.Memory.{Sound}
@@ -9,9 +9,6 @@ use Rattle.table.specs.Answers.{lent}
 use Rattle.table.specs.Region.{splice}
 use Rattle.table.specs.declared.answer.Counts.{Counts}
 use Rattle.cases_delays.specs.Tables.{arc_bytes, arcs_bytes}
-
-pub written : (at : ℕ) (r ys xs w : List ℕ) → w ≡ splice at r xs → r ≡ ys → w ≡ splice at ys xs
-written at r ys xs w e f = e ∙ ap (λ (z : List ℕ). splice at z xs) f
 
 -- four arcs, one behind the other
 pub four_arcs : (a b c d w x y z : List ℕ) → w ≡ splice 0 (arc_bytes a) (replicate (4 * arc_size) 0) → x ≡ splice arc_size (arc_bytes b) w → y ≡ splice (2 * arc_size) (arc_bytes c) x

@@ -18,6 +18,7 @@ use table::layout::{
     ARC_SIZE, DELAYS_SIZE, FINAL_PLACE, LABEL_SIZE, LABELS_PLACE, OPPOSITE_PLACE, REACHING_PLACE,
     STATE_SIZE, SYMBOLS_PLACE, TARGET_PLACE,
 };
+use table::lent::Table;
 use table::pair::{Pair, PairList};
 
 // Where the third arc and the fourth stand, and the bytes of four.
@@ -78,8 +79,7 @@ fn put_arc(arcs: &mut [u8], at: usize, arc: [u8; 5])
     requires { at + arc_size ≤ length arcs.old }
     ensures { arcs.new ≡ splice at (arc_bytes arc) arcs.old }
 {
-    let record = arc_record(arc);
-    copy_into(arcs, at, &record);
+    copy_into(arcs, at, &arc_record(arc));
 }
 
 // The records of four states: 1 for one with the final weight 0. No state is initial, which closing delays do not ask.
@@ -96,20 +96,21 @@ fn state_records(finals: [u8; 4]) -> [u8; FOUR_STATES]
 
 // A delay as it is held.
 fn print_delay(v: u16) {
-    if v == 65535 {
-        io::write_all(1, b"missing");
-        return;
+    match v {
+        65535 => {
+            io::write_all(1, b"missing");
+        }
+        0 => {
+            io::write_all(1, b"endless");
+        }
+        1..=16383 => {
+            io::write_all(1, b"-");
+            io::print_decimal(1, u64::from(16384 - v));
+        }
+        _ => {
+            io::print_decimal(1, u64::from(v - 16384));
+        }
     }
-    if v == 0 {
-        io::write_all(1, b"endless");
-        return;
-    }
-    if v < 16384 {
-        io::write_all(1, b"-");
-        io::print_decimal(1, (16384 - v) as u64);
-        return;
-    }
-    io::print_decimal(1, (v - 16384) as u64);
 }
 
 // What the closing tables hold of state `q`.
@@ -125,9 +126,9 @@ fn print_state(work: &[u8], q: usize)
     print_delay(get16(work, at + OPPOSITE_PLACE));
     if get16(work, at + REACHING_PLACE) == 65535 {
         io::write_all(1, b", no final state\n");
-        return;
+    } else {
+        io::write_all(1, b", a final state\n");
     }
-    io::write_all(1, b", a final state\n");
 }
 
 // The same of all states.
@@ -175,7 +176,12 @@ fn show(
         used: 1,
     };
     let mut work = [0u8; FOUR_DELAYS];
-    closing_tables(counts, &states, &arcs, pairs, &mut work, 0);
+    let table = Table {
+        counts,
+        states: &states,
+        arcs: &arcs,
+    };
+    closing_tables(&table, pairs, &mut work, 0);
     io::write_all(1, name);
     print_states(&work, counts.states);
 }

@@ -5,22 +5,8 @@
 
 mod run;
 
-use cases::input::next;
-
-// Every case of an input, of at most 200.
-fn run_all(input: &[u8]) {
-    let mut at: usize = 0;
-    for _ in 0u64..200 {
-        at = next(input, at);
-        if at == 0 {
-            return;
-        }
-        run::case(input, at);
-    }
-}
+use cases::input::run_all;
 
 fn main() {
-    let mut input = io::large_buffer();
-    io::read_full(0, &mut input);
-    run_all(&input);
+    run_all(run::case);
 }

@@ -1,9 +1,10 @@
 // One case: a table read from its text, a tuple looked up in it, and what is printed of the answer.
 use cases::input::{find, lent, number, string_after, table};
 use cases::print::{front_clear, print_clear_line};
-use lookup::call::{WeightAnswer, lookup};
-use table::answer::refusal_number;
+use lookup::call::lookup;
+use table::answer::Refusal;
 use table::layout::{ARC_SIZE, STATE_SIZE};
+use table::lent::Table;
 
 // The records of a table of at most 4 states and 5 arcs.
 const STATE_SPACE: usize = 4 * STATE_SIZE;
@@ -11,18 +12,18 @@ const STATE_SPACE: usize = 4 * STATE_SIZE;
 const ARC_SPACE: usize = 5 * ARC_SIZE;
 
 // The answer.
-fn print_answer(answer: WeightAnswer) {
+fn print_answer(answer: Result<Option<u64>, Refusal>) {
     match answer {
-        WeightAnswer::Weight(w) => {
+        Ok(Some(w)) => {
             io::write_all(1, b" weight ");
             io::print_decimal(1, w);
         }
-        WeightAnswer::Nothing => {
+        Ok(None) => {
             io::write_all(1, b" none");
         }
-        WeightAnswer::Refused(why) => {
+        Err(why) => {
             io::write_all(1, b" refused ");
-            io::print_decimal(1, refusal_number(why) as u64);
+            io::print_decimal(1, u64::from(u8::from(why)));
         }
     }
 }
@@ -31,8 +32,13 @@ fn print_answer(answer: WeightAnswer) {
 fn look(input: &[u8], at: usize, tuple: &[u8], work: &mut [u8]) {
     let mut states = [0u8; STATE_SPACE];
     let mut arcs = [0u8; ARC_SPACE];
-    let c = table(input, at, 1, &mut states, &mut arcs);
-    print_answer(lookup(c, &states, &arcs, tuple, work));
+    let counts = table(input, at, 1, &mut states, &mut arcs);
+    let table = Table {
+        counts,
+        states: &states,
+        arcs: &arcs,
+    };
+    print_answer(lookup(&table, tuple, work));
 }
 
 // The same with as many bytes of work lent as the line says, and the tuple behind it.

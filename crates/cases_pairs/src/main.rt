@@ -3,62 +3,54 @@
 // in the form that the crate `cases` reads.
 #![tactic(auto)]
 
-ghost use Rattle.std.specs.Prelude.{◌+◌, ◌≤◌, ◌<◌};
+ghost use Rattle.std.specs.Prelude.{◌+◌, ◌≤◌};
 
-use cases::input::{bytes, next, number};
-use pairs::{PairsJudged, judge_join_pairs, judge_pairs, judge_tapes, moved_pairs};
-use table::answer::{Judged, refusal_number};
-use table::pair::PairList;
+use cases::input::{bytes, number, run_all};
+use pairs::{judge_join_pairs, judge_pairs, judge_tapes, moved_pairs};
+use table::answer::Refusal;
+use table::pair::{Pair, PairList};
 
 // The digit of a number, '?' above 9.
 fn digit_of(n: u8) -> u8 {
-    if n < 10 {
-        return b'0' + n;
-    }
-    b'?'
+    if n < 10 { b'0' + n } else { b'?' }
 }
 
 // A number as one digit.
 fn digit(n: u8) {
-    let text = [digit_of(n)];
-    io::write_all(1, &text);
+    io::write_all(1, &[digit_of(n)]);
 }
 
-// One of four pairs and its limit, if it is used.
-fn show_pair(pairs: PairList, at: usize)
-    requires { at < 4 }
-{
-    let p = pairs.pairs[at];
-    if at < pairs.used {
-        io::write_all(1, b" ");
-        digit(p.first);
-        io::write_all(1, b"-");
-        digit(p.second);
-        io::write_all(1, b":");
-        io::print_decimal(1, p.limit as u64);
-    }
+// A pair and its limit.
+fn show_pair(p: &Pair) {
+    io::write_all(1, b" ");
+    digit(p.first);
+    io::write_all(1, b"-");
+    digit(p.second);
+    io::write_all(1, b":");
+    io::print_decimal(1, u64::from(p.limit));
 }
 
 // The pairs that are used.
 fn show_pairs(pairs: PairList) {
-    show_pair(pairs, 0);
-    show_pair(pairs, 1);
-    show_pair(pairs, 2);
-    show_pair(pairs, 3);
+    for p in pairs.pairs.iter().take(pairs.used) {
+        show_pair(p);
+    }
+}
+
+// The number of a refusal.
+fn show_refusal(why: Refusal) {
+    io::write_all(1, b"refused ");
+    digit(u8::from(why));
 }
 
 // A list that was judged for an auto-intersection or for a forecast.
-fn show(r: PairsJudged) {
-    let answer = r.judged;
-    match answer {
-        Judged::Fine => {
+fn show(judged: Result<PairList, Refusal>) {
+    match judged {
+        Ok(pairs) => {
             io::write_all(1, b"fine");
-            show_pairs(r.pairs);
+            show_pairs(pairs);
         }
-        Judged::Refused(why) => {
-            io::write_all(1, b"refused ");
-            digit(refusal_number(why));
-        }
+        Err(why) => show_refusal(why),
     }
     io::write_all(1, b"\n");
 }
@@ -67,59 +59,34 @@ fn show(r: PairsJudged) {
 fn join(bytes: &[u8], n: usize, m: usize)
     requires { n + m ≤ 255 }
 {
-    let r = judge_join_pairs(bytes, n, m);
-    let answer = r.judged;
-    match answer {
-        Judged::Fine => {
+    match judge_join_pairs(bytes, n, m) {
+        Ok(pairs) => {
             io::write_all(1, b"fine");
-            show_pairs(r.pairs);
+            show_pairs(pairs);
             io::write_all(1, b" as");
-            show_pairs(moved_pairs(r.pairs, n));
+            show_pairs(moved_pairs(pairs, n));
         }
-        Judged::Refused(why) => {
-            io::write_all(1, b"refused ");
-            digit(refusal_number(why));
-        }
+        Err(why) => show_refusal(why),
     }
     io::write_all(1, b"\n");
 }
 
 // The case whose line begins at a place: its kind, the numbers of tapes, and the pairs with their limits.
 fn case(input: &[u8], at: usize) {
-    let mut list = [0u8; 18];
+    let mut list = [0; 18];
     let used = bytes(input, at, 3, &mut list);
-    let kind = number(input, at, 0);
     let n = number(input, at, 1);
     let m = number(input, at, 2);
-    if 100 < n {
+    if 100 < n || 100 < m {
         return;
     }
-    if 100 < m {
-        return;
-    }
-    if kind == b'K' as usize {
-        show(judge_pairs(&list[0..used], n));
-    } else if kind == b'F' as usize {
-        show(judge_tapes(&list[0..used], n));
-    } else {
-        join(&list[0..used], n, m);
-    }
-}
-
-// Every case of an input, of at most 200.
-fn run_all(input: &[u8]) {
-    let mut at: usize = 0;
-    for _ in 0u64..200 {
-        at = next(input, at);
-        if at == 0 {
-            return;
-        }
-        case(input, at);
+    match u8::try_from(number(input, at, 0)) {
+        Ok(b'K') => show(judge_pairs(&list[..used], n)),
+        Ok(b'F') => show(judge_tapes(&list[..used], n)),
+        _ => join(&list[..used], n, m),
     }
 }
 
 fn main() {
-    let mut input = io::large_buffer();
-    io::read_full(0, &mut input);
-    run_all(&input);
+    run_all(case);
 }

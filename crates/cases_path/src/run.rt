@@ -1,13 +1,14 @@
 // One case: a table read from its text, a tuple looked up in it with its path, and what is printed of the answer.
 ghost use Rattle.std.specs.Prelude.{◌≤◌};
 
-use cases::input::{find, least, lent, number, string_after, table};
+use cases::input::{find, lent, number, string_after, table};
 use cases::print::{front_clear, kept_from, print_clear_line, print_kept, print_number};
 use path::call::path;
-use path_search::answer::{PathAnswer, PathTold};
-use table::answer::{Counts, refusal_number};
+use path_search::answer::PathTold;
+use table::answer::{Counts, Refusal};
 use table::bytes::get16;
 use table::layout::{ARC_SIZE, STATE_SIZE};
+use table::lent::Table;
 
 // The records of a table of at most 12 states and 312 arcs.
 const STATE_SPACE: usize = 12 * STATE_SIZE;
@@ -29,23 +30,17 @@ fn arcs_before(input: &[u8], at: usize) -> usize
 
 // Where something holds, another byte at a place, if the place is there.
 fn put_where(holds: bool, bytes: &mut [u8], at: usize, b: u8) {
-    if !holds {
-        return;
+    if holds && at < bytes.len() {
+        bytes[at] = b;
     }
-    if bytes.len() <= at {
-        return;
-    }
-    bytes[at] = b;
 }
 
 // Damage to counts: 1 is a state more than records are lent, 3 is nine tapes.
 fn damaged_counts(damage: usize, c: Counts) -> Counts {
-    let tapes = if damage == 3 { 9 } else { c.tapes };
-    let states = if damage == 1 { 13 } else { c.states };
-    Counts {
-        tapes,
-        states,
-        arcs: c.arcs,
+    match damage {
+        1 => Counts { states: 13, ..c },
+        3 => Counts { tapes: 9, ..c },
+        _ => c,
     }
 }
 
@@ -55,7 +50,7 @@ fn damaged_counts(damage: usize, c: Counts) -> Counts {
 fn read_table(input: &[u8], at: usize, states: &mut [u8], arcs: &mut [u8]) -> Counts {
     let before = arcs_before(input, at);
     let end = arcs.len();
-    let from = least(ARC_SIZE * before, end);
+    let from = end.min(ARC_SIZE * before);
     let c = table(input, at, 1, states, &mut arcs[from..end]);
     let damage = number(input, at, 4);
     put_where(damage == 2, states, 0, 2);
@@ -63,9 +58,8 @@ fn read_table(input: &[u8], at: usize, states: &mut [u8], arcs: &mut [u8]) -> Co
     damaged_counts(
         damage,
         Counts {
-            tapes: c.tapes,
-            states: c.states,
-            arcs: before + least(c.arcs, MOST_ARCS),
+            arcs: before + c.arcs.min(MOST_ARCS),
+            ..c
         },
     )
 }
@@ -75,21 +69,17 @@ fn read_table(input: &[u8], at: usize, states: &mut [u8], arcs: &mut [u8]) -> Co
 fn path_in(
     input: &[u8],
     at: usize,
-    c: Counts,
-    states: &[u8],
-    arcs: &[u8],
+    table: &Table,
     list: &mut [u8],
     work: &mut [u8],
-) -> PathAnswer {
+) -> Result<Option<PathTold>, Refusal> {
     let list_end = lent(input, at, 2, 1, list.len());
     let work_end = lent(input, at, 3, 1, work.len());
     let from = string_after(input, at);
     let end = find(input, from, b'}');
-    let start = least(from, end);
+    let start = from.min(end);
     path(
-        c,
-        states,
-        arcs,
+        table,
         &input[start..end],
         &mut list[0..list_end],
         &mut work[0..work_end],
@@ -97,22 +87,27 @@ fn path_in(
 }
 
 // The same in the table of the line.
-fn find_path(input: &[u8], at: usize, list: &mut [u8], work: &mut [u8]) -> PathAnswer {
+fn find_path(
+    input: &[u8],
+    at: usize,
+    list: &mut [u8],
+    work: &mut [u8],
+) -> Result<Option<PathTold>, Refusal> {
     let mut states = [0u8; STATE_SPACE];
     let mut arcs = [0u8; ARC_SPACE];
-    let c = read_table(input, at, &mut states, &mut arcs);
-    path_in(input, at, c, &states, &arcs, list, work)
+    let counts = read_table(input, at, &mut states, &mut arcs);
+    let table = Table {
+        counts,
+        states: &states,
+        arcs: &arcs,
+    };
+    path_in(input, at, &table, list, work)
 }
 
 // The first arc numbers of a list, of at most 300.
 fn print_arcs(list: &[u8; 600], arcs: usize) {
-    let mut h: usize = 0;
-    while h < arcs {
-        if 300 <= h {
-            return;
-        }
+    for h in 0..arcs.min(300) {
         print_number(get16(list, 2 * h) as usize);
-        h += 1;
     }
 }
 
@@ -130,18 +125,16 @@ fn print_path(told: PathTold, list: &[u8; 600]) {
 }
 
 // The answer; where there is no path, whether the list kept all of its bytes.
-fn print_answer(answer: PathAnswer, list: &[u8; 600]) {
+fn print_answer(answer: Result<Option<PathTold>, Refusal>, list: &[u8; 600]) {
     match answer {
-        PathAnswer::Path(told) => {
-            print_path(told, list);
-        }
-        PathAnswer::Nothing => {
+        Ok(Some(told)) => print_path(told, list),
+        Ok(None) => {
             io::write_all(1, b" none");
             print_kept(kept_from(list, 0));
         }
-        PathAnswer::Refused(why) => {
+        Err(why) => {
             io::write_all(1, b" refused");
-            print_number(refusal_number(why) as usize);
+            print_number(usize::from(u8::from(why)));
             print_kept(kept_from(list, 0));
         }
     }

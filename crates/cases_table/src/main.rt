@@ -5,9 +5,10 @@
 mod sample;
 
 use sample::{ARCS_END, ARCS_LENT, STATES_END, STATES_LENT, changed_arcs, changed_states};
-use table::answer::{Counts, Judged, refusal_number};
+use table::answer::{Counts, Refusal};
 use table::judge::judge;
 use table::layout::{ARC_SIZE, LABEL_SIZE, LABELS_END, LABELS_PLACE, STATE_SIZE};
+use table::lent::Table;
 
 // In the record of an arc the length and the first symbol of its label on the first tape, the highest byte of its
 // weight, and the last byte of its labels.
@@ -20,25 +21,27 @@ const WEIGHT_TOP: usize = LABELS_PLACE - 1;
 const LABELS_LAST: usize = LABELS_END - 1;
 
 // The number of a judgement: 0 where there is no refusal.
-fn number_of(judged: Judged) -> u8 {
+fn number_of(judged: Result<(), Refusal>) -> u8 {
     match judged {
-        Judged::Fine => 0,
-        Judged::Refused(r) => refusal_number(r),
+        Ok(()) => 0,
+        Err(r) => u8::from(r),
     }
 }
 
 // Judges the first bytes of each slice and prints a line.
 fn report(case: u64, counts: Counts, states: &[u8], n: usize, arcs: &[u8], m: usize) {
-    if states.len() < n {
+    if states.len() < n || arcs.len() < m {
         return;
     }
-    if arcs.len() < m {
-        return;
-    }
-    let answer = number_of(judge(counts, &states[0..n], &arcs[0..m]));
+    let table = Table {
+        counts,
+        states: &states[0..n],
+        arcs: &arcs[0..m],
+    };
+    let answer = number_of(judge(&table));
     io::print_decimal(1, case);
     io::write_all(1, &[b' ']);
-    io::print_decimal(1, answer as u64);
+    io::print_decimal(1, u64::from(answer));
     io::write_all(1, &[b'\n']);
 }
 

@@ -1,9 +1,9 @@
 // One case: a text that is read, or a table that is written, and the line that is printed of it.
 use cases::input::{find, named, number, read_string, string_after};
 use cases::print::{kept_from, print_answer, print_kept_line, print_number, print_whether};
-use table::answer::{Counts, TableAnswer};
+use table::answer::{Counts, Refusal};
 use table::layout::{ARC_SIZE, STATE_SIZE};
-use text::WriteAnswer;
+use table::lent::Table;
 
 // The records of a table of at most 6 states and 4 arcs.
 const STATE_SPACE: usize = 6 * STATE_SIZE;
@@ -11,14 +11,16 @@ const STATE_SPACE: usize = 6 * STATE_SIZE;
 const ARC_SPACE: usize = 4 * ARC_SIZE;
 
 // Whether a table that was read is written as the text that was read.
-fn print_same(c: Counts, states: &[u8], arcs: &[u8], text: &[u8]) {
+fn print_same(table: &Table, text: &[u8]) {
     let mut output = [170u8; 400];
-    let WriteAnswer::Bytes(n) = text::write(c, states, arcs, &mut output) else {
-        io::write_all(1, b" not written\n");
-        return;
-    };
-    if n <= 400 {
-        print_whether(check::same(&output[0..n], text), b" same\n", b" differs\n");
+    match text::write(table, &mut output) {
+        Ok(n) => {
+            let written = &output[0..n.min(400)];
+            print_whether(check::same(written, text), b" same\n", b" differs\n");
+        }
+        Err(_) => {
+            io::write_all(1, b" not written\n");
+        }
     }
 }
 
@@ -29,12 +31,17 @@ fn read_case(input: &[u8], from: usize, end: usize) {
     let answer = read_string(input, from, &mut states, &mut arcs);
     print_answer(answer);
     match answer {
-        TableAnswer::Table(c) => {
+        Ok(counts) => {
             if from <= end && end <= input.len() {
-                print_same(c, &states, &arcs, &input[from..end]);
+                let table = Table {
+                    counts,
+                    states: &states,
+                    arcs: &arcs,
+                };
+                print_same(&table, &input[from..end]);
             }
         }
-        TableAnswer::Refused(_) => {
+        Err(_) => {
             let kept = kept_from(&states, 0) && kept_from(&arcs, 0);
             print_kept_line(kept);
         }
@@ -49,27 +56,27 @@ fn change(bytes: &mut [u8], at: usize, b: usize) {
 }
 
 // What was written: the answer, and whether the bytes of the output behind the text are as they were.
-fn print_written(answer: WriteAnswer, output: &[u8; 200]) {
+fn print_written(answer: Result<usize, Refusal>, output: &[u8; 200]) {
     match answer {
-        WriteAnswer::Bytes(n) => {
+        Ok(n) => {
             io::write_all(1, b" bytes");
             print_number(n);
             print_kept_line(kept_from(output, n));
         }
-        WriteAnswer::Refused(r) => {
-            print_answer(TableAnswer::Refused(r));
+        Err(r) => {
+            print_answer(Err(r));
             print_kept_line(kept_from(output, 0));
         }
     }
 }
 
 // Writes a table into so many bytes of an output of 200.
-fn write_to(c: Counts, states: &[u8], arcs: &[u8], room: usize) {
+fn write_to(table: &Table, room: usize) {
     if 200 < room {
         return;
     }
     let mut output = [170u8; 200];
-    let answer = text::write(c, states, arcs, &mut output[0..room]);
+    let answer = text::write(table, &mut output[0..room]);
     print_written(answer, &output);
 }
 
@@ -82,28 +89,38 @@ fn example(input: &[u8]) -> usize {
 fn count_case(input: &[u8], at: usize) {
     let mut states = [0u8; STATE_SPACE];
     let mut arcs = [0u8; ARC_SPACE];
-    read_string(input, example(input), &mut states, &mut arcs);
-    let c = Counts {
+    let _ = read_string(input, example(input), &mut states, &mut arcs);
+    let counts = Counts {
         tapes: number(input, at, 2),
         states: number(input, at, 3),
         arcs: number(input, at, 4),
     };
-    write_to(c, &states, &arcs, 200);
+    let table = Table {
+        counts,
+        states: &states,
+        arcs: &arcs,
+    };
+    write_to(&table, 200);
 }
 
 // Writes the example into so much room, with a byte of its states and one of its arcs changed.
 fn write_case(input: &[u8], at: usize) {
     let mut states = [0u8; STATE_SPACE];
     let mut arcs = [0u8; ARC_SPACE];
-    read_string(input, example(input), &mut states, &mut arcs);
+    let _ = read_string(input, example(input), &mut states, &mut arcs);
     change(&mut states, number(input, at, 3), number(input, at, 4));
     change(&mut arcs, number(input, at, 5), number(input, at, 6));
-    let c = Counts {
+    let counts = Counts {
         tapes: 2,
         states: 1,
         arcs: 2,
     };
-    write_to(c, &states, &arcs, number(input, at, 2));
+    let table = Table {
+        counts,
+        states: &states,
+        arcs: &arcs,
+    };
+    write_to(&table, number(input, at, 2));
 }
 
 // The case whose line begins at a place: its kind and its number come first.

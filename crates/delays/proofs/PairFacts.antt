@@ -1,16 +1,14 @@
 -- The closing delays of several pairs, and the test that reads them.
 use Prim.Native.Nat.{ℕ, zero, suc, ◌+◌, ◌-◌, ◌*◌, ◌<◌, ◌≤◌}
-use mathlib.Core.Path.{◌≡◌, refl, sym, ◌∙◌}
+use mathlib.Core.Path.{◌≡◌, refl, ◌∙◌}
 use mathlib.Core.Logic.{◌≢◌, inr}
-use mathlib.Core.Bool.{Bool, true, false, not}
+use mathlib.Core.Bool.{Bool, true, false}
 use mathlib.Core.List.{List}
 use native.Mathlib.Omega.{arith}
 use native.Mathlib.Decide.{ℕ_discrete}
-use lib.Dec.{leb}
 use lib.ListN.{get_or}
 use Rattle.table.specs.Region.{part}
 use Rattle.table.specs.Endian.{le}
-use Rattle.automata.specs.Closing.{with_delay≤}
 use Rattle.automata.proofs.TestFacts.{eqb_false}
 use Rattle.automata.specs.Layout.{pair_delays, opposite_place, reaching_place}
 use Rattle.table.specs.declared.pair.Pair.{Pair}
@@ -69,56 +67,21 @@ pairs_turn bytes n arcs count ps p base h v u w b l f e c = record {
 pub pairs_start : (bytes : List ℕ) (n : ℕ) (arcs : List ℕ) (count : ℕ) (ps : List Pair) (base : ℕ) (v : List ℕ) → ClosesPairs bytes n arcs count ps 0 base v v
 pairs_start bytes n arcs count ps base v = record { closed = λ k s. absurd (omega arith); same_length = refl; same = λ i o. refl }
 
--- all pairs
-pub pairs_end : (bytes : List ℕ) (n : ℕ) (arcs : List ℕ) (count : ℕ) (ps : List Pair) (h used base : ℕ) (w v : List ℕ) → h ≤ used → used ≤ h
-    → ClosesPairs bytes n arcs count ps h base w v → ClosesPairs bytes n arcs count ps used base w v
-pairs_end bytes n arcs count ps h used base w v a b c = let e : h ≡ used = omega arith in rw e at c
-
 -- ---- the test
 
-not_true : (b : Bool) → not b ≡ true → b ≡ false
-not_true false e = refl
-not_true true e = sym e
-
-not_false : (b : Bool) → not b ≡ false → b ≡ true
-not_false true e = refl
-not_false false e = sym e
-
-pub within-endless : (x v y : ℕ) → v ≡ 0 → true ≡ with_delay≤ x v y
-within-endless x v y e = rw e
-
-pub within-sum : (x v y : ℕ) → v ≢ 0 → leb (x + v) (y + 16384) ≡ with_delay≤ x v y
-within-sum x v y h = rw (eqb_false v 0 h)
-
-module _ (at x y : ℕ) (w : List ℕ) (v : ℕ) (b : Bool) (e : v ≡ le (part at 2 w)) (f : b ≡ with_delay≤ x v y) where
-  pub closable_not : not b ≡ true → false ≡ closable_at at x y w
-  closable_not g = rw (← e, ← f, not_true b g)
-
-  pub closable_then : not b ≡ false → (u : ℕ) (r : Bool) → u ≡ le (part (at + opposite_place) 2 w) → r ≡ with_delay≤ y u x → r ≡ closable_at at x y w
-  closable_then g u r p q = rw (← e, ← f, not_false b g, ← p) q
-
 module _ (at h : ℕ) (firsts seconds w : List ℕ) (b : Bool) (e : b ≡ closable_at at (get_or firsts h 0) (get_or seconds h 0) w) where
-  pub closable_stop : (left : ℕ) → 0 < left → not b ≡ true → false ≡ closable_from at h left firsts seconds w
+  pub closable_stop : (left : ℕ) → 0 < left → b ≡ false → false ≡ closable_from at h left firsts seconds w
   unfolding closable_from
   closable_stop zero l f = absurd (omega arith)
-  closable_stop (suc left) l f = rw (← e, not_true b f)
+  closable_stop (suc left) l f = rw (← e, f)
 
-  pub closable_turn : (left rest at2 : ℕ) → left ≡ suc rest → at2 ≡ at + pair_delays → not b ≡ false → closable_from at2 (h + 1) rest firsts seconds w ≡ closable_from at h left firsts seconds w
+  pub closable_turn : (left rest at2 : ℕ) → left ≡ suc rest → at2 ≡ at + pair_delays → b ≡ true → closable_from at2 (h + 1) rest firsts seconds w ≡ closable_from at h left firsts seconds w
   unfolding closable_from
-  closable_turn left rest at2 s a f = rw (s, a, ← e, not_false b f)
-
-pub closable_start : (at h left : ℕ) (firsts seconds w : List ℕ) → h ≡ 0 → closable_from (at + pair_delays * h) h (left - h) firsts seconds w ≡ closable_from at 0 left firsts seconds w
-closable_start at h left firsts seconds w s =
-    let a : at + pair_delays * 0 ≡ at = omega arith in
-    let b : left - 0 ≡ left = omega arith in
-    rw (s, a, b)
+  closable_turn left rest at2 s a f = rw (s, a, ← e, f)
 
 pub closable_end : (at h left : ℕ) (firsts seconds w : List ℕ) → left ≡ 0 → true ≡ closable_from at h left firsts seconds w
 unfolding closable_from
 closable_end at h left firsts seconds w s = rw s
-
-pub viable_not : (at used : ℕ) (firsts seconds w : List ℕ) (v : ℕ) → v ≡ le (part (at + reaching_place) 2 w) → v ≡ 65535 → false ≡ viable_at at used firsts seconds w
-viable_not at used firsts seconds w v e f = rw (← e, f)
 
 pub viable_then : (at used : ℕ) (firsts seconds w : List ℕ) (v : ℕ) (r : Bool) → v ≡ le (part (at + reaching_place) 2 w) → v ≢ 65535 → r ≡ closable_from at 0 used firsts seconds w
     → r ≡ viable_at at used firsts seconds w

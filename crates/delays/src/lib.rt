@@ -7,7 +7,7 @@ ghost use Rattle.automata.specs.Closing.{with_delay≤};
 ghost use Rattle.automata.specs.Memory.{Sound};
 ghost use Rattle.automata.specs.Layout.{delays_size, pair_delays, reaching_place};
 ghost use Rattle.automata.specs.Limits.{max_tapes};
-ghost use Rattle.table.specs.Answers.{lent};
+ghost use Rattle.table.specs.Answers.{memory};
 ghost use Rattle.delays_relaxation.specs.Vector.{Room};
 ghost use Rattle.delays_relaxation.specs.Edges.{edges, Readable};
 ghost use Rattle.delays_relaxation.specs.Lowered.{FillsLeast};
@@ -16,9 +16,9 @@ ghost use Rattle.delays.specs.ClosingRegion.{ClosesPair, ClosesPairs, closable_a
 
 use delays_relaxation::least_delays;
 use delays_relaxation::listing::list_arcs;
-use table::answer::Counts;
 use table::bytes::get16;
 use table::layout::{DELAYS_SIZE, OPPOSITE_PLACE, PAIR_DELAYS, REACHING_PLACE};
+use table::lent::Table;
 use table::pair::{Pair, PairList};
 use table::record::InputState;
 
@@ -59,26 +59,23 @@ pub fn close_pair(
     );
 }
 
-// The closing delays of the first `used` pairs.
+// The closing delays of all pairs.
 fn close_pairs(
     bytes: &[u8],
     states: usize,
     arcs: &[u8],
     count: usize,
     order: &[u16],
-    pairs: [Pair; 4],
-    used: usize,
+    pairs: PairList,
     work: &mut [u8],
     base: usize,
 )
-    requires { Readable bytes.now states arcs.now count × (used ≤ 4)
-        × ((h : _) → h < used → Within max_tapes (get_or pairs h no_pair)) × Room base reaching_place states work.old }
-    ensures { ClosesPairs bytes.now states arcs.now count pairs used base
+    requires { Readable bytes.now states arcs.now count × (pairs.used ≤ 4)
+        × ((h : _) → h < pairs.used → Within max_tapes (get_or pairs.pairs h no_pair)) × Room base reaching_place states work.old }
+    ensures { ClosesPairs bytes.now states arcs.now count pairs.pairs pairs.used base
         work.new work.old }
 {
-    let mut h: usize = 0;
-    while h < used {
-        let p = pairs[h];
+    for h in 0..pairs.used {
         close_pair(
             bytes,
             states,
@@ -86,11 +83,10 @@ fn close_pairs(
             count,
             false,
             order,
-            p,
+            pairs.pairs[h],
             work,
             base + PAIR_DELAYS * h,
         );
-        h += 1;
     }
 }
 
@@ -113,14 +109,12 @@ pub fn mark_reaching(
     least_delays(bytes, states, arcs, count, reversed, 0, 0, order, work, at);
 }
 
-// Whether `x` with the delay held as `v` is at most `y`.
+// Whether `x` with the delay held as `v` is at most `y`. In the two bytes that work space has for it (fixed memory), a
+// delay is held as 16,384 more than it is, a missing one as 65,535, an endless one as 0.
 fn within_delay(x: u8, v: u16, y: u8) -> bool
     ensures { result ≡ with_delay≤ x v y }
 {
-    if v == 0 {
-        return true;
-    }
-    x as u32 + v as u32 <= y as u32 + 16384
+    v == 0 || x as u32 + v as u32 <= y as u32 + 16384
 }
 
 // Whether the closing delays at `at` admit a leftover, of length `x` on the first tape and `y` on the second.
@@ -128,12 +122,7 @@ fn closable(work: &[u8], at: usize, x: u8, y: u8) -> bool
     requires { at + 6 ≤ length work.now }
     ensures { result ≡ closable_at at x y work.now }
 {
-    let least = get16(work, at);
-    if !within_delay(x, least, y) {
-        return false;
-    }
-    let opposite = get16(work, at + OPPOSITE_PLACE);
-    within_delay(y, opposite, x)
+    within_delay(x, get16(work, at), y) && within_delay(y, get16(work, at + OPPOSITE_PLACE), x)
 }
 
 // Whether a configuration is viable, by the place of its state's 64 bytes and the lengths of its leftovers.
@@ -144,72 +133,60 @@ pub fn viable_at(work: &[u8], at: usize, used: usize, firsts: [u8; 4], seconds: 
     if get16(work, at + REACHING_PLACE) == 65535 {
         return false;
     }
-    let mut h: usize = 0;
-    while h < used {
+    for h in 0..used {
         if !closable(work, at + PAIR_DELAYS * h, firsts[h], seconds[h]) {
             return false;
         }
-        h += 1;
     }
     true
 }
 
 // The closing tables, with the arcs listed.
-fn write_tables(
-    counts: Counts,
-    states: &[u8],
-    arcs: &[u8],
-    order: &[u16],
-    pairs: PairList,
-    work: &mut [u8],
-    base: usize,
-)
-    requires { Sound (lent counts states.now arcs.now) × (base + delays_size * counts.states ≤ length work.old)
-        × Named counts.tapes pairs }
-    ensures { WritesClosing (lent counts states.now arcs.now) pairs base work.new
+fn write_tables(table: &Table, order: &[u16], pairs: PairList, work: &mut [u8], base: usize)
+    requires { Sound (memory table.now) × (base + delays_size * table.now.counts.states ≤ length work.old)
+        × Named table.now.counts.tapes pairs }
+    ensures { WritesClosing (memory table.now) pairs base work.new
         work.old }
 {
     mark_reaching(
-        states,
-        counts.states,
-        arcs,
-        counts.arcs,
+        table.states,
+        table.counts.states,
+        table.arcs,
+        table.counts.arcs,
         false,
         order,
         work,
         base + REACHING_PLACE,
     );
-    let list = pairs.pairs;
     close_pairs(
-        states,
-        counts.states,
-        arcs,
-        counts.arcs,
+        table.states,
+        table.counts.states,
+        table.arcs,
+        table.counts.arcs,
         order,
-        list,
-        pairs.used,
+        pairs,
         work,
         base,
     );
 }
 
 // The closing tables of the lent table for the pairs, in the region of 64 bytes a state from `base`.
-pub fn closing_tables(
-    counts: Counts,
-    states: &[u8],
-    arcs: &[u8],
-    pairs: PairList,
-    work: &mut [u8],
-    base: usize,
-)
-    requires { Sound (lent counts states.now arcs.now) × (base + delays_size * counts.states ≤ length work.old)
-        × Named counts.tapes pairs }
-    ensures { WritesClosing (lent counts states.now arcs.now) pairs base work.new
+pub fn closing_tables(table: &Table, pairs: PairList, work: &mut [u8], base: usize)
+    requires { Sound (memory table.now) × (base + delays_size * table.now.counts.states ≤ length work.old)
+        × Named table.now.counts.tapes pairs }
+    ensures { WritesClosing (memory table.now) pairs base work.new
         work.old }
 {
     let mut order = [65535u16; 8192];
-    list_arcs(states, counts.states, arcs, counts.arcs, false, &mut order);
-    write_tables(counts, states, arcs, &order, pairs, work, base);
+    list_arcs(
+        table.states,
+        table.counts.states,
+        table.arcs,
+        table.counts.arcs,
+        false,
+        &mut order,
+    );
+    write_tables(table, &order, pairs, work, base);
 }
 
 // Whether a configuration with this state and leftovers of these lengths is viable, by the closing tables in the region

@@ -1,6 +1,5 @@
 -- Facts of the vectors and of the edges.
 pub mod VectorFacts
-pub mod EdgeFacts
 pub mod RunFacts
 pub mod SweepFacts
 pub mod RoundFacts

@@ -105,10 +105,6 @@ module _ (es : List Edge) (at n : ℕ) where
         stable = λ t. ap (round_of false es) (r.still t) ∙ sym r.holds;
       }
 
-  -- the same behind further steps, where it is told
-  pub settles_end : (still : Bool) (w u v : List ℕ) → still ≡ true → Settles es at n still w u → Lowers es at n u v → Settles es at n true w v
-  settles_end still w u v e s f = record { lowers = lowers_trans w u v s.lowers f; stable = λ z. s.stable e }
-
   -- a state with a delay and a closed run that lessens it becomes endless
   pub endless_lowers : (q x : ℕ) (w2 w : List ℕ) → q < n → Room at 2 n w → Lessens es q → x ≡ le (part (at + delays_size * q) 2 w) → x ≢ missing → w2 ≡ splice (at + delays_size * q) (to_le 2 0) w
       → Lowers es at n w2 w

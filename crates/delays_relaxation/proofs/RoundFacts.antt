@@ -9,7 +9,7 @@ use Rattle.automata.specs.InPlace.{Becomes}
 use Rattle.automata.specs.Layout.{arc_size}
 use Rattle.delays_relaxation.specs.declared.Edge.{Edge}
 use Rattle.delays_relaxation.specs.Vector.{Room, vector, Frame}
-use Rattle.delays_relaxation.specs.Edges.{edges, Joined, Readable, ReadableArcs, swept, round_of, Filled, rounds_of, both_rounds, starts, started}
+use Rattle.delays_relaxation.specs.Edges.{edges, Joined, Readable, ReadableArcs, swept, round_of, Filled, rounds_of, starts, started}
 use Rattle.delays_relaxation.proofs.VectorFacts.{frame_trans}
 use Rattle.delays_relaxation.proofs.SweepFacts.{Bytes, swept_frame, swept-vector, started_frame, started-vector}
 
@@ -64,14 +64,6 @@ module _ (d : Bool) (es : List Edge) (at n : ℕ) (v u w : List ℕ) (target : L
 pub rounds_end : (d : Bool) (es : List Edge) (at n : ℕ) (v u : List ℕ) (target : List ℕ) (left : ℕ) → left ≡ 0 → rounds_of d es left (vector at n u) ≡ target
     → Frame at 2 n u v → Filled at n target u v
 rounds_end d es at n v u target left s e f = record { holds = ap (λ (k : ℕ). rounds_of d es k (vector at n u)) (sym s) ∙ e; frame = f }
-
--- rounds of both kinds
-pub rounds_both : (es : List Edge) (at n : ℕ) (y x w : List ℕ) → Filled at n (rounds_of false es n (vector at n w)) x w → Filled at n (rounds_of true es n (vector at n x)) y x
-    → Filled at n (both_rounds es n (vector at n w)) y w
-rounds_both es at n y x w a b = record {
-  holds = b.holds ∙ ap (rounds_of true es n) a.holds;
-  frame = frame_trans at 2 n y x w b.frame a.frame;
-}
 
 -- the start
 pub started_filled : (reversed : Bool) (at n : ℕ) (bytes v u : List ℕ) → Room at 2 n v → u ≡ started reversed at 0 n bytes v → Filled at n (starts reversed 0 n bytes) u v

@@ -9,7 +9,6 @@ use mathlib.Core.Option.{some}
 use lib.ListN.{get_or, get_elem?}
 use Rattle.table.specs.Region.{part, splice}
 use Rattle.table.specs.Endian.{le, to_le}
-use Rattle.table.specs.Arcs.{source_at, target_at, label_place}
 use borrow.Author.Tests.{eq-eqb}
 use Rattle.automata.specs.Lists.{and}
 use Rattle.automata.proofs.TestFacts.{eqb_false}
@@ -18,15 +17,6 @@ use Rattle.automata.specs.Layout.{arc_size, delays_size, state_size}
 use Rattle.delays_relaxation.specs.declared.Edge.{Edge}
 use Rattle.delays_relaxation.specs.Edges.{edge_at, edges, Joined, through_edge, improve, visited, swept, start_of, flag_place, started}
 use Rattle.delays_relaxation.specs.Lowered.{next, Run}
-
--- an edge, from its fields, read forwards and backwards
-module _ (reversed : Bool) (first second at : ℕ) (arcs : List ℕ) (s t u d : ℕ) (a : s ≡ source_at at arcs) (b : t ≡ target_at at arcs)
-    (c : u ≡ get_or arcs (label_place at first) 0) (e : d ≡ get_or arcs (label_place at second) 0) where
-  pub edge_forwards : reversed ≡ false → ◌≡◌ {A = Edge} (record { source = s; target = t; up = u; down = d }) (edge_at reversed first second at arcs)
-  edge_forwards r = rw r (λ i. record { source = a i; target = b i; up = c i; down = e i })
-
-  pub edge_backwards : reversed ≡ true → ◌≡◌ {A = Edge} (record { source = t; target = s; up = u; down = d }) (edge_at reversed first second at arcs)
-  edge_backwards r = rw r (λ i. record { source = b i; target = a i; up = c i; down = e i })
 
 -- the work space after one edge, from what each call gave: the delay of its source stays, ...
 module _ (diverging : Bool) (at : ℕ) (e : Edge) (w : List ℕ) (v t x r : ℕ) (a : v ≡ le (part (at + delays_size * e.target) 2 w)) (b : t ≡ through_edge e.up e.down v)
@@ -70,32 +60,25 @@ pub run_turn : (reversed : Bool) (first second count q p up down k from : ℕ) (
 run_turn reversed first second count q p up down k from arcs e l f g h r = next k e (edges-place reversed first second 0 count k from arcs e l (omega arith) g) h r
 
 -- a round that has left edges before it: those behind are done, and nothing changed where same is told
-pub record Sweeping (diverging : Bool) (at : ℕ) (reversed : Bool) (first second count : ℕ) (arcs v w : List ℕ) (left from : ℕ) (same : Bool) : Type 0 where
-  pub place : from ≡ arc_size * left
-  pub few : left ≤ count
-  pub is : w ≡ swept diverging at (edges reversed first second from (count - left) arcs) v
+pub record Sweeping (diverging : Bool) (at : ℕ) (reversed : Bool) (first second count : ℕ) (arcs v w : List ℕ) (left : ℕ) (same : Bool) : Type 0 where
+  pub is : w ≡ swept diverging at (edges reversed first second (arc_size * left) (count - left) arcs) v
   pub still : same ≡ true → w ≡ v
 
 pub sweep-start : (diverging : Bool) (at : ℕ) (reversed : Bool) (first second count : ℕ) (arcs v : List ℕ)
-    → Sweeping diverging at reversed first second count arcs v v count (arc_size * count) true
+    → Sweeping diverging at reversed first second count arcs v v count true
 unfolding swept edges
-sweep-start diverging at reversed first second count arcs v =
-    let z : count - count ≡ 0 = omega arith in record { place = refl; few = omega arith; is = rw z; still = λ h. refl }
+sweep-start diverging at reversed first second count arcs v = let z : count - count ≡ 0 = omega arith in record { is = rw z; still = λ h. refl }
 
-module _ (diverging : Bool) (at : ℕ) (reversed : Bool) (first second count : ℕ) (arcs v w : List ℕ) (left from : ℕ) (same : Bool)
-    (s : Sweeping diverging at reversed first second count arcs v w left from same) where
+module _ (diverging : Bool) (at : ℕ) (reversed : Bool) (first second count : ℕ) (arcs v w : List ℕ) (left : ℕ) (same : Bool)
+    (s : Sweeping diverging at reversed first second count arcs v w left same) where
   -- one edge more
-  pub sweep_turn : (w2 : List ℕ) (left2 from2 : ℕ) (kept same2 : Bool) (e : Edge) → left ≡ suc left2 → from2 ≡ from - arc_size → e ≡ edge_at reversed first second from2 arcs
-      → Becomes (visited diverging at e w) kept w2 w → same2 ≡ and same kept → Sweeping diverging at reversed first second count arcs v w2 left2 from2 same2
+  pub sweep_turn : (w2 : List ℕ) (left2 : ℕ) (kept same2 : Bool) (e : Edge) → left ≡ suc left2 → left ≤ count → e ≡ edge_at reversed first second (arc_size * left2) arcs
+      → Becomes (visited diverging at e w) kept w2 w → same2 ≡ and same kept → Sweeping diverging at reversed first second count arcs v w2 left2 same2
   unfolding swept edges
-  sweep_turn w2 left2 from2 kept same2 e l f g b h =
-      let p = s.place in
-      let m = s.few in
+  sweep_turn w2 left2 kept same2 e l m g b h =
       let z : count - left2 ≡ suc (count - left) = omega arith in
-      let y : from2 + arc_size ≡ from = omega arith in
+      let y : arc_size * left2 + arc_size ≡ arc_size * left = omega arith in
       record {
-        place = omega arith;
-        few = omega arith;
         is = b.is ∙ (rw (z, y, ← g) (ap (visited diverging at e) s.is));
         still = λ t. told same kept (sym h ∙ t) s.still b.still;
       }
@@ -107,9 +90,8 @@ module _ (diverging : Bool) (at : ℕ) (reversed : Bool) (first second count : �
   -- no edge more
   pub sweep_end : left ≡ 0 → Becomes (swept diverging at (edges reversed first second 0 count arcs) v) same w v
   sweep_end l =
-      let p = s.place in
       let z : count - left ≡ count = omega arith in
-      let y : from ≡ 0 = omega arith in
+      let y : arc_size * left ≡ 0 = omega arith in
       record { is = rw (z, y) at s.is; still = s.still }
 
 -- ---- the delays that the states start with

@@ -16,13 +16,14 @@ fn end_of(arcs: &[u8], k: usize, reversed: bool) -> u16
     requires { arc_size * k + arc_size ≤ length arcs.now }
 {
     if reversed {
-        return source_at(arcs, ARC_SIZE * k).0;
+        source_at(arcs, ARC_SIZE * k).0
+    } else {
+        target_at(arcs, ARC_SIZE * k).0
     }
-    target_at(arcs, ARC_SIZE * k).0
 }
 
-// The state where the way from `q` along the noted arcs closes, and 65,535 where it ends or comes to a state seen
-// from another.
+// The state where the way from `q` along the noted arcs closes, if it does not end or come to a state seen from
+// another.
 fn closes_at(
     arcs: &[u8],
     count: usize,
@@ -30,27 +31,28 @@ fn closes_at(
     through: &[u16],
     seen: &mut [u16],
     q: u16,
-) -> u16
+) -> Option<u16>
     requires { arc_size * count ≤ length arcs.now }
 {
     let mut p = q;
     let mut left: usize = 1024;
     while number_at(seen, p as usize) == 65535 {
         if left < 1 {
-            return 65535;
+            return None;
         }
         left -= 1;
         note(seen, p as usize, q);
         let k = number_at(through, p as usize) as usize;
         if count <= k {
-            return 65535;
+            return None;
         }
         p = end_of(arcs, k, reversed);
     }
     if number_at(seen, p as usize) == q {
-        return p;
+        Some(p)
+    } else {
+        None
     }
-    65535
 }
 
 // Whether the noted arcs lead from `q` back to it, and their delays add up to less than none.
@@ -70,9 +72,7 @@ fn lessens(
     let mut p = q;
     let mut up: u32 = 0;
     let mut down: u32 = 0;
-    let mut left: usize = 1024;
-    while 0 < left {
-        left -= 1;
+    for _step in 0..1024usize {
         let k = number_at(through, p as usize) as usize;
         if count <= k {
             return false;
@@ -109,18 +109,18 @@ fn mark_from(
     ensures { Lowers (edges reversed first second 0 count arcs.now) at states work.new
         work.old }
 {
-    let c = closes_at(arcs, count, reversed, through, seen, q);
+    let Some(c) = closes_at(arcs, count, reversed, through, seen, q) else {
+        return;
+    };
     if states <= c as usize {
         return;
     }
     let place = at + DELAYS_SIZE * c as usize;
-    if get16(work, place) == 65535 {
-        return;
+    if get16(work, place) != 65535
+        && lessens(arcs, count, reversed, first, second, through, states, c)
+    {
+        put16(work, place, 0);
     }
-    if !lessens(arcs, count, reversed, first, second, through, states, c) {
-        return;
-    }
-    put16(work, place, 0);
 }
 
 // The same from every state.
@@ -140,9 +140,7 @@ fn mark_ways(
     ensures { Lowers (edges reversed first second 0 count arcs.now) at states work.new
         work.old }
 {
-    let mut q: u16 = 1024;
-    while 0 < q {
-        q -= 1;
+    for q in (0..1024).rev() {
         mark_from(
             arcs, count, reversed, first, second, through, seen, work, at, states, q,
         );

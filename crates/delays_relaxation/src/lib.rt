@@ -8,7 +8,6 @@ pub mod places;
 pub mod settle;
 
 ghost use Rattle.std.specs.Prelude.{◌≡◌, ◌+◌, ◌*◌, ◌≤◌, ◌<◌, length};
-ghost use Rattle.automata.specs.Lists.{and};
 ghost use Rattle.automata.specs.InPlace.{Becomes};
 ghost use Rattle.automata.specs.Layout.{arc_size, delays_size, state_size, final_place};
 ghost use Rattle.delays_relaxation.specs.Vector.{vector, Room};
@@ -37,40 +36,24 @@ pub fn edge_at(arcs: &[u8], at: usize, reversed: bool, first: usize, second: usi
 {
     let source = source_at(arcs, at).0;
     let target = target_at(arcs, at).0;
-    let up = label_length_at(arcs, at, first);
-    let down = label_length_at(arcs, at, second);
-    if reversed {
-        return Edge {
-            source: target,
-            target: source,
-            up,
-            down,
-        };
-    }
     Edge {
-        source,
-        target,
-        up,
-        down,
+        source: if reversed { target } else { source },
+        target: if reversed { source } else { target },
+        up: label_length_at(arcs, at, first),
+        down: label_length_at(arcs, at, second),
     }
 }
 
-// The least delay through an arc, `v` being the one from its target on.
+// The least delay through an arc, `v` being the one from its target on. In the two bytes that the lent work space has
+// for it (fixed memory), a delay is held as 16,384 more than it is, a missing one as 65,535, an endless one as 0.
 fn through_edge(up: u8, down: u8, v: u16) -> u32
     ensures { result ≡ through_edge up down v }
 {
-    if v == 65535 {
-        return 65535;
+    match v {
+        65535 => 65535,
+        0 => 0,
+        _ => (v as u32 + up as u32).saturating_sub(down as u32),
     }
-    if v == 0 {
-        return 0;
-    }
-    let sum = v as u32 + up as u32;
-    let less = down as u32;
-    if sum < less {
-        return 0;
-    }
-    sum - less
 }
 
 // What a round makes of the delay `x` where `t` is the one through an arc: the lesser, or endless if it can be
@@ -79,12 +62,12 @@ fn improved(diverging: bool, x: u16, t: u32) -> u16
     ensures { result ≡ improve diverging x t }
 {
     if x as u32 <= t {
-        return x;
+        x
+    } else if diverging {
+        0
+    } else {
+        t as u16
     }
-    if diverging {
-        return 0;
-    }
-    t as u16
 }
 
 // One arc of a round: the delay of its source is improved by that of its target. Tells whether it stayed as it was.
@@ -102,16 +85,6 @@ fn visit_edge(work: &mut [u8], at: usize, e: Edge, diverging: bool) -> bool
         return true;
     }
     put16(work, place, new);
-    false
-}
-
-// Whether both are so.
-fn both(a: bool, b: bool) -> bool
-    ensures { result ≡ and a b }
-{
-    if a {
-        return b;
-    }
     false
 }
 
@@ -133,17 +106,13 @@ fn round_arcs(
     ensures { Becomes (swept diverging at (edges reversed first second 0 count arcs.now)
         work.old) result work.new work.old }
 {
-    let mut left = count;
-    let mut from = ARC_SIZE * count;
     let mut same = true;
-    while 0 < left {
-        left -= 1;
-        from -= ARC_SIZE;
-        let e = edge_at(arcs, from, reversed, first, second);
+    for k in (0..count).rev() {
+        let e = edge_at(arcs, ARC_SIZE * k, reversed, first, second);
         let source = e.source as usize;
         let kept = visit_edge(work, at, e, diverging);
-        note_arc(kept, through, source, left);
-        same = both(same, kept);
+        note_arc(kept, through, source, k);
+        same = same && kept;
     }
     same
 }
@@ -168,14 +137,12 @@ fn start_delays(bytes: &[u8], states: usize, reversed: bool, work: &mut [u8], at
     ensures { work.new ≡ started reversed at 0 states bytes.now work.old }
 {
     let flag = flag_place(reversed);
-    let mut left = states;
-    let mut from: usize = 0;
-    let mut to = at;
-    while 0 < left {
-        put16(work, to, start_delay(bytes[from + flag]));
-        from += STATE_SIZE;
-        to += DELAYS_SIZE;
-        left -= 1;
+    for q in 0..states {
+        put16(
+            work,
+            at + DELAYS_SIZE * q,
+            start_delay(bytes[STATE_SIZE * q + flag]),
+        );
     }
 }
 
@@ -197,14 +164,12 @@ fn run_rounds(
         (edges reversed first second 0 count arcs.now) states (vector at states work.old))
         work.new work.old }
 {
-    let mut left = states;
-    while 0 < left {
+    for _round in 0..states {
         if round_arcs(
             arcs, count, reversed, first, second, work, at, states, diverging, through,
         ) {
             return;
         }
-        left -= 1;
     }
 }
 

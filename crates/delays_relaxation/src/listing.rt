@@ -29,10 +29,8 @@ fn chain_target(arcs: &[u8], k: usize, heads: &mut [u16], next: &mut [u16])
 fn chain_targets(arcs: &[u8], count: usize, heads: &mut [u16], next: &mut [u16])
     requires { (arc_size * count ≤ length arcs.now) × (count ≤ 8192) }
 {
-    let mut left = count;
-    while 0 < left {
-        left -= 1;
-        chain_target(arcs, left, heads, next);
+    for k in (0..count).rev() {
+        chain_target(arcs, k, heads, next);
     }
 }
 
@@ -108,10 +106,7 @@ fn search_step(
 fn begins_at(bytes: &[u8], root: usize, any: bool) -> bool
     requires { (state_size * root + state_size ≤ length bytes.now) × (root < 1024) }
 {
-    if any {
-        return true;
-    }
-    bytes[STATE_SIZE * root + FINAL_PLACE] != ABSENT
+    any || bytes[STATE_SIZE * root + FINAL_PLACE] != ABSENT
 }
 
 // The arcs on ways to the state `root`, if the search begins there and it was not seen, in the last free places. Each
@@ -133,10 +128,7 @@ fn list_from(
     requires { (state_size * root + state_size ≤ length bytes.now) × (root < 1024)
         × (arc_size * count ≤ length arcs.now) }
 {
-    if !begins_at(bytes, root, any) {
-        return free;
-    }
-    if number_at(seen, root) == 1 {
+    if !begins_at(bytes, root, any) || number_at(seen, root) == 1 {
         return free;
     }
     put_on(seen, stack, 0, root as u16);
@@ -186,13 +178,11 @@ fn list_roots(
         × (arc_size * count ≤ length arcs.now) }
 {
     let mut free = count;
-    let mut q: usize = 0;
-    while q < turns {
-        let root = root_at(q, states);
+    for turn in 0..turns {
         free = list_from(
             bytes,
-            root,
-            states <= q,
+            root_at(turn, states),
+            states <= turn,
             arcs,
             count,
             heads,
@@ -203,7 +193,6 @@ fn list_roots(
             order,
             free,
         );
-        q += 1;
     }
 }
 

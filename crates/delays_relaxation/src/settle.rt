@@ -40,10 +40,7 @@ fn lower_by(
 fn place_of(turned: bool, i: usize, count: usize) -> usize
     requires { i < count }
 {
-    if turned {
-        return count - 1 - i;
-    }
-    i
+    if turned { count - 1 - i } else { i }
 }
 
 // The listed arcs, one after the other, or in the turned order.
@@ -64,13 +61,11 @@ fn lower_listed(
     ensures { Lowers (edges reversed first second 0 count arcs.now) at states work.new
         work.old }
 {
-    let mut i: usize = 0;
-    while i < count {
+    for i in 0..count {
         let k = number_at(order, place_of(turned, i, count));
         lower_by(
             arcs, count, reversed, first, second, k, work, at, states, through,
         );
-        i += 1;
     }
 }
 
@@ -141,8 +136,7 @@ pub fn settle(
     ensures { Settles (edges reversed first second 0 count arcs.now) at states result work.new
         work.old }
 {
-    let mut left = states;
-    while 0 < left {
+    for _round in 0..states {
         if lower_all(
             arcs, count, reversed, first, second, order, work, at, states, through,
         ) {
@@ -151,7 +145,6 @@ pub fn settle(
         lower_turned(
             arcs, count, reversed, first, second, order, work, at, states, through,
         );
-        left -= 1;
     }
     false
 }

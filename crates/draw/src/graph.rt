@@ -1,17 +1,24 @@
 // The graph of a table, as Graphviz reads it.
-use agree_line::line::{PairLine, read_line};
-use table::answer::{Counts, Refusal, TableAnswer, refusal_number};
+use agree_line::line::read_line;
+use table::answer::Refusal;
 use table::arc::{arc_weight_at, labels_start, source_at, target_at};
 use table::bytes::get32;
 use table::layout::{
     AMOUNT_PLACE, ARC_SIZE, FINAL_PLACE, LABEL_SIZE, PRESENT, STATE_SIZE, SYMBOLS_PLACE,
     WEIGHT_SIZE,
 };
+use table::lent::Table;
 
-// Room for 1,024 states and 2,048 arcs.
-const STATE_SPACE: usize = 1024 * STATE_SIZE;
+// Room for 1,024 states and 2,048 arcs, of at most eight tapes.
+const TAPES: usize = 8;
 
-const ARC_SPACE: usize = 2048 * ARC_SIZE;
+const STATES: usize = 1024;
+
+const ARCS: usize = 2048;
+
+const STATE_SPACE: usize = STATES * STATE_SIZE;
+
+const ARC_SPACE: usize = ARCS * ARC_SIZE;
 
 // Bytes to standard output.
 fn put(text: &[u8]) {
@@ -25,24 +32,19 @@ fn put_number(n: u64) {
 
 // A weight of a state, where it is there: a line of the node's label that begins with a word.
 fn put_weight(states: &[u8], at: usize, word: &[u8]) {
-    if states.len() < WEIGHT_SIZE {
-        return;
-    }
-    if states.len() - WEIGHT_SIZE < at {
+    if states.len() < WEIGHT_SIZE || states.len() - WEIGHT_SIZE < at {
         return;
     }
     if states[at] == PRESENT {
         put(word);
-        put_number(get32(states, at + AMOUNT_PLACE) as u64);
+        put_number(u64::from(get32(states, at + AMOUNT_PLACE)));
     }
 }
 
 // The outline of a state: double where it has a final weight.
 fn put_outline(states: &[u8], at: usize) {
-    if at < states.len() {
-        if states[at] == PRESENT {
-            put(b", shape=doublecircle");
-        }
+    if at < states.len() && states[at] == PRESENT {
+        put(b", shape=doublecircle");
     }
 }
 
@@ -62,23 +64,15 @@ fn put_state(states: &[u8], q: usize, at: usize) {
     put(b"];\n");
 }
 
-// A length as a number of bytes.
-fn size_of(length: u8) -> usize {
-    length as usize
-}
-
 // The label in the nine bytes at a place, `-` where it is empty; a colon before it where it is not the first.
 fn put_label(arcs: &[u8], at: usize, first: bool) {
-    if arcs.len() < LABEL_SIZE {
-        return;
-    }
-    if arcs.len() - LABEL_SIZE < at {
+    if arcs.len() < LABEL_SIZE || arcs.len() - LABEL_SIZE < at {
         return;
     }
     if !first {
         put(b":");
     }
-    let length = size_of(arcs[at]);
+    let length = usize::from(arcs[at]);
     if length == 0 {
         put(b"-");
     }
@@ -90,68 +84,50 @@ fn put_label(arcs: &[u8], at: usize, first: bool) {
 
 // The labels of an arc on so many tapes, a colon between two.
 fn put_labels(arcs: &[u8], start: usize, tapes: usize) {
-    let mut left = tapes;
-    let mut at = start;
-    while 0 < left {
-        if 1000000 < at {
-            return;
-        }
-        put_label(arcs, at, left == tapes);
-        at += LABEL_SIZE;
-        left -= 1;
+    if 1000000 < start {
+        return;
+    }
+    for tape in 0..tapes.min(TAPES) {
+        put_label(arcs, start + LABEL_SIZE * tape, tape == 0);
     }
 }
 
 // The edge of the arc whose record stands at `at`.
 fn put_arc(arcs: &[u8], at: usize, tapes: usize) {
-    if arcs.len() < ARC_SIZE {
-        return;
-    }
-    if arcs.len() - ARC_SIZE < at {
+    if arcs.len() < ARC_SIZE || arcs.len() - ARC_SIZE < at {
         return;
     }
     put(b"  ");
-    put_number(source_at(arcs, at).0 as u64);
+    put_number(u64::from(source_at(arcs, at).0));
     put(b" -> ");
-    put_number(target_at(arcs, at).0 as u64);
+    put_number(u64::from(target_at(arcs, at).0));
     put(b" [label=\"");
     put_labels(arcs, labels_start(at), tapes);
     put(b" / ");
-    put_number(arc_weight_at(arcs, at) as u64);
+    put_number(u64::from(arc_weight_at(arcs, at)));
     put(b"\"];\n");
 }
 
 // The nodes of all states.
 fn put_states(states: &[u8], count: usize) {
-    let mut q: usize = 0;
-    while q < count {
-        if 1024 <= q {
-            return;
-        }
+    for q in 0..count.min(STATES) {
         put_state(states, q, STATE_SIZE * q);
-        q += 1;
     }
 }
 
 // The edges of all arcs.
 fn put_arcs(arcs: &[u8], count: usize, tapes: usize) {
-    let mut left = count;
-    let mut at: usize = 0;
-    while 0 < left {
-        if 1000000 < at {
-            return;
-        }
-        put_arc(arcs, at, tapes);
-        at += ARC_SIZE;
-        left -= 1;
+    for i in 0..count.min(ARCS) {
+        put_arc(arcs, ARC_SIZE * i, tapes);
     }
 }
 
 // The whole graph.
-fn put_graph(c: Counts, states: &[u8], arcs: &[u8]) {
+fn put_graph(table: &Table) {
     put(b"digraph table {\n  rankdir=LR;\n  node [shape=circle];\n");
-    put_states(states, c.states);
-    put_arcs(arcs, c.arcs, c.tapes);
+    let counts = table.counts;
+    put_states(table.states, counts.states);
+    put_arcs(table.arcs, counts.arcs, counts.tapes);
     put(b"}\n");
 }
 
@@ -178,7 +154,7 @@ fn put_word(why: Refusal) {
 // The graph of a refusal: one node with its number and its word.
 fn put_refusal(why: Refusal) {
     put(b"digraph table {\n  refused [shape=box, label=\"refused ");
-    put_number(refusal_number(why) as u64);
+    put_number(u64::from(u8::from(why)));
     put(b": ");
     put_word(why);
     put(b"\"];\n}\n");
@@ -189,10 +165,13 @@ fn put_refusal(why: Refusal) {
 fn draw_table(text: &[u8]) {
     let mut states = [0u8; STATE_SPACE];
     let mut arcs = [0u8; ARC_SPACE];
-    let answer = text::read(text, &mut states, &mut arcs);
-    match answer {
-        TableAnswer::Table(c) => put_graph(c, &states, &arcs),
-        TableAnswer::Refused(why) => put_refusal(why),
+    match text::read(text, &mut states, &mut arcs) {
+        Ok(counts) => put_graph(&Table {
+            counts,
+            states: &states,
+            arcs: &arcs,
+        }),
+        Err(why) => put_refusal(why),
     }
 }
 
@@ -200,10 +179,9 @@ fn draw_table(text: &[u8]) {
 // pair line: the byte 10 that ends a header stands behind the end of a line of one pair, and at a column of a tape in a
 // line of more.
 fn table_start(input: &[u8]) -> usize {
-    let line = read_line(input);
-    match line {
-        PairLine::Line(parts) => parts.next,
-        PairLine::Refused(_) => 0,
+    match read_line(input) {
+        Ok(parts) => parts.next,
+        Err(_) => 0,
     }
 }
 

@@ -6,7 +6,7 @@ ghost use Rattle.automata.specs.Forecast.{needs, path_states, told_capped};
 ghost use Rattle.automata.specs.ForecastCall.{forecast_of};
 ghost use Rattle.automata.specs.Calls.Work.{forecast_work};
 ghost use Rattle.automata.specs.Layout.{delays_size};
-ghost use Rattle.table.specs.Answers.{lent};
+ghost use Rattle.table.specs.Answers.{memory};
 ghost use Rattle.table.specs.Pairs.{Within, Named, tapes_as, pairs_as};
 ghost use Rattle.delays_relaxation.specs.Edges.{ReadableArcs};
 ghost use Rattle.forecast_counts.specs.Symbols.{ShortLabels};
@@ -20,29 +20,15 @@ use forecast_counts::{
     symbols_used,
 };
 use forecast_records::{Forecast, ForecastList, no_forecasts};
-use table::answer::Counts;
+use table::lent::Table;
 use table::pair::{Pair, PairList};
-
-// The greatest number that is told.
-const MAX_TOLD: usize = 65535;
-
-// A number less one, or 0 where there is none less.
-fn less_one(n: usize) -> usize
-    ensures { result ≡ n - 1 }
-{
-    if n < 1 {
-        return 0;
-    }
-    n - 1
-}
 
 // The delay that a pair can need: the states on successful paths less one, or 0, times the greatest delay of an arc.
 fn delay_by(found: usize, greatest: u8) -> usize
     requires { found ≤ 1024 }
     ensures { result ≡ (found - 1) * greatest }
 {
-    let steps = less_one(found);
-    steps * greatest as usize
+    found.saturating_sub(1) * usize::from(greatest)
 }
 
 // A delay, and the number of states times the bound on leftovers with it and so many symbols, or that this is over.
@@ -50,21 +36,11 @@ fn told_by(states: usize, symbols: usize, delay: u16) -> Forecast
     requires { (states ≤ 1024) × (symbols ≤ 256) }
     ensures { forecast_as result ≡ needs delay (told_capped states symbols delay) }
 {
-    let sum = capped_sum(symbols, delay as usize);
+    let sum = capped_sum(symbols, usize::from(delay));
     let number = states * (1 + 2 * sum);
-    if MAX_TOLD < number {
-        return Forecast {
-            mixed: false,
-            over: true,
-            delay,
-            number: 0,
-        };
-    }
-    Forecast {
-        mixed: false,
-        over: false,
-        delay,
-        number: number as u16,
+    match u16::try_from(number) {
+        Ok(number) => Forecast::Told { delay, number },
+        Err(_) => Forecast::Over { delay },
     }
 }
 
@@ -90,82 +66,69 @@ fn needed(
 }
 
 // The forecast of a pair, with the states on successful paths marked and counted.
-fn forecast_pair(
-    counts: Counts,
-    states: &[u8],
-    arcs: &[u8],
-    order: &[u16],
-    p: Pair,
-    found: usize,
-    work: &mut [u8],
-) -> Forecast
-    requires { Sound (lent counts states.now arcs.now) × Within counts.tapes p
-        × (forecast_work counts.states ≤ length work.old) × Marked (lent counts states.now arcs.now) work.old
-        × (found ≡ path_states (table_of (lent counts states.now arcs.now))) }
-    ensures { (forecast_as result ≡ forecast_of (table_of (lent counts states.now arcs.now))
-        (tapes_as p)) × Marked (lent counts states.now arcs.now) work.new }
+fn forecast_pair(table: &Table, order: &[u16], p: Pair, found: usize, work: &mut [u8]) -> Forecast
+    requires { Sound (memory table.now) × Within table.now.counts.tapes p
+        × (forecast_work table.now.counts.states ≤ length work.old) × Marked (memory table.now) work.old
+        × (found ≡ path_states (table_of (memory table.now))) }
+    ensures { (forecast_as result ≡ forecast_of (table_of (memory table.now))
+        (tapes_as p)) × Marked (memory table.now) work.new }
 {
+    let Table {
+        counts,
+        states,
+        arcs,
+    } = *table;
     let n = counts.states;
     let count = counts.arcs;
     close_pair(states, n, arcs, count, false, order, p, work, 0);
     close_pair(states, n, arcs, count, true, order, p, work, LEAST_BEFORE);
     if meets_both(work, n) {
-        return Forecast {
-            mixed: true,
-            over: false,
-            delay: 0,
-            number: 0,
-        };
+        Forecast::Mixed
+    } else {
+        let first = p.first as usize - 1;
+        let second = p.second as usize - 1;
+        needed(arcs, count, first, second, work, n, found)
     }
-    let first = p.first as usize - 1;
-    let second = p.second as usize - 1;
-    needed(arcs, count, first, second, work, n, found)
 }
 
 // Those of all pairs, in list order.
 fn forecast_pairs(
-    counts: Counts,
-    states: &[u8],
-    arcs: &[u8],
+    table: &Table,
     order: &[u16],
     pairs: PairList,
     found: usize,
     work: &mut [u8],
 ) -> ForecastList
-    requires { Sound (lent counts states.now arcs.now) × Named counts.tapes pairs
-        × (forecast_work counts.states ≤ length work.old) × Marked (lent counts states.now arcs.now) work.old
-        × (found ≡ path_states (table_of (lent counts states.now arcs.now))) }
+    requires { Sound (memory table.now) × Named table.now.counts.tapes pairs
+        × (forecast_work table.now.counts.states ≤ length work.old) × Marked (memory table.now) work.old
+        × (found ≡ path_states (table_of (memory table.now))) }
     ensures { (result.used ≤ 4) × (forecasts_as result
-        ≡ map (forecast_of (table_of (lent counts states.now arcs.now)))
+        ≡ map (forecast_of (table_of (memory table.now)))
         (tapes_of (pairs_as pairs))) }
 {
-    let used = pairs.used;
-    let list = pairs.pairs;
-    let none = no_forecasts();
-    let mut forecasts = none.forecasts;
-    let mut h: usize = 0;
-    while h < used {
-        let p = list[h];
-        forecasts[h] = forecast_pair(counts, states, arcs, order, p, found, work);
-        h += 1;
+    let mut forecasts = no_forecasts().forecasts;
+    for h in 0..pairs.used {
+        forecasts[h] = forecast_pair(table, order, pairs.pairs[h], found, work);
     }
-    ForecastList { forecasts, used }
+    ForecastList {
+        forecasts,
+        used: pairs.used,
+    }
 }
 
 // A forecast for each pair, in list order.
-pub fn forecasts_of(
-    counts: Counts,
-    states: &[u8],
-    arcs: &[u8],
-    pairs: PairList,
-    work: &mut [u8],
-) -> ForecastList
-    requires { Sound (lent counts states.now arcs.now) × Named counts.tapes pairs
-        × (forecast_work counts.states ≤ length work.old) }
+pub fn forecasts_of(table: &Table, pairs: PairList, work: &mut [u8]) -> ForecastList
+    requires { Sound (memory table.now) × Named table.now.counts.tapes pairs
+        × (forecast_work table.now.counts.states ≤ length work.old) }
     ensures { (result.used ≤ 4) × (forecasts_as result
-        ≡ map (forecast_of (table_of (lent counts states.now arcs.now)))
+        ≡ map (forecast_of (table_of (memory table.now)))
         (tapes_of (pairs_as pairs))) }
 {
+    let Table {
+        counts,
+        states,
+        arcs,
+    } = *table;
     let n = counts.states;
     let count = counts.arcs;
     let mut order = [65535u16; 8192];
@@ -173,5 +136,5 @@ pub fn forecasts_of(
     mark_reaching(states, n, arcs, count, false, &order, work, TO_FINAL);
     mark_reaching(states, n, arcs, count, true, &order, work, FROM_INITIAL);
     let found = path_states(work, n);
-    forecast_pairs(counts, states, arcs, &order, pairs, found, work)
+    forecast_pairs(table, &order, pairs, found, work)
 }

@@ -1,46 +1,16 @@
 -- The states on successful paths, and those where cycles of both signs meet.
-use Prim.Native.Nat.{ℕ, zero, suc, ◌+◌, ◌*◌, ◌<◌}
+use Prim.Native.Nat.{ℕ, zero, suc, ◌+◌, ◌*◌, ◌<◌, ◌≤◌}
+use mir.Val.{bool_byte}
 use mathlib.Core.Path.{◌≡◌, refl, sym, ap, ◌∙◌}
-use mathlib.Core.Logic.{◌≢◌}
-use mathlib.Core.Bool.{Bool, true, false, not}
+use mathlib.Core.Bool.{Bool, true, false}
 use mathlib.Core.List.{List}
 use native.Mathlib.Omega.{arith}
-use lib.Dec.{eqb}
 use lib.ListN.{length, get_or}
 use lib.Seq.{ext_get_or}
-use Rattle.table.specs.Region.{part}
-use Rattle.table.specs.Endian.{le}
 use Rattle.automata.specs.Lists.{if}
 use Rattle.automata.specs.Trim.{rank}
-use Rattle.automata.proofs.TestFacts.{eqb_false}
 use Rattle.automata.specs.Layout.{delays_size}
-use Rattle.forecast_counts.specs.Counts.{on_path_at, marks_from, endless_at, both_at, both_from}
-
--- ---- one state
-
--- no initial state leads there
-pub off_path : (at v : ℕ) (w : List ℕ) → v ≡ le (part (at + 36) 2 w) → v ≡ 65535 → false ≡ on_path_at at w
-off_path at v w e f = rw (← e, f)
-
--- one does: it lies on a path if it leads to a final state
-pub on_path-if : (at v u : ℕ) (w : List ℕ) → v ≡ le (part (at + 36) 2 w) → v ≢ 65535 → u ≡ le (part (at + 32) 2 w) → not (eqb u 65535) ≡ on_path_at at w
-on_path-if at v u w e f g = rw (← e, eqb_false v 65535 f, ← g)
-
--- the first delay is not endless
-pub endless_not : (a b v : ℕ) (w : List ℕ) → v ≡ le (part a 2 w) → v ≢ 0 → false ≡ endless_at a b w
-endless_not a b v w e f = rw (← e, eqb_false v 0 f)
-
--- it is: both are if the second is
-pub endless-if : (a b v u : ℕ) (w : List ℕ) → v ≡ le (part a 2 w) → v ≡ 0 → u ≡ le (part b 2 w) → eqb u 0 ≡ endless_at a b w
-endless-if a b v u w e f g = rw (← e, f, ← g)
-
--- one order of signs
-pub both_first : (at : ℕ) (w : List ℕ) (b : Bool) → b ≡ endless_at (at + 12) at w → b ≡ true → true ≡ both_at at w
-both_first at w b e f = rw (← e, f)
-
--- not that order: the other one
-pub both_second : (at : ℕ) (w : List ℕ) (b r : Bool) → b ≡ endless_at (at + 12) at w → b ≡ false → r ≡ endless_at (at + 8) (at + 4) w → r ≡ both_at at w
-both_second at w b r e f g = rw (← e, f) g
+use Rattle.forecast_counts.specs.Counts.{on_path_at, marks_from, both_at, both_from}
 
 -- ---- the marks of all states
 
@@ -70,13 +40,18 @@ marks_are at n w marks l f =
 
 -- ---- the loops
 
+-- a test as a number
+pub test-le : (b : Bool) → bool_byte b ≤ 1
+test-le true = omega arith
+test-le false = omega arith
+
 -- a turn counts one state more
-pub path_turn : (at left rest found r : ℕ) (w : List ℕ) (on : Bool) → left ≡ suc rest → on ≡ on_path_at at w → r ≡ if on 1 0
+pub path_turn : (at left rest found r : ℕ) (w : List ℕ) (on : Bool) → left ≡ suc rest → on ≡ on_path_at at w → r ≡ bool_byte on
     → (found + r) + rank (marks_from (at + delays_size) rest w) rest ≡ found + rank (marks_from at left w) left
 unfolding marks_from rank
 path_turn at left rest found r w on l e f = rw (l, ← e, f) (go on)
   where
-    go : (b : Bool) → (found + if b 1 0) + rank (marks_from (at + delays_size) rest w) rest
+    go : (b : Bool) → (found + bool_byte b) + rank (marks_from (at + delays_size) rest w) rest
         ≡ found + if b (suc (rank (marks_from (at + delays_size) rest w) rest)) (rank (marks_from (at + delays_size) rest w) rest)
     go true = omega arith
     go false = omega arith

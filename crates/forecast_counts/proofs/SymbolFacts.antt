@@ -1,16 +1,16 @@
 -- The table of symbols seen: filled label by label, and as many places marked as there are different symbols.
-use Prim.Native.Nat.{ℕ, zero, suc, ◌+◌, ◌-◌, ◌*◌, ◌<◌, ◌≤◌}
-use mathlib.Core.Path.{◌≡◌, refl, sym, ap, ap₂, ◌∙◌}
+use mir.Val.{bool_byte}
+use Prim.Native.Nat.{ℕ, zero, suc, ◌+◌, ◌-◌, ◌<◌, ◌≤◌}
+use mathlib.Core.Path.{◌≡◌, refl, sym, ap, ◌∙◌}
 use mathlib.Core.Bool.{Bool, true, false}
 use mathlib.Core.List.{List, [], ◌∷◌, ◌++◌, map}
 use native.Mathlib.Omega.{arith}
 use native.Mathlib.Decide.{ℕ_discrete}
 use native.Mathlib.Numerals.{add-one}
 use lib.Dec.{eqb}
-use lib.ListN.{length, get_or, set, drop, replicate, length-set, length-append, length-replicate, get_or-replicate, drop_of_length-le}
+use lib.ListN.{length, get_or, set, take, drop, replicate, length-set, length-append, length-replicate, get_or-replicate, drop_of_length-le}
 use lib.Seq.{drop-cons, get_or-set_same, get_or-set_other, set-get_or}
 use Rattle.table.specs.Region.{part}
-use Rattle.table.proofs.PartFacts.{part_zero, part_suc}
 use Rattle.table.proofs.EndianFacts.{Bytes}
 use Rattle.automata.specs.Lists.{if, or, All}
 use Rattle.automata.specs.TapePair.{reading}
@@ -22,7 +22,7 @@ use Rattle.automata.proofs.RecordFacts.{All_append}
 use Rattle.automata.proofs.ReadingFacts.{reading-le}
 use Rattle.automata.specs.Layout.{arc_size}
 use Rattle.table.specs.Arcs.{label_place}
-use Rattle.forecast_counts.specs.Symbols.{label_at, symbols_from, ShortLabels, noted, marked}
+use Rattle.forecast_counts.specs.Symbols.{label_at, symbols_from, noted, marked}
 
 -- ---- the table
 
@@ -39,15 +39,14 @@ length_noted seen [] = refl
 length_noted seen (x ∷ xs) = length_noted (set seen x 1) xs ∙ length-set seen x 1
 
 -- one byte more
-pub bytes_turn : (seen bytes : List ℕ) (from left rest symbol : ℕ) → left ≡ suc rest → from < length bytes → symbol ≡ reading (get_or bytes from 0)
-    → noted (set seen symbol 1) (map reading (part (from + 1) rest bytes)) ≡ noted seen (map reading (part from left bytes))
+pub bytes_turn : (seen label : List ℕ) (i symbol : ℕ) → i < length label → symbol ≡ reading (get_or label i 0) → noted (set seen symbol 1) (map reading (drop (i + 1) label)) ≡ noted seen (map reading (drop i label))
 unfolding noted
-bytes_turn seen bytes from left rest symbol l h e = rw (l, part_suc from rest bytes 0 h, e)
+bytes_turn seen label i symbol h e = rw (drop-cons label i 0 h, e, add-one i)
 
 -- no byte is left
-pub bytes_end : (seen bytes : List ℕ) (from left : ℕ) → left ≡ 0 → seen ≡ noted seen (map reading (part from left bytes))
+pub bytes_end : (seen label : List ℕ) (i : ℕ) → length label ≤ i → seen ≡ noted seen (map reading (drop i label))
 unfolding noted
-bytes_end seen bytes from left l = rw (l, part_zero from bytes)
+bytes_end seen label i h = rw (drop_of_length-le label h)
 
 -- one arc more
 pub arcs_turn : (first second from left rest : ℕ) (arcs seen a b : List ℕ) → left ≡ suc rest → a ≡ noted seen (label_at first from arcs) → b ≡ noted a (label_at second from arcs)
@@ -62,32 +61,24 @@ arcs_turn first second from left rest arcs seen a b l e f =
 
 -- the label on a tape, from its length and its place
 pub label_noted : (seen b arcs : List ℕ) (at tape n k : ℕ) → n ≡ get_or arcs (label_place at tape) 0 → k ≡ label_place at tape
-    → b ≡ noted seen (map reading (part (k + 1) n arcs)) → b ≡ noted seen (label_at tape at arcs)
-label_noted seen b arcs at tape n k e f g = g ∙ ap₂ (λ (i j : ℕ). noted seen (map reading (part (j + 1) i arcs))) e f
+    → b ≡ noted seen (map reading (take (k + 1 + n - (k + 1)) (drop (k + 1) arcs))) → b ≡ noted seen (label_at tape at arcs)
+unfolding part
+label_noted seen b arcs at tape n k e f g = let l : k + 1 + n - (k + 1) ≡ n = omega arith in rw (← e, ← f, ← l) g
 
 -- no arc is left
 pub arcs_end : (first second from left : ℕ) (arcs seen : List ℕ) → left ≡ 0 → seen ≡ noted seen (symbols_from first second from left arcs)
 unfolding symbols_from noted
 arcs_end first second from left arcs seen l = rw l
 
-module _ (arcs : List ℕ) (count first second : ℕ) (s : ShortLabels arcs count first second) (from left : ℕ) (h : 0 < left) (k : left ≤ count) (e : from + arc_size * left ≡ arc_size * count) where
-  -- the label of an arc that is left, on the first tape, is short
-  pub short-first : get_or arcs (label_place from first) 0 ≤ 8
-  short-first = let p : arc_size * (count - left) ≡ from = omega arith in rw p at (s.first_short (count - left) (omega arith))
-
-  -- and on the second
-  pub short_second : get_or arcs (label_place from second) 0 ≤ 8
-  short_second = let p : arc_size * (count - left) ≡ from = omega arith in rw p at (s.second_short (count - left) (omega arith))
-
 -- ---- the count
 
 -- one place more
-pub marks_turn : (seen : List ℕ) (i found r : ℕ) → i < length seen → r ≡ if (eqb (get_or seen i 0) 1) 1 0
+pub marks_turn : (seen : List ℕ) (i found r : ℕ) → i < length seen → r ≡ bool_byte (eqb (get_or seen i 0) 1)
     → (found + r) + marked (drop (i + 1) seen) ≡ found + marked (drop i seen)
 unfolding marked
 marks_turn seen i found r h e = rw (drop-cons seen i 0 h, e, add-one i) (go (eqb (get_or seen i 0) 1))
   where
-    go : (b : Bool) → (found + if b 1 0) + marked (drop (suc i) seen) ≡ found + if b (suc (marked (drop (suc i) seen))) (marked (drop (suc i) seen))
+    go : (b : Bool) → (found + bool_byte b) + marked (drop (suc i) seen) ≡ found + if b (suc (marked (drop (suc i) seen))) (marked (drop (suc i) seen))
     go true = omega arith
     go false = omega arith
 

@@ -45,17 +45,7 @@ fn on_path(work: &[u8], at: usize) -> bool
     requires { at + 38 ≤ length work.now }
     ensures { result ≡ on_path_at at work.now }
 {
-    if get16(work, at + FROM_INITIAL) == MISSING {
-        return false;
-    }
-    get16(work, at + TO_FINAL) != MISSING
-}
-
-// 1 for what is so, else 0.
-fn one_if(so: bool) -> usize
-    ensures { (result ≡ if so 1 0) × (result ≤ 1) }
-{
-    if so { 1 } else { 0 }
+    get16(work, at + FROM_INITIAL) != MISSING && get16(work, at + TO_FINAL) != MISSING
 }
 
 // How many of the first states lie on successful paths.
@@ -64,13 +54,8 @@ pub fn path_states(work: &[u8], states: usize) -> usize
     ensures { result ≡ rank (marks_from 0 states work.now) states }
 {
     let mut found: usize = 0;
-    let mut at: usize = 0;
-    let mut left = states;
-    while 0 < left {
-        let on = on_path(work, at);
-        found += one_if(on);
-        at += DELAYS_SIZE;
-        left -= 1;
+    for q in 0..states {
+        found += usize::from(on_path(work, DELAYS_SIZE * q));
     }
     found
 }
@@ -80,10 +65,7 @@ fn endless_at(work: &[u8], a: usize, b: usize) -> bool
     requires { (a + 2 ≤ length work.now) × (b + 2 ≤ length work.now) }
     ensures { result ≡ endless_at a b work.now }
 {
-    if get16(work, a) != ENDLESS {
-        return false;
-    }
-    get16(work, b) == ENDLESS
+    get16(work, a) == ENDLESS && get16(work, b) == ENDLESS
 }
 
 // Whether cycles of both signs meet at the state whose 64 bytes start at `at`.
@@ -91,10 +73,8 @@ fn both_at(work: &[u8], at: usize) -> bool
     requires { at + 14 ≤ length work.now }
     ensures { result ≡ both_at at work.now }
 {
-    if endless_at(work, at + OPPOSITE_BEFORE, at) {
-        return true;
-    }
-    endless_at(work, at + LEAST_BEFORE, at + OPPOSITE_AFTER)
+    endless_at(work, at + OPPOSITE_BEFORE, at)
+        || endless_at(work, at + LEAST_BEFORE, at + OPPOSITE_AFTER)
 }
 
 // Whether cycles of both signs meet at one of the first states.
@@ -102,14 +82,10 @@ pub fn meets_both(work: &[u8], states: usize) -> bool
     requires { delays_size * states ≤ length work.now }
     ensures { result ≡ both_from 0 states work.now }
 {
-    let mut at: usize = 0;
-    let mut left = states;
-    while 0 < left {
-        if both_at(work, at) {
+    for q in 0..states {
+        if both_at(work, DELAYS_SIZE * q) {
             return true;
         }
-        at += DELAYS_SIZE;
-        left -= 1;
     }
     false
 }
@@ -118,7 +94,7 @@ pub fn meets_both(work: &[u8], states: usize) -> bool
 fn delay_size(up: u8, down: u8) -> u8
     ensures { result ≡ delay_size up down }
 {
-    if up < down { down - up } else { up - down }
+    up.abs_diff(down)
 }
 
 // Whether both states of an arc lie on successful paths.
@@ -127,10 +103,7 @@ fn arc_on_path(work: &[u8], e: Edge) -> bool
         × (delays_size * e.target + delays_size ≤ length work.now) }
     ensures { result ≡ arc_on_path e.source e.target work.now }
 {
-    if !on_path(work, DELAYS_SIZE * e.source as usize) {
-        return false;
-    }
-    on_path(work, DELAYS_SIZE * e.target as usize)
+    on_path(work, DELAYS_SIZE * e.source as usize) && on_path(work, DELAYS_SIZE * e.target as usize)
 }
 
 // The greater of a number and the size of an arc's delay, where the arc lies on a successful path; else the number.
@@ -141,11 +114,11 @@ fn raise(work: &[u8], e: Edge, best: u8) -> u8
         (delay_size e.up e.down) best }
 {
     let size = delay_size(e.up, e.down);
-    if size <= best {
-        return best;
+    if best < size && arc_on_path(work, e) {
+        size
+    } else {
+        best
     }
-    let on = arc_on_path(work, e);
-    if on { size } else { best }
 }
 
 // The greatest size of an arc's delay on two tapes, among the arcs on successful paths.
@@ -162,30 +135,20 @@ pub fn greatest_delay(
         (edges false first second 0 count arcs.now) }
 {
     let mut best: u8 = 0;
-    let mut from: usize = 0;
-    let mut left = count;
-    while 0 < left {
-        let e = edge_at(arcs, from, false, first, second);
+    for k in 0..count {
+        let e = edge_at(arcs, ARC_SIZE * k, false, first, second);
         best = raise(work, e, best);
-        from += ARC_SIZE;
-        left -= 1;
     }
     best
 }
 
-// Each of the `count` symbols at `at`, as it is compared, marks its place in the table of symbols.
-fn note_bytes(seen: &mut [u8], bytes: &[u8], at: usize, count: usize)
-    requires { (length seen.old ≡ 256) × (at + count ≤ length bytes.now) }
-    ensures { seen.new ≡ noted seen.old (map reading (part at count bytes.now)) }
+// Each symbol of a label, as it is compared, marks its place in the table of symbols.
+fn note_bytes(seen: &mut [u8], label: &[u8])
+    requires { length seen.old ≡ 256 }
+    ensures { seen.new ≡ noted seen.old (map reading label.now) }
 {
-    let mut from = at;
-    let mut left = count;
-    while 0 < left {
-        let written = bytes[from];
-        let symbol = read_symbol(written);
-        seen[symbol as usize] = 1;
-        from += 1;
-        left -= 1;
+    for b in label {
+        seen[usize::from(read_symbol(*b))] = 1;
     }
 }
 
@@ -195,8 +158,9 @@ fn note_label(seen: &mut [u8], arcs: &[u8], at: usize, tape: usize)
         × (get_or arcs.now (label_place at tape) 0 ≤ 8) }
     ensures { seen.new ≡ noted seen.old (label_at tape at arcs.now) }
 {
-    let count = label_length_at(arcs, at, tape) as usize;
-    note_bytes(seen, arcs, label_place(at, tape) + SYMBOLS_PLACE, count);
+    let from = label_place(at, tape) + SYMBOLS_PLACE;
+    let count = usize::from(label_length_at(arcs, at, tape));
+    note_bytes(seen, &arcs[from..from + count]);
 }
 
 // Those of all labels on two tapes.
@@ -205,13 +169,9 @@ fn note_arcs(seen: &mut [u8], arcs: &[u8], count: usize, first: usize, second: u
     ensures { seen.new ≡ noted seen.old
         (symbols_from first second 0 count arcs.now) }
 {
-    let mut from: usize = 0;
-    let mut left = count;
-    while 0 < left {
-        note_label(seen, arcs, from, first);
-        note_label(seen, arcs, from, second);
-        from += ARC_SIZE;
-        left -= 1;
+    for k in 0..count {
+        note_label(seen, arcs, ARC_SIZE * k, first);
+        note_label(seen, arcs, ARC_SIZE * k, second);
     }
 }
 
@@ -220,8 +180,8 @@ fn count_marks(seen: &[u8]) -> usize
     ensures { result ≡ marked seen.now }
 {
     let mut found: usize = 0;
-    for i in 0..seen.len() {
-        found += one_if(seen[i] == 1);
+    for mark in seen {
+        found += usize::from(*mark == 1);
     }
     found
 }
@@ -242,8 +202,7 @@ fn next_sum(symbols: usize, sum: usize) -> usize
     requires { (symbols ≤ 256) × (sum ≤ 65536) }
     ensures { (result ≡ cut 65536 (symbols * (1 + sum))) × (result ≤ 65536) }
 {
-    let next = symbols * (1 + sum);
-    if CAP < next { CAP } else { next }
+    CAP.min(symbols * (1 + sum))
 }
 
 // The sum s + s² + .. + s^D of the symbols s and the delay D, or 65,536 where it is more.
@@ -252,10 +211,8 @@ pub fn capped_sum(symbols: usize, delay: usize) -> usize
     ensures { result ≡ capped_sum 65536 symbols delay }
 {
     let mut sum: usize = 0;
-    let mut done: usize = 0;
-    while done < delay {
+    for _term in 0..delay {
         sum = next_sum(symbols, sum);
-        done += 1;
     }
     sum
 }

@@ -1,7 +1,6 @@
 -- Facts of the records of forecasts.
 use Prim.Native.Nat.{ℕ, suc, ◌+◌, ◌*◌, ◌≤◌, ◌<◌}
 use mathlib.Core.Path.{◌≡◌, sym, ap, ◌∙◌}
-use mathlib.Core.Bool.{true, false}
 use mathlib.Core.List.{List, [], ◌∷◌, ◌++◌, map, append-nil}
 use native.Mathlib.Omega.{arith}
 use lib.ListN.{length, get_or, take, length-take, length-map}
@@ -9,17 +8,15 @@ use lib.Seq.{take-suc}
 use Rattle.automata.specs.Lists.{concat}
 use Rattle.automata.specs.Answer.{ok}
 use Rattle.automata.specs.Calls.Forecast.{forecast_size, forecast_parts, forecast_record, forecast_records, record_bytes}
-use Rattle.automata.specs.Calls.Outcome.{overwrite}
 use Rattle.automata.proofs.ListFacts.{map_append}
 use Rattle.automata.proofs.AppendFacts.{concat_append}
 use Rattle.automata.proofs.ForecastCalls.{length_record, length_records}
-use Rattle.table.specs.declared.answer.Judged.TheVariants.{Fine}
+use Rattle.std.specs.Prelude.{Ok}
 use Rattle.table.specs.Region.{splice}
 use Rattle.table.specs.Endian.{to_le}
-use Rattle.table.proofs.RegionFacts.{splice_append, splice_front}
+use Rattle.table.proofs.RegionFacts.{splice_append}
 use Rattle.forecast_records.specs.declared.Forecast.{Forecast}
 use Rattle.forecast_records.specs.declared.ForecastList.{ForecastList}
-use Rattle.forecast_records.specs.declared.ForecastAnswer.{ForecastAnswer}
 use Rattle.forecast_records.specs.Values.{forecast_as, forecasts_as, answer_as}
 
 -- ---- one record
@@ -31,18 +28,6 @@ parts_stored at which delay n w u t v l e f g =
     g ∙ ap (splice (at + 4) (to_le 2 n)) (f ∙ ap (splice (at + 2) (to_le 2 delay)) e ∙ splice_append at (to_le 2 which) (to_le 2 delay) v (omega arith))
     ∙ splice_append at (to_le 2 which ++ to_le 2 delay) (to_le 2 n) v (omega arith)
 
--- the record of each kind
-pub record_mixed : (at : ℕ) (f : Forecast) (w v : List ℕ) → f.mixed ≡ true → w ≡ splice at (forecast_parts 3 0 0) v → w ≡ splice at (forecast_record (forecast_as f)) v
-record_mixed at f w v e g = rw e g
-
-pub record_over : (at : ℕ) (f : Forecast) (w v : List ℕ) → f.mixed ≡ false → f.over ≡ true → w ≡ splice at (forecast_parts 2 f.delay 0) v
-    → w ≡ splice at (forecast_record (forecast_as f)) v
-record_over at f w v e h g = rw (e, h) g
-
-pub record_number : (at : ℕ) (f : Forecast) (w v : List ℕ) → f.mixed ≡ false → f.over ≡ false → w ≡ splice at (forecast_parts 1 f.delay f.number) v
-    → w ≡ splice at (forecast_record (forecast_as f)) v
-record_number at f w v e h g = rw (e, h) g
-
 -- ---- several
 
 -- the forecasts that are used, of four
@@ -50,8 +35,8 @@ pub used_count : (l : ForecastList) → length l.forecasts ≡ 4 → l.used ≤ 
 used_count l four few = omega (arith, length-map (take l.used l.forecasts) forecast_as, length-take l.used l.forecasts, four)
 
 -- the bytes of the records of an answer without a refusal
-pub bytes-told : (a : ForecastAnswer) → a.judged ≡ Fine → length a.told.forecasts ≡ 4 → a.told.used ≤ 4 → record_bytes (answer_as a) ≡ ok (forecast_size * a.told.used)
-bytes-told a fine four few = rw fine (ap ok (length_records (forecasts_as a.told) ∙ ap (λ (n : ℕ). forecast_size * n) (used_count a.told four few)))
+pub bytes-told : (l : ForecastList) → length l.forecasts ≡ 4 → l.used ≤ 4 → record_bytes (answer_as (Ok l)) ≡ ok (forecast_size * l.used)
+bytes-told l four few = ap ok (length_records (forecasts_as l) ∙ ap (λ (n : ℕ). forecast_size * n) (used_count l four few))
 
 -- a record behind others
 module _ (fs : List Forecast) (h : ℕ) (d : Forecast) (lt : h < length fs) where
@@ -75,8 +60,3 @@ module _ (fs : List Forecast) (h : ℕ) (d : Forecast) (lt : h < length fs) wher
       g ∙ ap (splice (forecast_size * h) x) e ∙ ap (λ (k : ℕ). splice k x (splice 0 r v)) (sym k)
       ∙ splice_append 0 r x v (omega (arith, k, l, length_record (forecast_as (get_or fs h d)))) ∙ ap (λ (y : List ℕ). splice 0 y v) (sym records-next)
       ∙ ap (λ (i : ℕ). splice 0 (forecast_records (map forecast_as (take i fs))) v) next
-
--- the end of it
-pub records_end : (fs : List Forecast) (h n : ℕ) (w v : List ℕ) → h ≡ n → w ≡ splice 0 (forecast_records (map forecast_as (take h fs))) v
-    → w ≡ overwrite (forecast_records (map forecast_as (take n fs))) v
-records_end fs h n w v e g = rw e at g ∙ splice_front (forecast_records (map forecast_as (take n fs))) v

@@ -1,29 +1,33 @@
 -- What the forecasts by value stand for.
-use Rattle.std.specs.Prelude.{false, List, [], ◌∷◌, map, take}
-use Rattle.automata.specs.Lists.{if}
-use Rattle.automata.specs.Answer.{◌>>=◌, Answer, ok}
+use Rattle.std.specs.Prelude.{Result, Ok, Err, List, [], ◌∷◌, map, take}
+use Rattle.automata.specs.Answer.{Answer, ok, refused}
 use Rattle.automata.specs.Forecast as automata
 use Rattle.automata.specs.Forecast.{number, over, mixed, needs}
-use Rattle.table.specs.Answers.{judged_as}
+use Rattle.table.specs.declared.answer.Refusal.{Refusal}
+use Rattle.table.specs.Answers.{refusal_number}
 use Rattle.forecast_records.specs.declared.Forecast.{Forecast}
+use Rattle.forecast_records.specs.declared.Forecast.TheVariants.{Mixed, Over, Told}
 use Rattle.forecast_records.specs.declared.ForecastList.{ForecastList}
-use Rattle.forecast_records.specs.declared.ForecastAnswer.{ForecastAnswer}
 
 -- the forecast of a pair
 abbrev pub forecast_as : Forecast → automata.Forecast
-forecast_as f = if f.mixed mixed (needs f.delay (if f.over over (number f.number)))
+forecast_as Mixed = mixed
+forecast_as (Over d) = needs d over
+forecast_as (Told d n) = needs d (number n)
 
--- a forecast that tells nothing, and none of four used
-abbrev pub no_forecast : Forecast
-no_forecast = record { mixed = false; over = false; delay = 0; number = 0 }
-
+-- none of four used
 abbrev pub no_forecasts : ForecastList
-no_forecasts = record { forecasts = no_forecast ∷ no_forecast ∷ no_forecast ∷ no_forecast ∷ []; used = 0 }
+no_forecasts = record { forecasts = Mixed ∷ Mixed ∷ Mixed ∷ Mixed ∷ []; used = 0 }
 
 -- the forecasts that are used
 abbrev pub forecasts_as : ForecastList → List automata.Forecast
 forecasts_as l = map forecast_as (take l.used l.forecasts)
 
--- the answer of a call
+-- the answer of a call: forecasts, or a refusal
+abbrev pub ForecastAnswer : Type 0
+ForecastAnswer = Result ForecastList Refusal
+
+-- what it stands for
 abbrev pub answer_as : ForecastAnswer → Answer (List automata.Forecast)
-answer_as a = judged_as a.judged >>= λ u. ok (forecasts_as a.told)
+answer_as (Ok l) = ok (forecasts_as l)
+answer_as (Err r) = refused (refusal_number r)

@@ -7,7 +7,6 @@ ghost use Rattle.automata.specs.Calls.Outcome.{overwrite};
 ghost use Rattle.table.specs.Region.{splice};
 ghost use Rattle.forecast_records.specs.Values.{no_forecasts, forecast_as, forecasts_as};
 
-use table::answer::Judged;
 use table::bytes::put16;
 
 // The bytes of a record, and what it tells: a delay and a number, a delay and "over", or mixed.
@@ -19,41 +18,28 @@ const OVER: u16 = 2;
 
 const MIXED: u16 = 3;
 
-// What a build on a pair of tapes can need. A mixed pair has neither delay nor number, and one that is over no number.
+// What a build on a pair of tapes can need: a delay and a number, a delay and a number that is over, or, of a mixed pair,
+// neither.
 #[derive(Clone, Copy)]
-pub struct Forecast {
-    pub mixed: bool,
-    pub over: bool,
-    pub delay: u16,
-    pub number: u16,
+pub enum Forecast {
+    Mixed,
+    Over { delay: u16 },
+    Told { delay: u16, number: u16 },
 }
 
-// The forecasts of a call: the first `used` of four.
+// The forecasts of a call: the first `used` of four (no heap: a list of at most four is passed by value).
 #[derive(Clone, Copy)]
 pub struct ForecastList {
     pub forecasts: [Forecast; 4],
     pub used: usize,
 }
 
-// What a call that forecasts answers: a refusal, or, where there is none, a forecast for each pair.
-#[derive(Clone, Copy)]
-pub struct ForecastAnswer {
-    pub judged: Judged,
-    pub told: ForecastList,
-}
-
-// No forecasts: four that tell nothing, none of them used.
+// No forecasts: none of the four is used.
 pub fn no_forecasts() -> ForecastList
     ensures { result ≡ no_forecasts }
 {
-    let none = Forecast {
-        mixed: false,
-        over: false,
-        delay: 0,
-        number: 0,
-    };
     ForecastList {
-        forecasts: [none; 4],
+        forecasts: [Forecast::Mixed; 4],
         used: 0,
     }
 }
@@ -73,15 +59,11 @@ fn put_forecast(res: &mut [u8], at: usize, f: Forecast)
     requires { at + forecast_size ≤ length res.old }
     ensures { res.new ≡ splice at (forecast_record (forecast_as f)) res.old }
 {
-    if f.mixed {
-        put_parts(res, at, MIXED, 0, 0);
-        return;
+    match f {
+        Forecast::Mixed => put_parts(res, at, MIXED, 0, 0),
+        Forecast::Over { delay } => put_parts(res, at, OVER, delay, 0),
+        Forecast::Told { delay, number } => put_parts(res, at, NUMBER, delay, number),
     }
-    if f.over {
-        put_parts(res, at, OVER, f.delay, 0);
-        return;
-    }
-    put_parts(res, at, NUMBER, f.delay, f.number);
 }
 
 // The records of the forecasts over the front of the result space.
@@ -89,10 +71,7 @@ pub fn put_forecasts(list: ForecastList, res: &mut [u8])
     requires { (list.used ≤ 4) × (forecast_size * list.used ≤ length res.old) }
     ensures { res.new ≡ overwrite (forecast_records (forecasts_as list)) res.old }
 {
-    let mut h: usize = 0;
-    while h < list.used {
-        let f = list.forecasts[h];
-        put_forecast(res, RECORD * h, f);
-        h += 1;
+    for h in 0..list.used {
+        put_forecast(res, RECORD * h, list.forecasts[h]);
     }
 }

@@ -1,78 +1,104 @@
 -- The judgements before any configuration is reached, and the call that they are made for.
 use Prim.Native.Nat.{ℕ}
-use mathlib.Core.Path.{◌≡◌, sym, ap, ◌∙◌}
-use mathlib.Core.Bool.{Bool, true}
+use mathlib.Core.Path.{◌≡◌, refl, sym, ap, ◌∙◌}
+use mathlib.Core.Bool.{Bool}
 use mathlib.Core.List.{List}
 use lib.Dec.{leb}
 use lib.ListN.{length}
+use Rattle.std.specs.Prelude.{Ok, Err, Some, None}
 use Rattle.automata.specs.Refusal as refusal
-use Rattle.automata.specs.Answer.{◌>>=◌, Answer, ok, require, judge, forget}
+use Rattle.automata.specs.Answer.{◌>>=◌, Answer, ok, refused, require, judge, forget}
 use Rattle.automata.specs.Automaton.{Automaton, size}
 use Rattle.automata.specs.TapePair.{TapePair}
 use Rattle.automata.specs.Memory.{Memory, Sound, table_of, decode_table}
 use Rattle.automata.specs.IntersectCall.{intersect_on, intersect_call}
 use Rattle.automata.specs.Calls.Work.{build_work, enough}
 use Rattle.automata.specs.Calls.Intersect.{intersect_answer}
-use Rattle.automata.proofs.AnswerFacts.{bind_ok}
 use Rattle.automata.proofs.SoundFacts.{sound, table_of_is, sound_holds}
-use Rattle.table.specs.declared.answer.Judged.{Judged}
-use Rattle.table.specs.declared.answer.Judged.TheVariants.{Fine}
-use Rattle.table.specs.Answers.{judged_as}
+use Rattle.table.specs.declared.answer.Refusal.{Refusal}
+use Rattle.table.specs.declared.answer.Refusal.TheVariants.{Space}
+use Rattle.table.specs.declared.answer.Counts.{Counts}
+use Rattle.table.specs.declared.pair.PairList.{PairList}
+use Rattle.table.specs.Answers.{lent, judged_as, refusal_number}
 use Rattle.table.proofs.TableFacts.{judged_sound}
-use Rattle.pairs.specs.declared.PairsJudged.{PairsJudged}
 use Rattle.pairs.specs.PairTests.{pairs_answer, in_turn}
 use Rattle.pairs.specs.Judgement.{KeepJudged}
 use Rattle.pairs.proofs.TestFacts.{keep_limits}
 use Rattle.pairs.proofs.CallFacts.{intersect_then}
-use Rattle.pairs.proofs.TurnFacts.{by_turns, judged_fine, require_true}
-use Rattle.intersect_room.specs.declared.room.RoomAnswer.{RoomAnswer}
+use Rattle.pairs.proofs.TurnFacts.{by_turns}
+use Rattle.intersect_room.specs.declared.room.Room.{Room}
 use Rattle.intersect_room.specs.Room.{lent_space, RoomFor}
 use Rattle.intersect.specs.Prepared.{Prepares}
 
--- ---- the call
-module _ (m : Memory) (ps : List TapePair) (states arcs work : ℕ) (t p j : Answer (Unit {0})) (b : Bool)
-    (e : t ≡ forget (decode_table m)) (f : p ≡ pairs_answer m.tapes ps) (g : b ≡ leb (build_work (lent_space states arcs) m.states) work) (h : j ≡ in_turn t p b) where
+module _ (c : Counts) (states arcs : List ℕ) (ps : List TapePair) (for_states for_arcs work : ℕ) where
+  -- the table, and whether the work space is enough
+  abbrev m : Memory
+  m = lent c states arcs
+
+  abbrev fits : Bool
+  fits = leb (build_work (lent_space for_states for_arcs) m.states) work
+
   -- the call by the judgements
-  pub call_in_turn : (w : List ℕ) → length w ≡ work
-      → intersect_answer m ps (lent_space states arcs) w ≡ (j >>= λ (u : Unit {0}). intersect_on (lent_space states arcs) ps (table_of m))
+  call_in_turn : (j : Answer (Unit {0})) → j ≡ in_turn (forget (decode_table m)) (pairs_answer m.tapes ps) fits → (w : List ℕ) → length w ≡ work
+      → intersect_answer m ps (lent_space for_states for_arcs) w ≡ (j >>= λ (u : Unit {0}). intersect_on (lent_space for_states for_arcs) ps (table_of m))
   unfolding intersect_answer
-  call_in_turn w l = by_turns m p j b next rest (h ∙ ap (λ (a : Answer (Unit {0})). in_turn a p b) e) (λ A d.
+  call_in_turn j h w l = by_turns m (pairs_answer m.tapes ps) j fits next rest h (λ A d.
       let s : Sound m = sound m A d in
-      let y : enough (build_work (lent_space states arcs) (size (table_of m))) w ≡ b
-      = ap (λ (n : ℕ). leb (build_work (lent_space states arcs) n) (length w)) (sym (sound_holds m s).states) ∙ ap (leb (build_work (lent_space states arcs) m.states)) l ∙ sym g in
+      let y : enough (build_work (lent_space for_states for_arcs) (size (table_of m))) w ≡ fits
+      = ap (λ (n : ℕ). leb (build_work (lent_space for_states for_arcs) n) (length w)) (sym (sound_holds m s).states) ∙ ap (leb (build_work (lent_space for_states for_arcs) m.states)) l in
       ap next (sym (table_of_is m A d))
-      ∙ intersect_then (enough (build_work (lent_space states arcs) (size (table_of m))) w) (lent_space states arcs) ps (table_of m) m.tapes (sym (sound_holds m s).tapes)
-      ∙ ap (λ (c : Bool). pairs_answer m.tapes ps >>= λ (u : Unit {0}). judge c refusal.space rest) y
-      ∙ ap (λ (a : Answer (Unit {0})). a >>= λ (u : Unit {0}). judge b refusal.space rest) (sym f))
+      ∙ intersect_then (enough (build_work (lent_space for_states for_arcs) (size (table_of m))) w) (lent_space for_states for_arcs) ps (table_of m) m.tapes (sym (sound_holds m s).tapes)
+      ∙ ap (λ (b : Bool). pairs_answer m.tapes ps >>= λ (u : Unit {0}). judge b refusal.space rest) y)
     where
       rest : Answer (Automaton ℕ)
-      rest = intersect_on (lent_space states arcs) ps (table_of m)
+      rest = intersect_on (lent_space for_states for_arcs) ps (table_of m)
 
       next : Automaton ℕ → Answer (Automaton ℕ)
-      next A = intersect_call (enough (build_work (lent_space states arcs) (size A)) w) (lent_space states arcs) ps A
+      next A = intersect_call (enough (build_work (lent_space for_states for_arcs) (size A)) w) (lent_space for_states for_arcs) ps A
 
--- The judgements are those of the call.
-pub prepared : (m : Memory) (ps : List TapePair) (states arcs work : ℕ) (t j : Judged) (l : PairsJudged) (r : RoomAnswer)
-    → judged_as t ≡ forget (decode_table m) → KeepJudged ps m.tapes l → RoomFor states arcs m.states work r → judged_as j ≡ in_turn (judged_as t) (judged_as l.judged) r.enough
-    → Prepares m ps states arcs work (record { judged = j; pairs = l.pairs; room = r.room })
-prepared m ps states arcs work t j l r e f g h = record {
-  answer = call_in_turn m ps states arcs work (judged_as t) (judged_as l.judged) (judged_as j) r.enough e f.answer g.enough h;
-  sound = λ k. judged_sound m (sym e ∙ (first k).1);
-  pairs_are = λ k. f.pairs (second k);
-  four = λ k. f.four (second k);
-  named = λ k. f.tapes_named (second k);
-  within_limits = λ k. keep_limits ps m.tapes l f (second k);
-  divides = λ k. g.divides (third k);
-}
-  where
-    first : j ≡ Fine → (u : Unit {0}) × (judged_as t ≡ ok u) × ((judged_as l.judged >>= λ (v : Unit {0}). require r.enough refusal.space) ≡ ok tt)
-    first k = bind_ok (judged_as t) (λ (u : Unit {0}). judged_as l.judged >>= λ (v : Unit {0}). require r.enough refusal.space) tt (sym h ∙ ap judged_as k)
+  -- the table is refused
+  pub table_refused : (e : Refusal) → judged_as (Err e) ≡ forget (decode_table m) → Prepares c states arcs ps for_states for_arcs work (Err e)
+  table_refused e t = record {
+    answer = call_in_turn (refused (refusal_number e)) (ap (λ (a : Answer (Unit {0})). in_turn a (pairs_answer m.tapes ps) fits) t);
+    plan = tt;
+  }
 
-    next : j ≡ Fine → (u : Unit {0}) × (judged_as l.judged ≡ ok u) × (require r.enough refusal.space ≡ ok tt)
-    next k = bind_ok (judged_as l.judged) (λ (v : Unit {0}). require r.enough refusal.space) tt (first k).2
+  module _ (t : judged_as (Ok tt) ≡ forget (decode_table m)) where
+    -- it is not, so the pairs and the space are judged
+    table_fine : in_turn (ok tt) (pairs_answer m.tapes ps) fits ≡ in_turn (forget (decode_table m)) (pairs_answer m.tapes ps) fits
+    table_fine = ap (λ (a : Answer (Unit {0})). in_turn a (pairs_answer m.tapes ps) fits) t
 
-    second : j ≡ Fine → l.judged ≡ Fine
-    second k = judged_fine l.judged (next k).0 (next k).1
+    -- the pairs are refused
+    pub pairs_refused : (e : Refusal) → KeepJudged ps m.tapes (Err e) → Prepares c states arcs ps for_states for_arcs work (Err e)
+    pairs_refused e k = record {
+      answer = call_in_turn (refused (refusal_number e)) (ap (λ (a : Answer (Unit {0})). in_turn (ok tt) a fits) k.answer ∙ table_fine);
+      plan = tt;
+    }
 
-    third : j ≡ Fine → r.enough ≡ true
-    third k = require_true r.enough refusal.space tt (next k).2
+    module _ (l : PairList) (k : KeepJudged ps m.tapes (Ok l)) where
+      -- they are not, so the space is judged
+      pairs_fine : require fits refusal.space ≡ in_turn (forget (decode_table m)) (pairs_answer m.tapes ps) fits
+      pairs_fine = ap (λ (a : Answer (Unit {0})). in_turn (ok tt) a fits) k.answer ∙ table_fine
+
+      -- the work space is too short
+      pub space_refused : RoomFor for_states for_arcs m.states work None → Prepares c states arcs ps for_states for_arcs work (Err Space)
+      space_refused r = record {
+        answer = call_in_turn (refused refusal.space) (ap (λ (b : Bool). require b refusal.space) r.enough ∙ pairs_fine);
+        plan = tt;
+      }
+
+      -- nothing is refused
+      pub prepared : (r : Room) → RoomFor for_states for_arcs m.states work (Some r)
+          → Prepares c states arcs ps for_states for_arcs work (Ok (record { counts = c; pairs = l; room = r }))
+      prepared r f = record {
+        answer = call_in_turn (ok tt) (ap (λ (b : Bool). require b refusal.space) f.enough ∙ pairs_fine);
+        plan = record {
+          counts_are = refl;
+          sound = judged_sound m (sym t);
+          pairs_are = k.pairs;
+          four = k.four;
+          named = k.tapes_named;
+          within_limits = keep_limits ps m.tapes l k;
+          divides = f.divides;
+        };
+      }

@@ -1,35 +1,25 @@
 -- The search of a plan, as it is answered.
 use Prim.Native.Nat.{ℕ, ◌+◌, ◌/◌, ◌≤◌}
 use mathlib.Core.Path.{◌≡◌, sym, ap, ◌∙◌, subst}
-use mathlib.Core.Bool.{true}
 use mathlib.Core.List.{List, [], ◌∷◌, ◌++◌, map}
 use native.Mathlib.Omega.{arith}
 use lib.ListN.{length, get_or, drop}
 use Rattle.automata.specs.Lists.{All}
-use Rattle.automata.specs.TapePair.{TapePair, limits_fit}
 use Rattle.automata.specs.Config.{Config}
-use Rattle.automata.specs.Memory.{Sound}
 use Rattle.automata.proofs.SoundFacts.{sound_holds}
 use Rattle.automata.specs.Layout.{arc_size, config_size, state_size}
 use Rattle.table.specs.Region.{part, rows}
-use Rattle.table.specs.declared.answer.Judged.TheVariants.{Fine}
-use Rattle.table.specs.declared.answer.Counts.{Counts}
-use Rattle.table.specs.declared.pair.PairList.{PairList}
 use Rattle.table.specs.Answers.{lent}
-use Rattle.table.specs.Pairs.{Named, pairs_as}
 use Rattle.table.proofs.RegionFacts.{part-add}
 use Rattle.search_chains.specs.Chain.{fronts}
 use Rattle.intersect_config.specs.Configs.{config_bytes, row_size}
 use Rattle.intersect_trim.specs.Rows.{RowOf, RowsOf}
-use Rattle.intersect_room.specs.declared.room.Room.{Room}
 use Rattle.intersect_room.specs.Room.{Divides}
 use Rattle.intersect_offers.specs.declared.plan.Plan.{Plan}
 use Rattle.intersect_offers.specs.Held.{config_of, row_of, Stored}
 use Rattle.intersect_offers.specs.Plans.{Explorable, table_in, pairs_in, viable_in}
 use Rattle.intersect_head.specs.declared.head.Head.{Head}
 use Rattle.intersect_search.specs.Exploring.{reached_in, Explored}
-use Rattle.intersect.specs.declared.prepare.Prepared.{Prepared}
-use Rattle.intersect.specs.Prepared.{Prepares}
 use Rattle.intersect_result.specs.Searched.{Searched, Answerable}
 use Rattle.intersect.proofs.ConfigRows.{row_of_lem}
 
@@ -77,26 +67,3 @@ module _ (p : Plan) (states arcs : List ℕ) (size : ℕ) (x : Explorable p stat
     test = viable_in p states arcs;
     searched = searched;
   }
-
--- a table, pairs of its tapes with limits in range and the parts of the work space are what the search asks for
-pub searchable : (c : Counts) (states arcs : List ℕ) (pairs : PairList) (room : Room) (for_states for_arcs work : ℕ)
-    → Sound (lent c states arcs) → Named c.tapes pairs → length pairs.pairs ≡ 4 → limits_fit (pairs_as pairs) ≡ true → Divides for_states for_arcs c.states work room
-    → Explorable (record { counts = c; pairs = pairs; room = room }) states arcs work
-searchable c states arcs pairs room for_states for_arcs work s n f l d = record {
-  sound = s;
-  named = n;
-  four_pairs = f;
-  within_limits = l;
-  configs_fit = d.configs_fit;
-  edges_fit = d.edges_fit;
-  delays_fit = d.delays_fit;
-  few_states = omega (arith, d.state_cap_is);
-  few_arcs = omega (arith, d.arc_cap_is);
-}
-
--- what was judged before the search
-pub explorable : (c : Counts) (states arcs : List ℕ) (ps : List TapePair) (for_states for_arcs work : ℕ) (r : Prepared)
-    → Prepares (lent c states arcs) ps for_states for_arcs work r → r.judged ≡ Fine
-    → Explorable (record { counts = c; pairs = r.pairs; room = r.room }) states arcs work
-explorable c states arcs ps for_states for_arcs work r p e =
-    searchable c states arcs r.pairs r.room for_states for_arcs work (p.sound e) (p.named e) (p.four e) (ap limits_fit (p.pairs_are e) ∙ p.within_limits e) (p.divides e)

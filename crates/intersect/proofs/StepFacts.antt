@@ -1,6 +1,6 @@
 -- The auto-intersection as a step: what it asks for is what the search asks for, and the answer of the search is the
 -- step's.
-use Prim.Native.Nat.{ℕ, ◌/◌}
+use Prim.Native.Nat.{ℕ}
 use mathlib.Core.Path.{◌≡◌, sym, ap, ◌∙◌}
 use mathlib.Core.List.{List}
 use Rattle.automata.specs.Answer.{◌>>=◌, Answer}
@@ -13,22 +13,7 @@ use Rattle.automata.specs.IntersectCall.{intersect_on}
 use Rattle.automata.specs.Calls.Outcome.{Slices, TableCounts, space_of, put, made_of}
 use Rattle.automata.specs.Calls.JoinSteps.{intersect_step}
 use Rattle.automata.proofs.SoundFacts.{sound_decoded}
-use Rattle.automata.specs.Layout.{arc_size, state_size}
-use Rattle.table.specs.Answers.{lent}
-use Rattle.intersect_room.specs.Room.{Divides}
-use Rattle.intersect_offers.specs.declared.plan.Plan.{Plan}
-use Rattle.intersect_offers.specs.Plans.{Explorable}
 use Rattle.intersect_result.specs.Searched.{table_by}
-use Rattle.intersect.specs.Step.{Intersectable}
-use Rattle.intersect.proofs.SearchFacts.{searchable}
-
--- what the search asks for
-pub step_ready : (p : Plan) (states arcs : List ℕ) (for_states for_arcs work : ℕ) → Intersectable (lent p.counts states arcs) p.pairs p.room for_states for_arcs work
-    → Explorable p states arcs work × Divides (for_states / state_size) (for_arcs / arc_size) p.counts.states work p.room
-step_ready p states arcs for_states for_arcs work x = (
-  searchable p.counts states arcs p.pairs p.room (for_states / state_size) (for_arcs / arc_size) work x.sound x.named x.four x.within_limits x.divides,
-  x.divides,
-)
 
 -- the answer of the search is the step's
 pub step-answered : (m : Memory) → Sound m → (ps : List TapePair) (s : Slices) (a : Answer TableCounts) (states arc_bytes : List ℕ)

@@ -1,43 +1,31 @@
 // What is judged before any configuration is reached: the table, the pairs with their limits, the work space.
-ghost use Rattle.table.specs.Answers.{lent};
 ghost use Rattle.intersect.specs.Prepared.{PreparesFor};
 
-use intersect_room::room::{Room, room_for};
-use pairs::{PairsJudged, in_turn};
-use table::answer::{Counts, Judged};
+use intersect_offers::plan::Plan;
+use intersect_room::room::room_for;
+use table::answer::Refusal;
 use table::judge::judge;
+use table::lent::Table;
 use table::pair::PairList;
 
-// The first refusal, and where there is none the pairs by value and the parts of the work space.
-#[derive(Clone, Copy)]
-pub struct Prepared {
-    pub judged: Judged,
-    pub pairs: PairList,
-    pub room: Room,
-}
-
 // The table, the pairs that were judged and the work space of so many bytes for a result of so many states and arcs, in
-// this order.
+// this order: the first refusal, and where there is none what the search reads.
 pub fn prepare(
-    counts: Counts,
-    states: &[u8],
-    arcs: &[u8],
-    listed: PairsJudged,
+    table: &Table,
+    listed: Result<PairList, Refusal>,
     lent_states: usize,
     lent_arcs: usize,
     work: usize,
-) -> Prepared
-    ensures { PreparesFor (lent counts states.now arcs.now) listed lent_states
+) -> Result<Plan, Refusal>
+    ensures { PreparesFor table.now.counts table.now.states.now table.now.arcs.now listed lent_states
         lent_arcs work result }
 {
-    let table = judge(counts, states, arcs);
-    let answer = room_for(lent_states, lent_arcs, counts.states, work);
-    let fit = listed.judged;
-    let list = listed.pairs;
-    let room = answer.room;
-    Prepared {
-        judged: in_turn(table, fit, answer.enough),
-        pairs: list,
+    judge(table)?;
+    let pairs = listed?;
+    let room = room_for(lent_states, lent_arcs, table.counts.states, work).ok_or(Refusal::Space)?;
+    Ok(Plan {
+        counts: table.counts,
+        pairs,
         room,
-    }
+    })
 }

@@ -13,7 +13,7 @@ ghost use Rattle.intersect.specs.Step.{Intersectable};
 use intersect_offers::plan::Plan;
 use intersect_result::finish::answer_search;
 use intersect_search::explore::explore;
-use table::answer::TableAnswer;
+use table::answer::{Counts, Refusal};
 
 // The search over the configurations of a plan, and the answer by it.
 pub fn reach(
@@ -23,7 +23,7 @@ pub fn reach(
     out_states: &mut [u8],
     out_arcs: &mut [u8],
     work: &mut [u8],
-) -> TableAnswer
+) -> Result<Counts, Refusal>
     requires { Explorable plan states.now arcs.now (length work.old)
         × Divides (length out_states.old / state_size) (length out_arcs.old / arc_size) plan.counts.states
         (length work.old) plan.room }
@@ -46,7 +46,7 @@ pub fn intersect_step(
     out_states: &mut [u8],
     out_arcs: &mut [u8],
     work: &mut [u8],
-) -> TableAnswer
+) -> Result<Counts, Refusal>
     requires { Intersectable (lent plan.counts states.now arcs.now) plan.pairs plan.room
         (length out_states.old) (length out_arcs.old) (length work.old) }
     ensures { made_of (table_as result) out_states.new out_arcs.new

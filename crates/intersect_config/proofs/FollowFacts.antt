@@ -1,7 +1,7 @@
 -- The loop over the pairs in the step by an arc, whose results are written in a row.
 use Prim.Native.Nat.{ℕ, ◌+◌, ◌≤◌, ◌<◌}
 use mathlib.Core.Path.{◌≡◌, refl, sym, ap, ◌∙◌, subst}
-use mathlib.Core.Bool.{Bool, true, false, not}
+use mathlib.Core.Bool.{Bool, true, false}
 use mathlib.Core.List.{List, [], ◌∷◌}
 use native.Mathlib.Omega.{arith}
 use lib.ListN.{length, get_or}
@@ -11,12 +11,12 @@ use Rattle.table.specs.Arcs.{target_at}
 use Rattle.table.specs.Pairs.{no_pair}
 use Rattle.table.specs.declared.record.InputState.{InputState}
 use Rattle.table.specs.declared.pair.PairList.{PairList}
-use Rattle.intersect_config.specs.declared.leftover.Advanced.{Advanced}
-use Rattle.intersect_config.specs.Leftovers.{blank, outside, leftover_at, Advances}
+use Rattle.intersect_config.specs.declared.leftover.Leftover.{Leftover}
+use Rattle.intersect_config.specs.Leftovers.{blank, leftover_at, Good}
 use Rattle.intersect_config.specs.Configs.{Config, config_at, slot, Row, Starts, row_size}
 use Rattle.intersect_config.specs.Steps.{pair_after, Followable, Follows, FollowsIn, Advanceable, AdvancesAt}
 use Rattle.intersect_config.proofs.TestFacts.{starts-blank}
-use Rattle.intersect_config.proofs.StepFacts.{not_true, not_false, Progress, progress_start, progress-next, follows_none, follows_some}
+use Rattle.intersect_config.proofs.StepFacts.{Progress, progress_start, progress-next, follows_none, follows_some}
 use Rattle.intersect_config.proofs.RowFacts.{leftover_in_slot, four_in, length_row, state-written, slot-written, cut, cut-next, cut_end}
 
 -- the row holds what the first i pairs came to
@@ -53,33 +53,30 @@ module _ (own arcs : List ℕ) (at : ℕ) (ps : PairList) (f : Followable (confi
       second_fits = f.second_fits i h;
     }
 
-    module _ (b : Bool) (v : List ℕ) (t : AdvancesAt (pair_after at arcs (get_or ps.pairs i no_pair) (leftover_at (slot i) own)) (slot i) row b v) where
-      -- the answer by value
-      abbrev answer : Advanced
-      answer = record { compatible = b; leftover = t.leftover }
+    -- what the answer and the row are after the next pair
+    abbrev After : Bool → List ℕ → Type 0
+    After = AdvancesAt (pair_after at arcs (get_or ps.pairs i no_pair) (leftover_at (slot i) own)) (slot i) row
 
-      advances : Advances (pair_after at arcs (get_or ps.pairs i no_pair) (get_or (config_at 0 own).leftovers i outside)) answer
-      advances = rw (leftover_in_slot i own few) t.advances
+    -- a pair that is not compatible
+    pub follows_not : (v : List ℕ) → After false v → FollowsIn own arcs at ps false v
+    follows_not v a =
+        let w : Row ps.used v = subst (Row ps.used) (sym a.1) r.row_is in
+        record {
+          step = follows_none arcs at (config_at 0 own) ps f (cut i (config_at 0 row)) i r.progress h (rw (leftover_in_slot i own few) a.0) (config_at 0 v) w.good;
+          bytes = w.bytes;
+        }
 
-      -- a pair that is not compatible
-      pub follows_not : not b ≡ true → FollowsIn own arcs at ps false v
-      follows_not e =
-          let z : v ≡ row = t.stays (not_true b e) in
-          let w : Row ps.used v = subst (Row ps.used) (sym z) r.row_is in
-          record {
-            step = follows_none arcs at (config_at 0 own) ps f (cut i (config_at 0 row)) i r.progress h answer advances e (config_at 0 v) w.good;
-            bytes = w.bytes;
-          }
-
-      -- a pair that is
-      pub filling_next : not b ≡ false → Filling own arcs at ps v (i + 1)
-      filling_next e =
-          let w = slot-written ps.used i row v t.leftover h f.named.used_fit t.advances.good r.row_is (t.stored (not_false b e)) in
-          record {
-            row_is = w.0;
-            progress = progress-next arcs at (config_at 0 own) ps f (cut i (config_at 0 row)) i r.progress h answer advances e (cut (i + 1) (config_at 0 v))
-                (ap (cut (i + 1)) w.1 ∙ cut-next i (config_at 0 row) t.leftover few (four_in row));
-          }
+    -- a pair that is
+    pub filling_next : (v : List ℕ) → After true v → Filling own arcs at ps v (i + 1)
+    filling_next v a =
+        let l : Leftover = a.0 in
+        let g : Good l = a.1.0.1 in
+        let w = slot-written ps.used i row v l h f.named.used_fit g r.row_is a.1.1 in
+        record {
+          row_is = w.0;
+          progress = progress-next arcs at (config_at 0 own) ps f (cut i (config_at 0 row)) i r.progress h l (rw (leftover_in_slot i own few) a.1.0.0) g
+              (cut (i + 1) (config_at 0 v)) (ap (cut (i + 1)) w.1 ∙ cut-next i (config_at 0 row) l few (four_in row));
+        }
 
   -- all pairs
   pub follows_all : (row : List ℕ) (i : ℕ) → Filling own arcs at ps row i → ps.used ≤ i → FollowsIn own arcs at ps true row

@@ -1,23 +1,18 @@
 -- Records of configurations that are read and written in place.
 use Prim.Native.Nat.{ℕ, zero, suc, ◌+◌, ◌-◌, ◌*◌, ◌≤◌, ◌<◌}
 use mathlib.Core.Path.{◌≡◌, refl, sym, ap, ap₂, ◌∙◌, subst}
-use mathlib.Core.Bool.{Bool, true, false}
 use mathlib.Core.List.{List, [], ◌∷◌, ◌++◌, append_assoc, append-nil}
 use native.Mathlib.Omega.{arith}
 use lib.ListN.{length, get_or, set, take, drop, replicate, length-set, length-append, take-append-drop}
 use lib.Seq.{take_at, drop_at, drop-drop, drop-set-lt, get_or-set_same, get_or-set_other}
 use Rattle.automata.specs.Lists.{All}
-use Rattle.automata.specs.Leftover as automata
-use mathlib.Core.Option.{Option}
 use Rattle.table.specs.Region.{splice}
 use Rattle.table.specs.Endian.{to_le}
 use Rattle.table.proofs.EndianFacts.{length_to_le}
 use Rattle.table.specs.declared.record.InputState.{InputState}
 use Rattle.intersect_config.specs.declared.leftover.Leftover.{Leftover}
-use Rattle.intersect_config.specs.declared.leftover.Advanced.{Advanced}
-use Rattle.intersect_config.specs.Leftovers.{blank, outside, Good, leftover_bytes, leftover_at, Advances, leftover_size}
+use Rattle.intersect_config.specs.Leftovers.{blank, outside, Good, leftover_bytes, leftover_at, leftover_size}
 use Rattle.intersect_config.specs.Configs.{Config, GoodConfig, config_bytes, config_at, slot, Row, Starts, row_size}
-use Rattle.intersect_config.specs.Steps.{AdvancesAt}
 use Rattle.intersect_config.proofs.ListFacts.{four_elements, All_set}
 use Rattle.intersect_config.proofs.TestFacts.{good_at, starts-blank}
 use Rattle.intersect_config.proofs.RoundFacts.{leftover_length, length_config, config_back}
@@ -171,24 +166,6 @@ start-written q row h e =
     let f : config_bytes (record { state = z; leftovers = blank ∷ blank ∷ blank ∷ blank ∷ [] }) ≡ replicate row_size 0 = zero_bytes in
     let w = row_of_lem 4 d row (t.good 4) (e ∙ ap (splice 0 (to_le 2 q.0)) (sym f) ∙ state-bytes 4 (record { state = z; leftovers = blank ∷ blank ∷ blank ∷ blank ∷ [] }) (y.good 4) q) in
     (subst (Starts q.0) (sym w.1) t, w.0.bytes)
-
--- ---- a pair that is advanced
-
-pub advanced_not : (o : Option automata.Leftover) (at : ℕ) (v : List ℕ) (a : Advanced) → Advances o a → a.compatible ≡ false → AdvancesAt o at v false v
-advanced_not o at v a t e = record {
-  leftover = a.leftover;
-  advances = subst (λ (b : Bool). Advances o (record { compatible = b; leftover = a.leftover })) e t;
-  stays = λ h. refl;
-  stored = λ h. absurd (let z : ◌≡◌ {A = ℕ} 0 1 = cc in omega arith);
-}
-
-pub advanced_to : (o : Option automata.Leftover) (at : ℕ) (v w : List ℕ) (a : Advanced) → Advances o a → a.compatible ≡ true → w ≡ splice at (leftover_bytes a.leftover) v → AdvancesAt o at v true w
-advanced_to o at v w a t e f = record {
-  leftover = a.leftover;
-  advances = subst (λ (b : Bool). Advances o (record { compatible = b; leftover = a.leftover })) e t;
-  stays = λ h. absurd (let z : ◌≡◌ {A = ℕ} 0 1 = cc in omega arith);
-  stored = λ h. f;
-}
 
 -- ---- the pairs one after the other
 

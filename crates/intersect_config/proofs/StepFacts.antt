@@ -1,7 +1,7 @@
 -- Facts of the step by an arc: pair after pair, from the labels in the arc's record.
 use Prim.Native.Nat.{ℕ, zero, suc, ◌+◌, ◌-◌, ◌≤◌, ◌<◌}
 use mathlib.Core.Path.{◌≡◌, refl, sym, ap, ap₂, subst₂, ◌∙◌}
-use mathlib.Core.Bool.{Bool, true, false, not, not-not}
+use mathlib.Core.Bool.{true, false}
 use mathlib.Core.Option
 use mathlib.Core.Option.{Option, none, some}
 use mathlib.Core.List.{List, [], ◌∷◌, ◌++◌, map, append_assoc, append-nil}
@@ -23,8 +23,7 @@ use Rattle.table.specs.declared.pair.Pair.{Pair}
 use Rattle.table.specs.declared.pair.PairList.{PairList}
 use Rattle.table.specs.declared.record.Label.{Label}
 use Rattle.intersect_config.specs.declared.leftover.Leftover.{Leftover}
-use Rattle.intersect_config.specs.declared.leftover.Advanced.{Advanced}
-use Rattle.intersect_config.specs.Leftovers.{leftover_as, label_of, blank, outside, Good, advanced_as, Advances}
+use Rattle.intersect_config.specs.Leftovers.{Advanced, leftover_as, label_of, blank, outside, Good, Advances}
 use Rattle.intersect_config.specs.Configs.{Config, GoodConfig, Starts}
 use Rattle.intersect_config.specs.Steps.{label_at, read_to, read_label, pair_after, Reads, Followable, Follows}
 use Rattle.intersect_config.proofs.ListFacts.{drop_replicate, All_set}
@@ -133,12 +132,6 @@ ended : (at : ℕ) (arcs : List ℕ) (xs : List automata.Leftover) (ps : List Pa
 unfolding all_after
 ended at arcs xs ps ls e f = rw (e, f) (ap some (append-nil xs))
 
-pub not_true : (b : Bool) → not b ≡ true → b ≡ false
-not_true b e = sym (not-not b) ∙ ap not e
-
-pub not_false : (b : Bool) → not b ≡ false → b ≡ true
-not_false b e = sym (not-not b) ∙ ap not e
-
 -- ---- the loop over the pairs
 
 -- what is left of the pairs from the i-th on
@@ -169,11 +162,13 @@ module _ (arcs : List ℕ) (at : ℕ) (c : Config) (ps : PairList) (f : Followab
   pub progress_start : (q : ℕ) (next : Config) → q ≡ target_at at arcs → Starts q next → Progress arcs at c ps next 0
   progress_start q next e s = record { within = omega arith; good = s.good 0; target = ap (λ d. d.state) (s.meaning [] (omega arith)) ∙ e; rest = before_nil _ }
 
-  module _ (next : Config) (i : ℕ) (r : Progress arcs at c ps next i) (h : i < ps.used) (b : Advanced)
-      (t : Advances (pair_after at arcs (get_or ps.pairs i no_pair) (get_or c.leftovers i outside)) b) where
-    -- the next pair in front of the others
-    next-pair : still arcs at c ps i
-        ≡ cons_both (advanced_as b) (still arcs at c ps (i + 1))
+  module _ (next : Config) (i : ℕ) (r : Progress arcs at c ps next i) (h : i < ps.used) where
+    -- what is left of the next pair
+    abbrev pub next_left : Option automata.Leftover
+    next_left = pair_after at arcs (get_or ps.pairs i no_pair) (get_or c.leftovers i outside)
+
+    -- it stands in front of the others
+    next-pair : still arcs at c ps i ≡ cons_both next_left (still arcs at c ps (i + 1))
     unfolding all_after
     next-pair =
         let m : i < length (take ps.used ps.pairs) = omega (arith, length_front 8 ps f.named) in
@@ -183,38 +178,36 @@ module _ (arcs : List ℕ) (at : ℕ) (c : Config) (ps : PairList) (f : Followab
         let q : drop i (take ps.used c.leftovers) ≡ get_or c.leftovers i outside ∷ drop (i + 1) (take ps.used c.leftovers) =
         drop-cons (take ps.used c.leftovers) i outside n ∙ rw (get_or-take, add-one i) in
         ap₂ (all_after at arcs) p q
-        ∙ ap (λ (o : Option automata.Leftover). cons_both o (still arcs at c ps (i + 1))) (sym t.meaning)
 
     -- a pair that is not compatible
-    stopped : b.compatible ≡ false → all_after at arcs (take ps.used ps.pairs) (take ps.used c.leftovers) ≡ none
-    stopped e =
-        let z : advanced_as b ≡ none = rw e in
+    stopped : next_left ≡ none → all_after at arcs (take ps.used ps.pairs) (take ps.used c.leftovers) ≡ none
+    stopped z =
         let k : still arcs at c ps i ≡ none = next-pair ∙ ap (λ (o : Option automata.Leftover). cons_both o (still arcs at c ps (i + 1))) z in
         sym r.rest ∙ ap (before (map leftover_as (take i next.leftovers))) k
 
     -- a pair that is
-    pub progress-next : not b.compatible ≡ false → (d : Config) → d ≡ record { state = next.state; leftovers = set next.leftovers i b.leftover } → Progress arcs at c ps d (i + 1)
-    progress-next e d k = rw k (record {
+    pub progress-next : (l : Leftover) → next_left ≡ some (leftover_as l) → Good l → (d : Config) → d ≡ record { state = next.state; leftovers = set next.leftovers i l }
+        → Progress arcs at c ps d (i + 1)
+    progress-next l z g d k = rw k (record {
       within = omega arith;
-      good = good_next next i b.leftover (omega (arith, f.named.used_fit)) r.good t.good;
+      good = good_next next i l (omega (arith, f.named.used_fit)) r.good g;
       target = r.target;
       rest =
-          let z : advanced_as b ≡ some (leftover_as b.leftover) = rw (not_false b.compatible e) in
           let n : i < length next.leftovers = omega (arith, r.good.four, f.named.used_fit) in
-          let q : map leftover_as (take (i + 1) (set next.leftovers i b.leftover)) ≡ map leftover_as (take i next.leftovers) ++ (leftover_as b.leftover ∷ []) =
-          ap (map leftover_as) (ap (λ (j : ℕ). take j (set next.leftovers i b.leftover)) (add-one i) ∙ take-suc-set next.leftovers i b.leftover n)
-          ∙ map_append leftover_as (take i next.leftovers) (b.leftover ∷ []) in
+          let q : map leftover_as (take (i + 1) (set next.leftovers i l)) ≡ map leftover_as (take i next.leftovers) ++ (leftover_as l ∷ []) =
+          ap (map leftover_as) (ap (λ (j : ℕ). take j (set next.leftovers i l)) (add-one i) ∙ take-suc-set next.leftovers i l n)
+          ∙ map_append leftover_as (take i next.leftovers) (l ∷ []) in
           ap (λ (xs : List automata.Leftover). before xs (still arcs at c ps (i + 1))) q
-          ∙ sym (before_cons (map leftover_as (take i next.leftovers)) (leftover_as b.leftover) (still arcs at c ps (i + 1)))
+          ∙ sym (before_cons (map leftover_as (take i next.leftovers)) (leftover_as l) (still arcs at c ps (i + 1)))
           ∙ ap (before (map leftover_as (take i next.leftovers))) (ap (λ (o : Option automata.Leftover). cons_both o (still arcs at c ps (i + 1))) (sym z) ∙ sym next-pair)
           ∙ r.rest;
     })
 
-    pub follows_none : not b.compatible ≡ true → (d : Config) → GoodConfig ps.used d → Follows c arcs at ps (record { compatible = false; config = d })
+    pub follows_none : next_left ≡ none → (d : Config) → GoodConfig ps.used d → Follows c arcs at ps (record { compatible = false; config = d })
     follows_none e d s = record {
       meaning = λ tapes a n w.
           sym (ap (Option.map (λ ls. record { state = a.target; leftovers = ls }))
-          (all_after_lem at arcs tapes a w (take ps.used ps.pairs) (take ps.used c.leftovers) (named-all tapes ps n) ∙ stopped (not_true b.compatible e)));
+          (all_after_lem at arcs tapes a w (take ps.used ps.pairs) (take ps.used c.leftovers) (named-all tapes ps n) ∙ stopped e));
       good = s;
     }
 

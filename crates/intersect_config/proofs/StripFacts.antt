@@ -1,5 +1,5 @@
 -- Facts of `agrees` and `strip`, and of what an arc leaves of two tapes.
-use Prim.Native.Nat.{ℕ, ◌+◌, ◌-◌, ◌≤◌, ◌<◌}
+use Prim.Native.Nat.{ℕ, ◌+◌, ◌-◌, ◌≤◌, ◌<◌, min}
 use mathlib.Core.Path.{◌≡◌, refl, sym, ap, ap₂, ◌∙◌}
 use mathlib.Core.Bool.{Bool, true, false, not, false≢true}
 use mathlib.Core.Option.{none, some, map}
@@ -8,7 +8,7 @@ use native.Mathlib.Omega.{arith}
 use native.Mathlib.Numerals.{add-one}
 use native.Mathlib.Nat.{zero-add}
 use lib.Dec.{eqb}
-use lib.ListN.{length, get_or, take, drop, replicate, drop_of_length-le, length-drop, length-append, length-replicate, length-take}
+use lib.ListN.{length, get_or, take, drop, replicate, length-drop, length-append, length-replicate, length-take}
 use lib.Seq.{drop-cons, take_all, take_at, drop_at}
 use borrow.Author.Tests.{eq-eqb, ne_eqb, eqb-true, eqb-false}
 use Rattle.automata.specs.Lists.{if}
@@ -18,8 +18,8 @@ use Rattle.table.specs.Region.{splice}
 use Rattle.table.proofs.RegionFacts.{take_splice_in}
 use Rattle.table.specs.declared.record.Label.{Label}
 use Rattle.intersect_config.specs.declared.leftover.Leftover.{Leftover}
-use Rattle.intersect_config.specs.declared.leftover.Advanced.{Advanced}
-use Rattle.intersect_config.specs.Leftovers.{sided, leftover_as, label_of, blank, Good, packed, leftover_of, advanced_of, exchanged, turned, agrees, Advances, leftover_room}
+use Rattle.std.specs.Prelude.{Some, None}
+use Rattle.intersect_config.specs.Leftovers.{Advanced, sided, leftover_as, label_of, blank, Good, packed, leftover_of, advanced_of, exchanged, turned, agrees, Advances, leftover_room}
 use Rattle.intersect_config.proofs.ListFacts.{drop_replicate}
 
 -- ---- one step of the comparison
@@ -32,17 +32,15 @@ module _ (i : ℕ) (u v : List ℕ) (h : i < length u) (k : i < length v) where
   unfolding agrees
   agrees_differ e = ap₂ agrees (drop-cons u i 0 h) (drop-cons v i 0 k) ∙ rw (ne_eqb _ _ e)
 
-agrees_nil : (u : List ℕ) → agrees u [] ≡ true
+-- where one of them ends, they agree
+agrees_short : (u v : List ℕ) → min (length u) (length v) ≡ 0 → agrees u v ≡ true
 unfolding agrees
-agrees_nil [] = refl
-agrees_nil (x ∷ u) = refl
+agrees_short [] v h = refl
+agrees_short (x ∷ u) [] h = refl
+agrees_short (x ∷ u) (y ∷ v) h = absurd (omega arith)
 
-pub agrees_end_left : (i : ℕ) (u v : List ℕ) → length u ≤ i → agrees (drop i u) (drop i v) ≡ true
-unfolding agrees
-agrees_end_left i u v h = ap (λ (l : List ℕ). agrees l (drop i v)) (drop_of_length-le u h)
-
-pub agrees_end_right : (i : ℕ) (u v : List ℕ) → length v ≤ i → agrees (drop i u) (drop i v) ≡ true
-agrees_end_right i u v h = ap (agrees (drop i u)) (drop_of_length-le v h) ∙ agrees_nil (drop i u)
+pub agrees_end : (i : ℕ) (u v : List ℕ) → min (length u) (length v) ≤ i → agrees (drop i u) (drop i v) ≡ true
+agrees_end i u v h = agrees_short (drop i u) (drop i v) (simp length-drop (omega arith))
 
 -- ---- what is left, by whether one starts with the other
 strip-first : (u v : List ℕ) → agrees u v ≡ true → length v ≤ length u → automata.strip u v ≡ some (sided false (drop (length v) u))
@@ -130,35 +128,35 @@ packed_as false [] = refl
 packed_as b (x ∷ r) = ap (sided b) (take_at (x ∷ r) (replicate (leftover_room - length (x ∷ r)) 0) (length (x ∷ r)) refl)
 
 -- ---- what is left of two tapes, by which string is the longer one
-kept_first : (t : Bool) (r : List ℕ) → advanced_of (turned t (some (sided false r))) ≡ record { compatible = true; leftover = packed t r }
+kept_first : (t : Bool) (r : List ℕ) → advanced_of (turned t (some (sided false r))) ≡ Some (packed t r)
 unfolding advanced_of turned leftover_of packed
 kept_first true r = refl
 kept_first false [] = refl
 kept_first false (x ∷ r) = refl
 
-kept_second : (t : Bool) (r : List ℕ) → advanced_of (turned t (some (sided true r))) ≡ record { compatible = true; leftover = packed (not t) r }
+kept_second : (t : Bool) (r : List ℕ) → advanced_of (turned t (some (sided true r))) ≡ Some (packed (not t) r)
 unfolding advanced_of turned leftover_of packed
 kept_second false r = refl
 kept_second true [] = refl
 kept_second true (x ∷ r) = refl
 
-none-turned : (t : Bool) → advanced_of (turned t none) ≡ record { compatible = false; leftover = blank }
+none-turned : (t : Bool) → advanced_of (turned t none) ≡ None
 unfolding advanced_of turned
 none-turned true = refl
 none-turned false = refl
 
 module _ (t : Bool) (u v : List ℕ) where
-  pub stripped_none : (l : Leftover) → agrees u v ≡ false → l ≡ blank → record { compatible = false; leftover = l } ≡ advanced_of (turned t (automata.strip u v))
-  stripped_none l e f = rw (f, strip-none u v e, none-turned t)
+  pub stripped_none : agrees u v ≡ false → None ≡ advanced_of (turned t (automata.strip u v))
+  stripped_none e = rw (strip-none u v e, none-turned t)
 
   pub stripped_first : (l : Leftover) → agrees u v ≡ true → length v < length u → l ≡ packed t (take (length u - length v) (drop (length v) u))
-      → record { compatible = true; leftover = l } ≡ advanced_of (turned t (automata.strip u v))
+      → Some l ≡ advanced_of (turned t (automata.strip u v))
   stripped_first l e h k =
       let a : take (length u - length v) (drop (length v) u) ≡ drop (length v) u = take_all (length u - length v) (drop (length v) u) (simp length-drop (omega arith)) in
       rw (k, a, strip-first u v e (omega arith), kept_first t (drop (length v) u))
 
   pub stripped_second : (l : Leftover) → agrees u v ≡ true → length u ≤ length v → l ≡ packed (not t) (take (length v - length u) (drop (length u) v))
-      → record { compatible = true; leftover = l } ≡ advanced_of (turned t (automata.strip u v))
+      → Some l ≡ advanced_of (turned t (automata.strip u v))
   stripped_second l e h k =
       let a : take (length v - length u) (drop (length u) v) ≡ drop (length u) v = take_all (length v - length u) (drop (length u) v) (simp length-drop (omega arith)) in
       rw (k, a, strip_second u v e h, kept_second t (drop (length u) v))
@@ -170,13 +168,13 @@ joined_is n k xs ys b hn hk lx ly f = ap (take (n + k)) f ∙ take_splice_in n k
 -- ---- the answer for what is left
 pub strip_advances : (u v : List ℕ) → length u ≤ leftover_room → length v ≤ leftover_room → Advances (automata.strip u v) (advanced_of (automata.strip u v))
 unfolding advanced_of leftover_of
-strip_advances [] v h k = record { meaning = ap some (packed_as true v); good = packed_good true v k; refused_blank = λ e. absurd (false≢true (sym e)) }
-strip_advances (x ∷ u) [] h k = record { meaning = ap some (packed_as false (x ∷ u)); good = packed_good false (x ∷ u) h; refused_blank = λ e. absurd (false≢true (sym e)) }
+strip_advances [] v h k = (ap some (sym (packed_as true v)), packed_good true v k)
+strip_advances (x ∷ u) [] h k = (ap some (sym (packed_as false (x ∷ u))), packed_good false (x ∷ u) h)
 strip_advances (x ∷ u) (y ∷ v) h k = go (eqb x y) (strip_advances u v (omega arith) (omega arith))
   where
     go : (b : Bool) → Advances (automata.strip u v) (advanced_of (automata.strip u v)) → Advances (if b (automata.strip u v) none) (advanced_of (if b (automata.strip u v) none))
     go true ih = ih
-    go false ih = record { meaning = refl; good = blank_good; refused_blank = λ e. refl }
+    go false ih = refl
 
 module _ (l : Leftover) (x y : Label) (j : List ℕ) (r : Advanced) (hl : l.len ≤ max_delay) (hx : x.len ≤ 8) (hy : y.len ≤ 8) where
   pub advance_second : l.second ≡ true → take (l.len + y.len) j ≡ take l.len l.symbols ++ label_of y

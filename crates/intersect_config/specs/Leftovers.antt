@@ -1,12 +1,13 @@
 -- A leftover by value: what it stands for, when it is in its one form, and its bytes.
 use Rattle.std.specs.Prelude.{◌≡◌, Bool, true, false, List, [], ◌∷◌, ◌++◌, ℕ, ◌+◌, ◌-◌, ◌≤◌, eqb, length, get_or, take, drop, replicate}
 use Rattle.std.proofs.Math.Option.{Option, none, some, map}
-use Rattle.automata.specs.Lists.{if, guard}
+use Rattle.automata.specs.Lists.{if}
 use Rattle.automata.specs.Leftover as automata
 use Rattle.table.specs.Region.{part}
 use Rattle.table.specs.declared.record.Label.{Label}
 use Rattle.intersect_config.specs.declared.leftover.Leftover.{Leftover}
-use Rattle.intersect_config.specs.declared.leftover.Advanced.{Advanced}
+use Rattle.std.specs.Prelude as rust
+use Rattle.std.specs.Prelude.{Some, None}
 
 -- the symbols that there is room for: a leftover of the greatest limit and a label behind it
 abbrev pub leftover_room : ℕ
@@ -78,10 +79,14 @@ packed_two (x ∷ xs) ys = packed false (x ∷ xs)
 unfoldable pub leftover_of : automata.Leftover → Leftover
 leftover_of m = packed_two m.first m.second
 
+-- what an arc leaves of a pair of tapes, if they are still compatible
+abbrev pub Advanced : Type 0
+Advanced = rust.Option Leftover
+
 -- what is left, or that the tapes are not compatible
 unfoldable pub advanced_of : Option automata.Leftover → Advanced
-advanced_of none = record { compatible = false; leftover = blank }
-advanced_of (some m) = record { compatible = true; leftover = leftover_of m }
+advanced_of none = None
+advanced_of (some m) = Some (leftover_of m)
 
 -- the two tapes exchanged
 abbrev pub exchanged : automata.Leftover → automata.Leftover
@@ -99,12 +104,7 @@ agrees (x ∷ xs) (y ∷ ys) = let r = agrees xs ys in if (eqb x y) r false
 
 -- ---- a step
 
--- what an answer stands for
-abbrev pub advanced_as : Advanced → Option automata.Leftover
-advanced_as r = guard r.compatible (some (leftover_as r.leftover))
-
--- the answer stands for o, and its leftover is in its one form; it is blank where the tapes are not compatible
-pub record Advances (o : Option automata.Leftover) (r : Advanced) : Type 0 where
-  pub meaning : advanced_as r ≡ o
-  pub good : Good r.leftover
-  pub refused_blank : r.compatible ≡ false → r.leftover ≡ blank
+-- the answer stands for o, and its leftover is in its one form
+abbrev pub Advances : Option automata.Leftover → Advanced → Type 0
+Advances o None = o ≡ none
+Advances o (Some l) = (o ≡ some (leftover_as l)) × Good l

@@ -1,6 +1,6 @@
 -- The step of a configuration by an arc, read from its record in a table's bytes.
 use Rattle.std.specs.Prelude.{◌≡◌, Bool, true, false, List, [], ◌∷◌, map, ℕ, zero, suc, ◌+◌, ◌-◌, ◌≤◌, ◌<◌, length, get_or, take}
-use Rattle.std.proofs.Math.Option.{Option, some}
+use Rattle.std.proofs.Math.Option.{Option, none, some}
 use Rattle.automata.specs.Lists.{guard}
 use Rattle.automata.specs.Automaton.{Arc, label_on}
 use Rattle.automata.specs.TapePair.{reading}
@@ -15,7 +15,7 @@ use Rattle.table.specs.declared.record.Label.{Label}
 use Rattle.table.specs.declared.pair.Pair.{Pair}
 use Rattle.table.specs.declared.pair.PairList.{PairList}
 use Rattle.intersect_config.specs.declared.leftover.Leftover.{Leftover}
-use Rattle.intersect_config.specs.Leftovers.{outside, leftover_as, label_of, leftover_bytes, leftover_at, Advances}
+use Rattle.intersect_config.specs.Leftovers.{outside, leftover_as, label_of, leftover_bytes, leftover_at, Good}
 use Rattle.intersect_config.specs.Configs.{Config, config_as, GoodConfig, config_at, config_bytes, slot, row_size}
 
 -- the label on a tape, counted from 1, in the record of an arc
@@ -84,11 +84,9 @@ pub record Advanceable (own arcs : List ℕ) (at : ℕ) (p : Pair) (i : ℕ) (ro
   pub second_fits : get_or arcs (label_place at (p.second - 1)) 0 ≤ 8
 
 -- o is what is left of a pair: written at its place where the tapes are compatible, else nothing is
-pub record AdvancesAt (o : Option leftover.Leftover) (at : ℕ) (v : List ℕ) (r : Bool) (w : List ℕ) : Type 0 where
-  pub leftover : Leftover
-  pub advances : Advances o (record { compatible = r; leftover = leftover })
-  pub stays : r ≡ false → w ≡ v
-  pub stored : r ≡ true → w ≡ splice at (leftover_bytes leftover) v
+abbrev pub AdvancesAt : Option leftover.Leftover → ℕ → List ℕ → Bool → List ℕ → Type 0
+AdvancesAt o at v false w = (o ≡ none) × (w ≡ v)
+AdvancesAt o at v true w = (l : Leftover) × (((o ≡ some (leftover_as l)) × Good l) × (w ≡ splice at (leftover_bytes l) v))
 
 -- the row holds the configuration after the arc of the one in own, if the tapes of every pair are still compatible, and
 -- some configuration anyway

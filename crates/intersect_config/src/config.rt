@@ -1,6 +1,6 @@
 // Configurations in their records: the state, and what is left of each of four pairs of tapes; and what is asked of
 // them.
-ghost use Rattle.std.specs.Prelude.{◌≡◌, true, false, ◌+◌, ◌≤◌, length};
+ghost use Rattle.std.specs.Prelude.{◌≡◌, ◌+◌, ◌≤◌, length};
 ghost use Rattle.automata.specs.Lists.{All};
 ghost use Rattle.automata.specs.Config.{too_long};
 ghost use Rattle.table.specs.Region.{part};
@@ -50,13 +50,10 @@ pub fn too_long(row: &[u8], pairs: PairList) -> bool
         × (length row.now ≡ row_size) }
     ensures { result ≡ too_long (pairs_as pairs) (config_as pairs.used (config_at 0 row.now)).leftovers }
 {
-    let mut i = 0;
-    while i < pairs.used {
-        let p = pairs.pairs[i];
-        if p.limit < row[3 + LEFTOVER_SIZE * i] {
+    for i in 0..pairs.used {
+        if pairs.pairs[i].limit < row[3 + LEFTOVER_SIZE * i] {
             return true;
         }
-        i += 1;
     }
     false
 }
@@ -70,30 +67,15 @@ fn length_on(second: bool, row: &[u8], at: usize) -> u8
     if ahead == second { row[at + 1] } else { 0 }
 }
 
-// The lengths of the four leftovers on the second tapes, or on the first.
-fn lengths_on(second: bool, row: &[u8]) -> [u8; 4]
+// The lengths of the four leftovers on the second tape of each pair, or on the first.
+pub fn lengths_on(second: bool, row: &[u8]) -> [u8; 4]
     requires { (length row.now ≡ row_size) × All Good (config_at 0 row.now).leftovers }
     ensures { result ≡ lengths_on second (config_at 0 row.now) }
 {
-    let w = length_on(second, row, FIRST_SLOT);
-    let x = length_on(second, row, SECOND_SLOT);
-    let y = length_on(second, row, THIRD_SLOT);
-    let z = length_on(second, row, FOURTH_SLOT);
-    [w, x, y, z]
-}
-
-// The lengths of the leftovers on the first tape of each pair.
-pub fn first_lengths(row: &[u8]) -> [u8; 4]
-    requires { (length row.now ≡ row_size) × All Good (config_at 0 row.now).leftovers }
-    ensures { result ≡ lengths_on false (config_at 0 row.now) }
-{
-    lengths_on(false, row)
-}
-
-// The lengths of the leftovers on the second tape of each pair.
-pub fn second_lengths(row: &[u8]) -> [u8; 4]
-    requires { (length row.now ≡ row_size) × All Good (config_at 0 row.now).leftovers }
-    ensures { result ≡ lengths_on true (config_at 0 row.now) }
-{
-    lengths_on(true, row)
+    [
+        length_on(second, row, FIRST_SLOT),
+        length_on(second, row, SECOND_SLOT),
+        length_on(second, row, THIRD_SLOT),
+        length_on(second, row, FOURTH_SLOT),
+    ]
 }

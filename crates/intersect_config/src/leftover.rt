@@ -3,7 +3,7 @@ ghost use Rattle.std.specs.Prelude.{◌≡◌, ◌++◌, ◌+◌, ◌≤◌, len
 ghost use Rattle.automata.specs.Leftover as automata;
 ghost use Rattle.automata.specs.Limits.{max_delay};
 ghost use Rattle.table.specs.Region.{splice};
-ghost use Rattle.intersect_config.specs.Leftovers.{blank, flag, leftover_as, label_of, leftover_bytes, leftover_at, packed, advanced_of, turned, agrees, Advances, leftover_room, leftover_size};
+ghost use Rattle.intersect_config.specs.Leftovers.{blank, leftover_as, label_of, leftover_bytes, leftover_at, packed, advanced_of, turned, agrees, Advances, leftover_room, leftover_size};
 
 use table::bytes::copy_into;
 use table::record::Label;
@@ -22,13 +22,6 @@ pub struct Leftover {
     pub symbols: [u8; LEFTOVER_ROOM],
 }
 
-// What an arc leaves of a pair of tapes, if they are still compatible.
-#[derive(Clone, Copy)]
-pub struct Advanced {
-    pub compatible: bool,
-    pub leftover: Leftover,
-}
-
 // The leftover of two tapes that are matched.
 pub fn blank_leftover() -> Leftover
     ensures { result ≡ blank }
@@ -44,15 +37,10 @@ pub fn blank_leftover() -> Leftover
 fn agree(u: &[u8], v: &[u8]) -> bool
     ensures { result ≡ agrees u.now v.now }
 {
-    let mut i = 0;
-    while i < u.len() {
-        if v.len() <= i {
-            return true;
-        }
+    for i in 0..u.len().min(v.len()) {
         if u[i] != v[i] {
             return false;
         }
-        i += 1;
     }
     true
 }
@@ -62,43 +50,31 @@ fn pack(second: bool, r: &[u8]) -> Leftover
     requires { length r.now ≤ leftover_room }
     ensures { result ≡ packed second r.now }
 {
-    let n = r.len();
-    if n == 0 {
+    if r.is_empty() {
         return blank_leftover();
     }
     let mut symbols = [0u8; LEFTOVER_ROOM];
     copy_into(&mut symbols, 0, r);
     Leftover {
         second,
-        len: n as u8,
+        len: r.len() as u8,
         symbols,
     }
 }
 
-// What is left of u on one tape and v on the other; u is on the second one where `turn`.
-fn strip_to(turn: bool, u: &[u8], v: &[u8]) -> Advanced
+// What is left of u on one tape and v on the other, where they are compatible; u is on the second one where `turn`.
+fn strip_to(turn: bool, u: &[u8], v: &[u8]) -> Option<Leftover>
     requires { (length u.now ≤ leftover_room) × (length v.now ≤ leftover_room) }
     ensures { result ≡ advanced_of (turned turn (automata.strip u.now v.now)) }
 {
-    if agree(u, v) {
-        let n = u.len();
-        let m = v.len();
-        let leftover = if m < n {
-            pack(turn, &u[m..])
-        } else {
-            pack(!turn, &v[n..])
-        };
-        Advanced {
-            compatible: true,
-            leftover,
-        }
-    } else {
-        let leftover = blank_leftover();
-        Advanced {
-            compatible: false,
-            leftover,
-        }
+    if !agree(u, v) {
+        return None;
     }
+    Some(if v.len() < u.len() {
+        pack(turn, &u[v.len()..])
+    } else {
+        pack(!turn, &v[u.len()..])
+    })
 }
 
 // The first n of a leftover's symbols with a label's bytes behind them.
@@ -111,25 +87,20 @@ fn join(symbols: [u8; LEFTOVER_ROOM], n: usize, label: [u8; 8], k: usize) -> [u8
     joined
 }
 
-// The leftover after an arc with the label x on the first tape and y on the second.
-pub fn advance(l: Leftover, x: Label, y: Label) -> Advanced
+// The leftover after an arc with the label x on the first tape and y on the second, where they are compatible.
+pub fn advance(l: Leftover, x: Label, y: Label) -> Option<Leftover>
     requires { (l.len ≤ max_delay) × ((x.len ≤ 8) × (y.len ≤ 8)) }
     ensures { Advances (automata.advance (leftover_as l) (label_of x) (label_of y)) result }
 {
     let n = l.len as usize;
     let kx = x.len as usize;
     let ky = y.len as usize;
-    let symbols = l.symbols;
-    let bx = x.symbols;
-    let by = y.symbols;
     if l.second {
-        let joined = join(symbols, n, by, ky);
-        let total = n + ky;
-        strip_to(true, &joined[..total], &bx[..kx])
+        let joined = join(l.symbols, n, y.symbols, ky);
+        strip_to(true, &joined[..n + ky], &x.symbols[..kx])
     } else {
-        let joined = join(symbols, n, bx, kx);
-        let total = n + kx;
-        strip_to(false, &joined[..total], &by[..ky])
+        let joined = join(l.symbols, n, x.symbols, kx);
+        strip_to(false, &joined[..n + kx], &y.symbols[..ky])
     }
 }
 
@@ -139,20 +110,12 @@ pub fn load_leftover(work: &[u8], at: usize) -> Leftover
     ensures { result ≡ leftover_at at work.now }
 {
     let mut symbols = [0u8; LEFTOVER_ROOM];
-    let from = at + 2;
-    copy_into(&mut symbols, 0, &work[from..from + LEFTOVER_ROOM]);
+    copy_into(&mut symbols, 0, &work[at + 2..at + LEFTOVER_SIZE]);
     Leftover {
         second: work[at] == 1,
         len: work[at + 1],
         symbols,
     }
-}
-
-// A side as a byte.
-fn byte_of(b: bool) -> u8
-    ensures { result ≡ flag b }
-{
-    if b { 1 } else { 0 }
 }
 
 // The bytes of a leftover written at `at`.
@@ -161,8 +124,7 @@ pub fn store_leftover(work: &mut [u8], at: usize, l: Leftover)
     ensures { (work.new ≡ splice at (leftover_bytes l) work.old)
         × (length (leftover_bytes l) ≡ leftover_size) }
 {
-    work[at] = byte_of(l.second);
+    work[at] = u8::from(l.second);
     work[at + 1] = l.len;
-    let symbols = l.symbols;
-    copy_into(work, at + 2, &symbols);
+    copy_into(work, at + 2, &l.symbols);
 }

@@ -8,7 +8,7 @@ ghost use Rattle.intersect_config.specs.Steps.{label_at, read_label, pair_after,
 ghost use Rattle.automata.specs.Layout.{arc_size};
 ghost use Rattle.automata.specs.Limits.{max_delay};
 
-use crate::leftover::{Advanced, LEFTOVER_SIZE, Leftover, advance, load_leftover, store_leftover};
+use crate::leftover::{LEFTOVER_SIZE, Leftover, advance, load_leftover, store_leftover};
 use table::arc::{label_length_at, label_place, target_at};
 use table::bytes::{copy_into, put16};
 use table::layout::SYMBOLS_PLACE;
@@ -38,15 +38,12 @@ fn read_label(x: Label) -> Label
     ensures { result ≡ read_label x }
 {
     let mut symbols = x.symbols;
-    let len = x.len as usize;
-    let mut i = 0;
-    while i < len {
+    for i in 0..x.len as usize {
         let written = symbols[i];
         let read = read_symbol(written);
         if read != written {
             symbols[i] = read;
         }
-        i += 1;
     }
     Label {
         len: x.len,
@@ -54,8 +51,8 @@ fn read_label(x: Label) -> Label
     }
 }
 
-// What is left of one pair after the arc.
-fn advance_pair(l: Leftover, arcs: &[u8], at: usize, p: Pair) -> Advanced
+// What is left of one pair after the arc, where its tapes are compatible.
+fn advance_pair(l: Leftover, arcs: &[u8], at: usize, p: Pair) -> Option<Leftover>
     requires { (at + arc_size ≤ length arcs.now)
         × ((Within 8 p) × ((l.len ≤ max_delay)
         × ((get_or arcs.now (label_place at (p.first - 1)) 0 ≤ 8)
@@ -75,11 +72,9 @@ fn advance_slot(own: &[u8], arcs: &[u8], at: usize, p: Pair, i: usize, row: &mut
         row.old result row.new }
 {
     let l = load_leftover(own, 2 + LEFTOVER_SIZE * i);
-    let a = advance_pair(l, arcs, at, p);
-    if !a.compatible {
+    let Some(left) = advance_pair(l, arcs, at, p) else {
         return false;
-    }
-    let left = a.leftover;
+    };
     store_leftover(row, 2 + LEFTOVER_SIZE * i, left);
     true
 }
@@ -91,15 +86,11 @@ pub fn follow(own: &[u8], arcs: &[u8], at: usize, pairs: PairList, row: &mut [u8
         × Row pairs.used row.old }
     ensures { FollowsIn own.now arcs.now at pairs result row.new }
 {
-    let target = target_at(arcs, at).0;
-    put16(row, 0, target);
-    let mut i = 0;
-    while i < pairs.used {
-        let p = pairs.pairs[i];
-        if !advance_slot(own, arcs, at, p, i, row) {
+    put16(row, 0, target_at(arcs, at).0);
+    for i in 0..pairs.used {
+        if !advance_slot(own, arcs, at, pairs.pairs[i], i, row) {
             return false;
         }
-        i += 1;
     }
     true
 }

@@ -35,11 +35,6 @@ edge_stored at e w w1 w2 w3 h a b c =
     splice-behind at (at + 4) (to_le 2 e.from.0 ++ to_le 2 e.arc) (to_le 2 e.to.0) w w2 w3
     (splice-behind at (at + 2) (to_le 2 e.from.0) (to_le 2 e.arc) w w1 w2 a b (omega arith) (omega arith)) c (omega arith) (omega arith)
 
--- an edge, from its numbers
-pub edge_read : (at : ℕ) (w : List ℕ) (s n t : ℕ) → s ≡ le (part at 2 w) → n ≡ le (part (at + 2) 2 w) → t ≡ le (part (at + 4) 2 w)
-    → ◌≡◌ {A = EdgeRecord} (record { from = record { 0 = s }; arc = n; to = record { 0 = t } }) (edge_at at w)
-edge_read at w s n t a b c = λ i. record { from = record { 0 = a i }; arc = b i; to = record { 0 = c i } }
-
 -- the numbers of an edge fit into two bytes each
 pub record Fits (e : EdgeRecord) : Type 0 where
   pub from : e.from.0 < 65536

@@ -7,7 +7,7 @@ use mathlib.Core.List.{List, [], ◌∷◌, ◌++◌, map}
 use native.Mathlib.Omega.{arith}
 use lib.ListN.{length, get_or, take, drop, set, length-map, take-append-drop, get_or-map}
 use lib.Seq.{set-get_or, take-set-lt, drop-set-lt, get_or-take, length-take-le}
-use Rattle.automata.specs.Lists.{if, or, and}
+use Rattle.automata.specs.Lists.{if, or}
 use Rattle.automata.specs.Graph.{Within}
 use Rattle.automata.specs.Rounds.{visit, iterate}
 use Rattle.automata.specs.InPlace.{sweep_in_place, Becomes}
@@ -81,47 +81,37 @@ visit_marks e ms h = record { is = rw h; still = λ t. absurd (false≢true t) }
 -- ---- a round
 
 -- a round that has left edges before it: those behind are done, and nothing changed where same is told
-pub record Sweeping (base arcs : ℕ) (w v ms : List ℕ) (left from : ℕ) (same : Bool) : Type 0 where
-  pub place : from ≡ base + step_size * left
-  pub few : left ≤ arcs
-  pub is : ms ≡ swept_marks (edges_at from (arcs - left) w) v
+pub record Sweeping (base arcs : ℕ) (w v ms : List ℕ) (left : ℕ) (same : Bool) : Type 0 where
+  pub is : ms ≡ swept_marks (edges_at (base + step_size * left) (arcs - left) w) v
   pub still : same ≡ true → ms ≡ v
 
-pub sweep-start : (base arcs : ℕ) (w v : List ℕ) → Sweeping base arcs w v v arcs (base + step_size * arcs) true
+pub sweep-start : (base arcs : ℕ) (w v : List ℕ) → Sweeping base arcs w v v arcs true
 unfolding swept_marks edges_at
-sweep-start base arcs w v = let z : arcs - arcs ≡ 0 = omega arith in record { place = refl; few = omega arith; is = rw z; still = λ h. refl }
+sweep-start base arcs w v = let z : arcs - arcs ≡ 0 = omega arith in record { is = rw z; still = λ h. refl }
 
 swept-more : (at k : ℕ) (w v : List ℕ) → visited_marks (edge_at at w) (swept_marks (edges_at (at + step_size) k w) v) ≡ swept_marks (edges_at at (suc k) w) v
 unfolding swept_marks visited_marks edges_at
 swept-more at k w v = refl
 
-module _ (base arcs : ℕ) (w v ms : List ℕ) (left from : ℕ) (same : Bool) (s : Sweeping base arcs w v ms left from same) where
+module _ (base arcs : ℕ) (w v ms : List ℕ) (left : ℕ) (same : Bool) (s : Sweeping base arcs w v ms left same) where
   -- one edge more
-  pub sweep_turn : (ms2 : List ℕ) (left2 from2 : ℕ) (kept same2 : Bool) (e : EdgeRecord) → left ≡ suc left2 → from2 ≡ from - step_size → e ≡ edge_at from2 w
-      → Becomes (visited_marks e ms) kept ms2 ms → same2 ≡ and same kept → Sweeping base arcs w v ms2 left2 from2 same2
-  sweep_turn ms2 left2 from2 kept same2 e l f g b h =
-      let p = s.place in
-      let m = s.few in
-      let z : arcs - left2 ≡ suc (arcs - left) = omega arith in
-      let y : from2 + step_size ≡ from = omega arith in
+  pub sweep_turn : (ms2 : List ℕ) (kept same2 : Bool) → 0 < left → left ≤ arcs → Becomes (visited_marks (edge_at (base + step_size * (left - 1)) w) ms) kept ms2 ms
+      → (same2 ≡ true → (same ≡ true) × (kept ≡ true)) → Sweeping base arcs w v ms2 (left - 1) same2
+  sweep_turn ms2 kept same2 l m b h =
+      let at = base + step_size * (left - 1) in
+      let z : suc (arcs - left) ≡ arcs - (left - 1) = omega arith in
+      let y : base + step_size * left ≡ at + step_size = omega arith in
       record {
-        place = omega arith;
-        few = omega arith;
-        is = b.is ∙ ap₂ visited_marks g (s.is ∙ ap (λ (k : ℕ). swept_marks (edges_at k (arcs - left) w) v) (sym y)) ∙ swept-more from2 (arcs - left) w v
-            ∙ ap (λ (k : ℕ). swept_marks (edges_at from2 k w) v) (sym z);
-        still = λ t. told same kept (sym h ∙ t) s.still b.still;
+        is = b.is ∙ ap (visited_marks (edge_at at w)) (s.is ∙ ap (λ (k : ℕ). swept_marks (edges_at k (arcs - left) w) v) y) ∙ swept-more at (arcs - left) w v
+            ∙ ap (λ (k : ℕ). swept_marks (edges_at at k w) v) z;
+        still = λ t. b.still (h t).1 ∙ s.still (h t).0;
       }
-    where
-      told : (x y : Bool) → and x y ≡ true → (x ≡ true → ms ≡ v) → (y ≡ true → ms2 ≡ ms) → ms2 ≡ v
-      told true y t f g = g t ∙ f refl
-      told false y t f g = absurd (false≢true t)
 
   -- no edge more
   pub sweep_end : left ≡ 0 → Becomes (swept_marks (edges_at base arcs w) v) same ms v
   sweep_end l =
-      let p = s.place in
       let z : arcs - left ≡ arcs = omega arith in
-      let y : from ≡ base = omega arith in
+      let y : base + step_size * left ≡ base = omega arith in
       record { is = rw (z, y) at s.is; still = s.still }
 
 -- what is behind the marks is not looked at and not changed

@@ -29,12 +29,9 @@ pub fn load_edge(work: &[u8], at: usize) -> EdgeRecord
     requires { at + 6 ≤ length work.now }
     ensures { result ≡ edge_at at work.now }
 {
-    let from = get16(work, at);
-    let arc = get16(work, at + 2);
-    let to = get16(work, at + 4);
     EdgeRecord {
-        from: Reached(from),
-        arc,
-        to: Reached(to),
+        from: Reached(get16(work, at)),
+        arc: get16(work, at + 2),
+        to: Reached(get16(work, at + 4)),
     }
 }

@@ -1,6 +1,5 @@
 // Which configurations lead on to a final one: marks, bytes 0 and 1, in rounds in place over the edges.
 ghost use Rattle.std.specs.Prelude.{◌≡◌, ◌++◌, ◌+◌, ◌*◌, ◌≤◌, length, take, drop};
-ghost use Rattle.automata.specs.Lists.{and};
 ghost use Rattle.automata.specs.InPlace.{Becomes};
 ghost use Rattle.automata.specs.Marks.{coaccessible};
 ghost use Rattle.automata.specs.Layout.{step_size};
@@ -15,23 +14,10 @@ fn mark_source(marks: &mut [u8], e: EdgeRecord) -> bool
     requires { Joins (length marks.old) e }
     ensures { Becomes (visited_marks e marks.old) result marks.new marks.old }
 {
-    if marks[e.to.0 as usize] != 1 {
-        return true;
-    }
-    if marks[e.from.0 as usize] == 1 {
+    if marks[e.to.0 as usize] != 1 || marks[e.from.0 as usize] == 1 {
         return true;
     }
     marks[e.from.0 as usize] = 1;
-    false
-}
-
-// Whether both are so.
-fn both(a: bool, b: bool) -> bool
-    ensures { result ≡ and a b }
-{
-    if a {
-        return b;
-    }
     false
 }
 
@@ -42,15 +28,10 @@ fn round_marks(work: &[u8], base: usize, arcs: usize, count: usize, marks: &mut 
     ensures { Becomes (swept_marks (edges_at base arcs work.now) marks.old) result
         marks.new marks.old }
 {
-    let mut left = arcs;
-    let mut from = base + STEP_SIZE * arcs;
     let mut same = true;
-    while 0 < left {
-        left -= 1;
-        from -= STEP_SIZE;
-        let e = load_edge(work, from);
-        let kept = mark_source(marks, e);
-        same = both(same, kept);
+    for i in (0..arcs).rev() {
+        let kept = mark_source(marks, load_edge(work, base + STEP_SIZE * i));
+        same = same && kept;
     }
     same
 }
@@ -63,11 +44,9 @@ pub fn mark_coaccessible(work: &[u8], base: usize, arcs: usize, count: usize, ma
     ensures { marks.new ≡ bits (coaccessible (record_graph (edges_at base arcs work.now))
         (bools (take count marks.old))) ++ drop count marks.old }
 {
-    let mut rounds: usize = count;
-    while 0 < rounds {
+    for _ in 0..count {
         if round_marks(work, base, arcs, count, marks) {
             return;
         }
-        rounds -= 1;
     }
 }

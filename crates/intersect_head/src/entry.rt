@@ -9,25 +9,15 @@ use search_chains::{Shape, bucket_of, enter, hash_words};
 use search_rows::Entered;
 use table::layout::CONFIG_SIZE;
 
-// A byte as a wider number.
-fn wide(b: u8) -> usize
-    ensures { (result ≡ b) × (result < 256) }
-{
-    b as usize
-}
-
 // The hash of the record of a configuration of `used` pairs: of its state, and of what counts of its leftovers.
 fn hash_row(row: &[u8], used: usize) -> u64
     requires { Enterable used row.now }
     ensures { (result ≡ row_hash used row.now) × (result < 8589934592) }
 {
     let mut hash = hash_words(row, 0, 1, 0);
-    let mut i: usize = 0;
-    while i < used {
+    for i in 0..used {
         let at = 2 + LEFTOVER_SIZE * i;
-        let words = (wide(row[at + 1]) + 9) / 8;
-        hash = hash_words(row, at, words, hash);
-        i += 1;
+        hash = hash_words(row, at, (usize::from(row[at + 1]) + 9) / 8, hash);
     }
     hash
 }

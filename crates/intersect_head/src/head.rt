@@ -50,13 +50,12 @@ impl Head {
             ≡ stored_within plan.room.edges plan.room.arcs self.arcs
             (edge_bytes (record { from = record { 0 = self.taken }; arc = j; to = to })) work.old) }
     {
-        let room = plan.room;
         let edge = EdgeRecord {
             from: Reached(self.taken as u16),
             arc: j as u16,
             to,
         };
-        store_edge_within(work, room, self.arcs, edge);
+        store_edge_within(work, plan.room, self.arcs, edge);
         self.arcs += 1;
         self
     }
@@ -68,9 +67,7 @@ impl Head {
         ensures { Arrives plan self (config_at 0 row.now) j work.old result
             work.new }
     {
-        let room = plan.room;
-        let pairs = plan.pairs;
-        match enter_config(work, self.reached, room.states, pairs.used, row) {
+        match enter_config(work, self.reached, plan.room.states, plan.pairs.used, row) {
             Entered::At(state) => self.note(plan, work, j, state),
             Entered::New(state) => {
                 self.reached += 1;
@@ -98,8 +95,7 @@ impl Head {
         ensures { Visits plan self (config_at 0 own.now) arcs.now j work.old result
             work.new × Row plan.pairs.used row.new }
     {
-        let kind = offer(plan, own, arcs, j, work, row);
-        match kind {
+        match offer(plan, own, arcs, j, work, row) {
             Kind::Nothing => self,
             Kind::Late => {
                 self.late = true;
@@ -122,12 +118,11 @@ impl Head {
             × Chained plan.counts.states plan.counts.arcs arcs.now first.now next.now }
         ensures { TakesUp plan self arcs.now work.old result work.new }
     {
-        let counts = plan.counts;
         let own = load_row(work, CONFIG_SIZE * self.taken);
         let mut row = start_row(InputState(0));
         let state = get16(&own, 0) as usize;
         let mut j = first[state] as usize;
-        while j < counts.arcs {
+        while j < plan.counts.arcs {
             self = self.visit(plan, &own, arcs, j, &mut row, work);
             if self.full {
                 return self;
@@ -144,9 +139,7 @@ impl Head {
             × (config_bytes (config_at 0 row.now) ≡ row.now) }
         ensures { Admits plan self (config_at 0 row.now) work.old result work.new }
     {
-        let room = plan.room;
-        let pairs = plan.pairs;
-        match enter_config(work, self.reached, room.states, pairs.used, row) {
+        match enter_config(work, self.reached, plan.room.states, plan.pairs.used, row) {
             Entered::At(_) => self,
             Entered::New(_) => {
                 self.reached += 1;

@@ -6,7 +6,7 @@ ghost use Rattle.automata.specs.Layout.{delays_size};
 
 use crate::plan::Plan;
 use delays::viable;
-use intersect_config::config::{first_lengths, second_lengths, too_long};
+use intersect_config::config::{lengths_on, too_long};
 use intersect_config::step::follow;
 use table::arc::source_at;
 use table::bytes::get16;
@@ -29,12 +29,17 @@ pub fn viable_config(plan: Plan, row: &[u8], work: &[u8]) -> bool
     ensures { TellsViable plan.room.delays plan.pairs.used (config_at 0 row.now)
         work.now result }
 {
-    let pairs = plan.pairs;
-    let room = plan.room;
-    let firsts = first_lengths(row);
-    let seconds = second_lengths(row);
+    let firsts = lengths_on(false, row);
+    let seconds = lengths_on(true, row);
     let state = InputState(get16(row, 0));
-    viable(work, room.delays, state, pairs.used, firsts, seconds)
+    viable(
+        work,
+        plan.room.delays,
+        state,
+        plan.pairs.used,
+        firsts,
+        seconds,
+    )
 }
 
 // What the arc with number `j` offers the configuration in `own`; the successor, where it is one, is written over the
@@ -48,15 +53,15 @@ pub fn offer(plan: Plan, own: &[u8], arcs: &[u8], j: usize, work: &[u8], row: &m
     if source_at(arcs, at).0 != get16(own, 0) {
         return Kind::Nothing;
     }
-    let pairs = plan.pairs;
-    if !follow(own, arcs, at, pairs, row) {
+    if !follow(own, arcs, at, plan.pairs, row) {
         return Kind::Nothing;
     }
     if !viable_config(plan, row, work) {
         return Kind::Nothing;
     }
-    if too_long(row, pairs) {
-        return Kind::Late;
+    if too_long(row, plan.pairs) {
+        Kind::Late
+    } else {
+        Kind::To
     }
-    Kind::To
 }

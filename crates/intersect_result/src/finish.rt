@@ -1,7 +1,8 @@
 // The answer of an auto-intersection, by what the search over its configurations left in work space.
 ghost use Rattle.std.specs.Prelude.{length};
 ghost use Rattle.automata.specs.Calls.Outcome.{made_of, slices_of};
-ghost use Rattle.table.specs.Answers.{table_as};
+ghost use Rattle.automata.specs.Answer.{ok};
+ghost use Rattle.table.specs.Answers.{counts_as, table_as};
 ghost use Rattle.intersect_result.specs.Standing.{Finishable, Finished};
 ghost use Rattle.intersect_result.specs.Searched.{Answerable, Answers};
 
@@ -9,7 +10,7 @@ use crate::kept::number_kept;
 use intersect_head::head::Head;
 use intersect_offers::plan::Plan;
 use intersect_trim::result::{write_arcs, write_states};
-use table::answer::{Counts, Refusal, TableAnswer};
+use table::answer::{Counts, Refusal};
 
 // The result on the configurations that the search has reached, in `work` with the edges between them: those from which
 // a final one is reached.
@@ -21,24 +22,31 @@ fn finish(
     work: &[u8],
     out_states: &mut [u8],
     out_arcs: &mut [u8],
-) -> TableAnswer
+) -> Counts
     requires { Finishable plan head states.now arcs.now work.now (length out_states.old)
         (length out_arcs.old) }
     ensures { Finished plan head states.now arcs.now work.now
-        (made_of (table_as result) out_states.new out_arcs.new)
+        (made_of (ok (counts_as result)) out_states.new out_arcs.new)
         (slices_of out_states.old out_arcs.old) }
 {
     let mut marks = [0u8; 1024];
     let mut ranks = [0u16; 1024];
-    let room = plan.room;
-    let kept = number_kept(room, head, states, work, &mut marks, &mut ranks);
+    let kept = number_kept(plan.room, head, states, work, &mut marks, &mut ranks);
     write_states(work, head.reached, &marks, states, out_states);
-    let number = write_arcs(work, room.edges, head.arcs, &marks, &ranks, arcs, out_arcs);
-    TableAnswer::Table(Counts {
+    let number = write_arcs(
+        work,
+        plan.room.edges,
+        head.arcs,
+        &marks,
+        &ranks,
+        arcs,
+        out_arcs,
+    );
+    Counts {
         tapes: plan.counts.tapes,
         states: kept,
         arcs: number,
-    })
+    }
 }
 
 // The answer: more configurations than there is room for (8), more arcs (9), a step that is too long (10), or the
@@ -51,7 +59,7 @@ pub fn answer_search(
     work: &[u8],
     out_states: &mut [u8],
     out_arcs: &mut [u8],
-) -> TableAnswer
+) -> Result<Counts, Refusal>
     requires { Answerable plan head states.now arcs.now work.now (length out_states.old)
         (length out_arcs.old) }
     ensures { Answers plan head states.now arcs.now work.now
@@ -59,14 +67,12 @@ pub fn answer_search(
         (slices_of out_states.old out_arcs.old) }
 {
     if head.full {
-        return TableAnswer::Refused(Refusal::StatesFull);
+        Err(Refusal::StatesFull)
+    } else if plan.room.arcs < head.arcs {
+        Err(Refusal::ArcsFull)
+    } else if head.late {
+        Err(Refusal::Delay)
+    } else {
+        Ok(finish(plan, head, states, arcs, work, out_states, out_arcs))
     }
-    let room = plan.room;
-    if room.arcs < head.arcs {
-        return TableAnswer::Refused(Refusal::ArcsFull);
-    }
-    if head.late {
-        return TableAnswer::Refused(Refusal::Delay);
-    }
-    finish(plan, head, states, arcs, work, out_states, out_arcs)
 }

@@ -1,2 +1,2 @@
--- Facts of the work space of a build.
+-- Facts that belong to no one function.
 pub mod RoomFacts

@@ -1,10 +1,9 @@
 -- How a build divides its work space.
-use Rattle.std.specs.Prelude.{◌≡◌, true, ℕ, ◌+◌, ◌*◌, ◌≤◌, leb}
+use Rattle.std.specs.Prelude.{Option, is_some, IfSome, ◌≡◌, ℕ, ◌+◌, ◌*◌, ◌≤◌, leb}
 use Rattle.automata.specs.Space.{Space, state_cap, arc_cap}
 use Rattle.automata.specs.Calls.Work.{build_work}
 use Rattle.automata.specs.Layout.{config_size, delays_size, step_size}
 use Rattle.intersect_room.specs.declared.room.Room.{Room}
-use Rattle.intersect_room.specs.declared.room.RoomAnswer.{RoomAnswer}
 
 -- the space lent, in states and arcs
 abbrev pub lent_space : ℕ → ℕ → Space
@@ -19,7 +18,8 @@ pub record Divides (states arcs read work : ℕ) (r : Room) : Type 0 where
   pub edges_fit : r.edges + step_size * r.arcs ≤ r.delays
   pub delays_fit : r.delays + delays_size * read ≤ work
 
--- the answer: whether the work space is as long as document 01 calls for (else 13), and then how it is divided
-pub record RoomFor (states arcs read work : ℕ) (r : RoomAnswer) : Type 0 where
-  pub enough : r.enough ≡ leb (build_work (lent_space states arcs) read) work
-  pub divides : r.enough ≡ true → Divides states arcs read work r.room
+-- the answer: there is room exactly where the work space is as long as document 01 calls for (else 13), and then so
+-- divided
+pub record RoomFor (states arcs read work : ℕ) (r : Option Room) : Type 0 where
+  pub enough : is_some r ≡ leb (build_work (lent_space states arcs) read) work
+  pub divides : IfSome r (Divides states arcs read work)

@@ -11,6 +11,7 @@ use intersect_head::head::Head;
 use intersect_offers::plan::Plan;
 use search_chains::clear;
 use table::layout::CONFIG_SIZE;
+use table::lent::Table;
 use table_adjacency::chain_arcs;
 
 // The configurations in which paths start.
@@ -18,7 +19,6 @@ fn begin(plan: Plan, states: &[u8], work: &mut [u8]) -> Head
     requires { Beginnable plan states.now work.old }
     ensures { Begun plan states.now work.old result work.new }
 {
-    let counts = plan.counts;
     let mut head = Head {
         taken: 0,
         reached: 0,
@@ -26,13 +26,11 @@ fn begin(plan: Plan, states: &[u8], work: &mut [u8]) -> Head
         late: false,
         full: false,
     };
-    let mut q: usize = 0;
-    while q < counts.states {
+    for q in 0..plan.counts.states {
         head = head.start(plan, states, q, work);
         if head.full {
             return head;
         }
-        q += 1;
     }
     head
 }
@@ -68,10 +66,9 @@ fn run(start: Head, plan: Plan, arcs: &[u8], work: &mut [u8]) -> Head
     requires { Runnable plan start arcs.now work.old }
     ensures { Runs plan start arcs.now work.old result work.new }
 {
-    let counts = plan.counts;
     let mut first = [0u16; 1024];
     let mut next = [0u16; 8192];
-    chain_arcs(counts, arcs, &mut first, &mut next);
+    chain_arcs(plan.counts, arcs, &mut first, &mut next);
     run_chained(start, plan, arcs, &first, &next, work)
 }
 
@@ -82,11 +79,13 @@ pub fn explore(plan: Plan, states: &[u8], arcs: &[u8], work: &mut [u8]) -> Head
     ensures { Explored plan states.now arcs.now work.old result
         work.new }
 {
-    let counts = plan.counts;
-    let pairs = plan.pairs;
-    let room = plan.room;
-    closing_tables(counts, states, arcs, pairs, work, room.delays);
-    clear(work, CONFIG_SIZE, ROW_SIZE, room.states);
+    let table = Table {
+        counts: plan.counts,
+        states,
+        arcs,
+    };
+    closing_tables(&table, plan.pairs, work, plan.room.delays);
+    clear(work, CONFIG_SIZE, ROW_SIZE, plan.room.states);
     let head = begin(plan, states, work);
     run(head, plan, arcs, work)
 }

@@ -1,14 +1,13 @@
 -- Rows of configurations.
 use Prim.Native.Nat.{ℕ, suc, ◌+◌, ◌*◌, ◌≤◌}
 use mathlib.Core.Path.{◌≡◌, refl, sym, ap, ◌∙◌}
-use mathlib.Core.Bool.{Bool, true, false, not}
-use mathlib.Core.Logic.{◌≢◌}
+use mathlib.Core.Bool.{Bool, true, false, cond}
 use mathlib.Core.List.{List, [], ◌∷◌, ◌++◌, map}
 use native.Mathlib.Omega.{arith}
 use lib.Dec.{eqb}
+use mir.Val.{bool_byte}
 use lib.ListN.{length, get_or, set, take, drop, length-take, length-map}
 use Rattle.automata.specs.Lists.{and}
-use Rattle.automata.proofs.TestFacts.{eqb_false}
 use Rattle.automata.specs.Layout.{config_size, state_size, final_place}
 use Rattle.table.specs.Region.{part, splice, rows}
 use Rattle.table.specs.Endian.{le}
@@ -22,32 +21,19 @@ pub front_fits : (k : ℕ) (xs ys : List ℕ) → take k xs ≡ ys → length ys
 front_fits k xs ys e h = let l = length-take k xs in let m = ap length e in omega arith
 
 -- the row at a place, by its bytes: no leftover, or one of four
-pub plain_all : (at : ℕ) (w : List ℕ) → get_or w (at + 3) 0 ≡ 0 → get_or w (at + 77) 0 ≡ 0 → get_or w (at + 151) 0 ≡ 0
-    → eqb (get_or w (at + 225) 0) 0 ≡ row_plain (part at config_size w)
+pub plain_is : (at : ℕ) (w : List ℕ) → row_plain (part at config_size w)
+    ≡ cond (eqb (get_or w (at + 3) 0) 0) (cond (eqb (get_or w (at + 77) 0) 0) (cond (eqb (get_or w (at + 151) 0) 0) (eqb (get_or w (at + 225) 0) 0) false) false) false
 unfolding row_plain
-plain_all at w a b c =
-    rw (get_d_part at config_size w 3 0 (omega arith), get_d_part at config_size w 77 0 (omega arith), get_d_part at config_size w 151 0 (omega arith), get_d_part at config_size w 225 0 (omega arith), a, b, c)
-    (go (eqb (get_or w (at + 225) 0) 0))
+plain_is at w =
+    rw (get_d_part at config_size w 3 0 (omega arith), get_d_part at config_size w 77 0 (omega arith), get_d_part at config_size w 151 0 (omega arith), get_d_part at config_size w 225 0 (omega arith))
+    (go (eqb (get_or w (at + 3) 0) 0) (eqb (get_or w (at + 77) 0) 0) (eqb (get_or w (at + 151) 0) 0) (eqb (get_or w (at + 225) 0) 0))
   where
-    go : (b : Bool) → b ≡ and b true
-    go true = refl
-    go false = refl
-
-and_last : (a : Bool) → and a false ≡ false
-and_last true = refl
-and_last false = refl
-
-pub plain_first : (at : ℕ) (w : List ℕ) → get_or w (at + 3) 0 ≢ 0 → false ≡ row_plain (part at config_size w)
-unfolding row_plain
-plain_first at w h = rw (get_d_part at config_size w 3 0 (omega arith), eqb_false (get_or w (at + 3) 0) 0 h)
-
-pub plain_second : (at : ℕ) (w : List ℕ) → get_or w (at + 77) 0 ≢ 0 → false ≡ row_plain (part at config_size w)
-unfolding row_plain
-plain_second at w h = rw (get_d_part at config_size w 77 0 (omega arith), eqb_false (get_or w (at + 77) 0) 0 h, and_last)
-
-pub plain_third : (at : ℕ) (w : List ℕ) → get_or w (at + 151) 0 ≢ 0 → false ≡ row_plain (part at config_size w)
-unfolding row_plain
-plain_third at w h = rw (get_d_part at config_size w 151 0 (omega arith), eqb_false (get_or w (at + 151) 0) 0 h, and_last, and_last)
+    go : (a b c d : Bool) → and a (and b (and c (and d true))) ≡ cond a (cond b (cond c d false) false) false
+    go true true true true = refl
+    go true true true false = refl
+    go true true false d = refl
+    go true false c d = refl
+    go false b c d = refl
 
 -- its input state
 pub row_state_lem : (at q : ℕ) (w : List ℕ) → q ≡ le (part at 2 w) → state_size * q ≡ state_size * row_state (part at config_size w)
@@ -58,22 +44,23 @@ row_state_lem at q w e =
 
 -- ---- the mark of a row
 
-pub mark_leftover : (states row : List ℕ) (p : Bool) → p ≡ row_plain row → not p ≡ true → 0 ≡ final_byte states row
-unfolding final_byte
-mark_leftover states row p e f = rw (← e) (go p f)
-  where
-    go : (p : Bool) → not p ≡ true → 0 ≡ bit (and p (is_mark (get_or states (state_size * row_state row + final_place) 0)))
-    go true f = cc
-    go false f = refl
+-- a test as a byte is a mark
+pub byte_bit : (b : Bool) → bool_byte b ≡ bit b
+byte_bit true = refl
+byte_bit false = refl
 
-pub mark_plain : (states row : List ℕ) (p : Bool) (place : ℕ) → p ≡ row_plain row → not p ≡ false → place ≡ state_size * row_state row
+pub byte_small : (b : Bool) → bool_byte b ≤ 1
+byte_small true = omega arith
+byte_small false = omega arith
+
+pub mark_leftover : (states row : List ℕ) → false ≡ row_plain row → 0 ≡ final_byte states row
+unfolding final_byte
+mark_leftover states row e = rw (← e)
+
+pub mark_plain : (states row : List ℕ) (place : ℕ) → true ≡ row_plain row → place ≡ state_size * row_state row
     → bit (is_mark (get_or states (place + final_place) 0)) ≡ final_byte states row
 unfolding final_byte
-mark_plain states row p place e f g = rw (← e, g) (go p f)
-  where
-    go : (p : Bool) → not p ≡ false → bit (is_mark (get_or states (state_size * row_state row + final_place) 0)) ≡ bit (and p (is_mark (get_or states (state_size * row_state row + final_place) 0)))
-    go true f = refl
-    go false f = cc
+mark_plain states row place e g = rw (← e, g)
 
 -- ---- one row after the other
 

@@ -12,16 +12,7 @@ pub fn row_plain(work: &[u8], at: usize) -> bool
     requires { at + config_size ≤ length work.now }
     ensures { result ≡ row_plain (part at config_size work.now) }
 {
-    if work[at + 3] != 0 {
-        return false;
-    }
-    if work[at + 77] != 0 {
-        return false;
-    }
-    if work[at + 151] != 0 {
-        return false;
-    }
-    work[at + 225] == 0
+    work[at + 3] == 0 && work[at + 77] == 0 && work[at + 151] == 0 && work[at + 225] == 0
 }
 
 // Where the record of the input state of the row at `at` stands.
@@ -38,15 +29,7 @@ fn final_mark(work: &[u8], at: usize, states: &[u8]) -> u8
         × (state_size * row_state (part at config_size work.now) + state_size ≤ length states.now) }
     ensures { result ≡ final_byte states.now (part at config_size work.now) }
 {
-    if !row_plain(work, at) {
-        return 0;
-    }
-    let place = record_place(work, at);
-    if states[place + FINAL_PLACE] == PRESENT {
-        1
-    } else {
-        0
-    }
+    u8::from(row_plain(work, at) && states[record_place(work, at) + FINAL_PLACE] == PRESENT)
 }
 
 // The marks of the first `count` rows.
@@ -56,13 +39,7 @@ pub fn mark_final(work: &[u8], count: usize, states: &[u8], marks: &mut [u8])
     ensures { marks.new ≡ map (final_byte states.now)
         (rows 0 config_size count work.now) ++ drop count marks.old }
 {
-    let mut left = count;
-    let mut at: usize = 0;
-    let mut k: usize = 0;
-    while 0 < left {
-        marks[k] = final_mark(work, at, states);
-        at += CONFIG_SIZE;
-        k += 1;
-        left -= 1;
+    for k in 0..count {
+        marks[k] = final_mark(work, CONFIG_SIZE * k, states);
     }
 }

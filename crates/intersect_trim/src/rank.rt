@@ -1,14 +1,7 @@
 // The numbers of the configurations that are kept.
-ghost use Rattle.std.specs.Prelude.{◌≡◌, ◌≤◌, ◌<◌, length, take};
-ghost use Rattle.intersect_edges.specs.Marked.{bit, is_mark, bools};
+ghost use Rattle.std.specs.Prelude.{◌≤◌, length, take};
+ghost use Rattle.intersect_edges.specs.Marked.{bools};
 ghost use Rattle.intersect_trim.specs.Ranks.{Numbered};
-
-// 1 for a mark, 0 for none.
-fn marks_in(b: u8) -> u16
-    ensures { (result ≡ bit (is_mark b)) × (result < 2) }
-{
-    if b == 1 { 1 } else { 0 }
-}
 
 // The number of marked places before each of the first `count`, and before their end.
 pub fn number_marked(marks: &[u8], count: usize, ranks: &mut [u16]) -> usize
@@ -18,7 +11,7 @@ pub fn number_marked(marks: &[u8], count: usize, ranks: &mut [u16]) -> usize
     let mut kept: u16 = 0;
     for i in 0..count {
         ranks[i] = kept;
-        kept += marks_in(marks[i]);
+        kept += u16::from(marks[i] == 1);
     }
-    kept as usize
+    usize::from(kept)
 }

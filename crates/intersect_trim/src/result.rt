@@ -26,10 +26,9 @@ fn store_row(work: &[u8], at: usize, states: &[u8], out: &mut [u8], to: usize)
     if row_plain(work, at) {
         let place = record_place(work, at);
         copy_into(out, to, &states[place..place + STATE_SIZE]);
-        return;
+    } else {
+        copy_into(out, to, &[0; STATE_SIZE]);
     }
-    let blank = [0u8; STATE_SIZE];
-    copy_into(out, to, &blank);
 }
 
 // The record of the row at `at` if it is marked. Answers the place behind what was written.
@@ -57,15 +56,9 @@ pub fn write_states(work: &[u8], count: usize, marks: &[u8], states: &[u8], out:
     ensures { out.new ≡ overwrite (kept_states states.now (take count marks.now)
         (rows 0 config_size count work.now)) out.old }
 {
-    let mut left = count;
-    let mut at: usize = 0;
-    let mut k: usize = 0;
-    let mut to: usize = 0;
-    while 0 < left {
-        to = put_state(work, at, marks[k], states, out, to);
-        at += CONFIG_SIZE;
-        k += 1;
-        left -= 1;
+    let mut to = 0;
+    for k in 0..count {
+        to = put_state(work, CONFIG_SIZE * k, marks[k], states, out, to);
     }
 }
 
@@ -97,10 +90,7 @@ fn put_arc(
     ensures { (out.new ≡ splice to (marked_arc marks.now ranks.now
         inputs.now e) out.old) × (result ≡ bit (both_marks marks.now e)) × (result < 2) }
 {
-    if marks[e.from.0 as usize] != 1 {
-        return 0;
-    }
-    if marks[e.to.0 as usize] != 1 {
+    if marks[e.from.0 as usize] != 1 || marks[e.to.0 as usize] != 1 {
         return 0;
     }
     store_arc(e, ranks, inputs, out, to);
@@ -125,17 +115,13 @@ pub fn write_arcs(
     ensures { ArcsWritten marks.now ranks.now inputs.now
         (edges_at base arcs work.now) result out.new out.old }
 {
-    let mut left = arcs;
-    let mut from = base;
-    let mut to: usize = 0;
-    let mut kept: usize = 0;
-    while 0 < left {
-        let e = load_edge(work, from);
+    let mut to = 0;
+    let mut kept = 0;
+    for i in 0..arcs {
+        let e = load_edge(work, base + STEP_SIZE * i);
         let n = put_arc(e, marks, ranks, inputs, out, to);
         to += ARC_SIZE * n;
         kept += n;
-        from += STEP_SIZE;
-        left -= 1;
     }
     kept
 }

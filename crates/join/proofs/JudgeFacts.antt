@@ -1,12 +1,11 @@
 -- The judgements before any step of a join, and the call that they are made for.
-use Prim.Native.Nat.{ℕ, ◌+◌, ◌-◌, ◌≤◌}
+use Prim.Native.Nat.{ℕ, ◌+◌, ◌≤◌}
+use Rattle.std.specs.Prelude.{Result, Ok, Err, Some, None}
 use mathlib.Core.Path.{◌≡◌, refl, sym, ap, ap₂, ◌∙◌}
 use mathlib.Core.Bool.{Bool, true, false}
 use mathlib.Core.List.{List}
-use native.Mathlib.Omega.{arith}
-use lib.Dec.{T, leb, leb→le, le→leb}
+use lib.Dec.{T, leb, leb→le}
 use lib.ListN.{length}
-use borrow.Author.Tests.{lt-leb}
 use Rattle.automata.specs.Limits.{max_tapes}
 use Rattle.automata.specs.Refusal as refusal
 use Rattle.automata.specs.Answer.{◌>>=◌, Answer, ok, refused, judge, forget}
@@ -19,69 +18,23 @@ use Rattle.automata.specs.Memory.{Memory, Sound, table_of, decode_table}
 use Rattle.automata.specs.Join.{within, join_steps, join}
 use Rattle.automata.specs.Calls.Work.{join_work, enough}
 use Rattle.automata.specs.Calls.Join.{lent_to, join_answer}
-use Rattle.automata.proofs.AnswerFacts.{refused≢ok, judge-ok}
-use Rattle.automata.proofs.TestFacts.{T_same, true_T}
+use Rattle.automata.proofs.AnswerFacts.{judge-ok}
+use Rattle.automata.proofs.TestFacts.{true_T}
 use Rattle.automata.proofs.SoundFacts.{sound, table_of_is, sound_holds}
 use Rattle.automata.proofs.CallTests.{join-width}
 use Rattle.table.specs.declared.answer.Refusal.{Refusal}
-use Rattle.table.specs.declared.answer.Judged.{Judged}
-use Rattle.table.specs.declared.answer.Judged.TheVariants.{Fine, Refused}
-use Rattle.table.specs.Answers.{judged_as}
+use Rattle.table.specs.declared.answer.Refusal.TheVariants as why
+use Rattle.table.specs.declared.pair.PairList.{PairList}
+use Rattle.table.specs.Answers.{refusal_number}
 use Rattle.table.proofs.TableFacts.{judged_sound}
-use Rattle.pairs.specs.declared.PairsJudged.{PairsJudged}
 use Rattle.pairs.specs.PairTests.{join_pairs_answer}
 use Rattle.pairs.specs.Judgement.{JoinJudged}
 use Rattle.pairs.proofs.CallFacts.{join_then}
+use Rattle.pairs.proofs.TestFacts.{join_limits}
 use Rattle.pairs.proofs.TurnFacts.{turn_then}
-use Rattle.intersect_room.specs.declared.room.RoomAnswer.{RoomAnswer}
-use Rattle.join.specs.Judged.{in_turn, JoinRoom, Prepares}
-
--- ---- the width
-
--- more tapes in the first table alone
-pub wide : (n m : ℕ) → max_tapes + 1 ≤ n → false ≡ leb (n + m) max_tapes
-wide n m h = sym (lt-leb (n + m) max_tapes (omega arith))
-
--- else what the first leaves
-pub width-left : (n m : ℕ) → n ≤ max_tapes → leb m (max_tapes - n) ≡ leb (n + m) max_tapes
-width-left n m h =
-    T_same (leb m (max_tapes - n)) (leb (n + m) max_tapes)
-    (λ t. let l = leb→le m (max_tapes - n) t in le→leb (n + m) max_tapes (omega arith))
-    (λ t. let l = leb→le (n + m) max_tapes t in le→leb m (max_tapes - n) (omega arith))
-
--- ---- judgements in turn
-
--- where there is no refusal, none of the parts has one
-pub record NoneRefused (first second : Judged) (narrow : Bool) (pairs : Judged) (enough : Bool) : Type 0 where
-  pub first_fine : first ≡ Fine
-  pub second_fine : second ≡ Fine
-  pub is_narrow : narrow ≡ true
-  pub pairs_fine : pairs ≡ Fine
-  pub is_enough : enough ≡ true
-
-pub none-refused : (t u : Judged) (n : Bool) (p : Judged) (e : Bool) → in_turn (judged_as t) (judged_as u) n (judged_as p) e ≡ ok tt → NoneRefused t u n p e
-none-refused (Refused why) u n p e h = absurd (refused≢ok h)
-none-refused Fine (Refused why) n p e h = absurd (refused≢ok h)
-none-refused Fine Fine false p e h = absurd (refused≢ok h)
-none-refused Fine Fine true (Refused why) e h = absurd (refused≢ok h)
-none-refused Fine Fine true Fine false h = absurd (refused≢ok h)
-none-refused Fine Fine true Fine true h = record { first_fine = refl; second_fine = refl; is_narrow = refl; pairs_fine = refl; is_enough = refl }
-
-module _ (t u p : Judged) (n e : Bool) (f : t ≡ Fine) (g : u ≡ Fine) where
-  -- a width that is refused
-  pub turn_wide : n ≡ false → refused refusal.width ≡ in_turn (judged_as t) (judged_as u) n (judged_as p) e
-  turn_wide h = rw (f, g, h)
-
-  module _ (h : n ≡ true) where
-    -- pairs that are refused, work space that is too short, and no refusal
-    pub turn_pairs : (why : Refusal) → p ≡ Refused why → judged_as p ≡ in_turn (judged_as t) (judged_as u) n (judged_as p) e
-    turn_pairs why k = rw (f, g, h, k)
-
-    pub turn_short : p ≡ Fine → e ≡ false → refused refusal.space ≡ in_turn (judged_as t) (judged_as u) n (judged_as p) e
-    turn_short k l = rw (f, g, h, k, l)
-
-    pub turn_fine : p ≡ Fine → e ≡ true → ok tt ≡ in_turn (judged_as t) (judged_as u) n (judged_as p) e
-    turn_fine k l = rw (f, g, h, k, l)
+use Rattle.intersect_room.specs.declared.room.Room.{Room}
+use Rattle.join.specs.declared.judge.Prepared.{Prepared}
+use Rattle.join.specs.Judged.{in_turn, JoinRoom, judgement, Prepares}
 
 -- ---- the call
 module _ (a b : Memory) (ps : List TapePair) (product result : Space) (work : ℕ) (t u p j : Answer (Unit {0})) (n e : Bool)
@@ -134,22 +87,69 @@ pairs-within : (n m : ℕ) (ps : List TapePair) → join_pairs_answer n m ps ≡
 unfolding join_pairs_answer
 pairs-within n m ps e = (judge-ok (within n m (tapes_of ps)) _ _ tt e).0
 
--- The judgements are those of the call.
-pub prepared : (a b : Memory) (ps : List TapePair) (product result : Space) (work : ℕ) (t u j : Judged) (l : PairsJudged) (n : Bool) (r : RoomAnswer)
-    → judged_as t ≡ forget (decode_table a) → judged_as u ≡ forget (decode_table b) → n ≡ leb (a.tapes + b.tapes) max_tapes
-    → JoinJudged ps a.tapes b.tapes l → JoinRoom product result work r
-    → judged_as j ≡ in_turn (judged_as t) (judged_as u) n (judged_as l.judged) r.enough → Prepares a b ps product result work l (record { judged = j; room = r.room })
-prepared a b ps product result work t u j l n r is-t is-u is-n k is-r is-j = record {
-  answer = λ w z. by_tables a b ps product result work (judged_as t) (judged_as u) (judged_as l.judged) (judged_as j) n r.enough is-t is-u is-n k.answer is-r.enough is-j w z
-      (decode_table a) (decode_table b) refl refl;
-  first = λ f. judged_sound a (sym is-t ∙ ap judged_as (all f).first_fine);
-  second = λ f. judged_sound b (sym is-u ∙ ap judged_as (all f).second_fine);
-  narrow = λ f. leb→le (a.tapes + b.tapes) max_tapes (true_T (leb (a.tapes + b.tapes) max_tapes) (sym is-n ∙ (all f).is_narrow));
-  listed_fine = λ f. (all f).pairs_fine;
-  inside = λ f. pairs-within a.tapes b.tapes ps (sym k.answer ∙ ap judged_as (all f).pairs_fine);
-  enough = λ f. leb→le (join_work product result) work (true_T (leb (join_work product result) work) (sym is-r.enough ∙ (all f).is_enough));
-  divides = λ f. is-r.divides (all f).is_enough;
-}
-  where
-    all : j ≡ Fine → NoneRefused t u n l.judged r.enough
-    all f = none-refused t u n l.judged r.enough (sym is-j ∙ ap judged_as f)
+-- ---- what the preparation answers
+module _ (a b : Memory) (ps : List TapePair) (product result : Space) (work : ℕ) where
+  -- the parts that are judged, in turn: the first table, the second, their width, the pairs, the work space
+  abbrev one : Answer (Unit {0})
+  one = forget (decode_table a)
+
+  abbrev two : Answer (Unit {0})
+  two = forget (decode_table b)
+
+  abbrev narrow : Bool
+  narrow = leb (a.tapes + b.tapes) max_tapes
+
+  abbrev pairs : Answer (Unit {0})
+  pairs = join_pairs_answer a.tapes b.tapes ps
+
+  abbrev long : Bool
+  long = leb (join_work product result) work
+
+  -- the call, by an answer that is the judgements' as they are known
+  told : (r : Result Prepared Refusal) (t u : Answer (Unit {0})) (n : Bool) (p : Answer (Unit {0})) (e : Bool) → one ≡ t → two ≡ u → narrow ≡ n → pairs ≡ p → long ≡ e
+      → in_turn t u n p e ≡ judgement r → (w : List ℕ) → length w ≡ work → join_answer a b ps product result w
+      ≡ (judgement r >>= λ (v : Unit {0}). join_steps ℕ_sum weight_fits (lent_to product result w) ps (table_of a) (table_of b))
+  told r t u n p e f g h k l z w m =
+      by_tables a b ps product result work one two pairs (judgement r) narrow long refl refl refl refl refl (sym ((λ i. in_turn (f i) (g i) (h i) (k i) (l i)) ∙ z)) w m
+      (decode_table a) (decode_table b) refl refl
+
+  -- the first table is refused
+  pub first_stops : (y : Refusal) → refused (refusal_number y) ≡ one → Prepares a b ps product result work (Err y)
+  first_stops y f = record { answer = told (Err y) (refused (refusal_number y)) two narrow pairs long (sym f) refl refl refl refl refl; ready = tt }
+
+  module _ (f : ok tt ≡ one) where
+    -- the second
+    pub second_stops : (y : Refusal) → refused (refusal_number y) ≡ two → Prepares a b ps product result work (Err y)
+    second_stops y g = record { answer = told (Err y) (ok tt) (refused (refusal_number y)) narrow pairs long (sym f) (sym g) refl refl refl refl; ready = tt }
+
+    module _ (g : ok tt ≡ two) where
+      -- their width
+      pub width_stops : narrow ≡ false → Prepares a b ps product result work (Err why.Width)
+      width_stops n = record { answer = told (Err why.Width) (ok tt) (ok tt) false pairs long (sym f) (sym g) n refl refl refl; ready = tt }
+
+      module _ (n : narrow ≡ true) where
+        -- the pairs
+        pub pairs_stop : (y : Refusal) → JoinJudged ps a.tapes b.tapes (Err y) → Prepares a b ps product result work (Err y)
+        pairs_stop y k = record { answer = told (Err y) (ok tt) (ok tt) true (refused (refusal_number y)) long (sym f) (sym g) n (sym k.answer) refl refl; ready = tt }
+
+        module _ (l : PairList) (k : JoinJudged ps a.tapes b.tapes (Ok l)) where
+          -- the work space
+          pub space_stops : JoinRoom product result work None → Prepares a b ps product result work (Err why.Space)
+          space_stops r = record { answer = told (Err why.Space) (ok tt) (ok tt) true (ok tt) false (sym f) (sym g) n (sym k.answer) (sym r.enough) refl; ready = tt }
+
+          -- no refusal
+          pub goes_on : (room : Room) → JoinRoom product result work (Some room) → Prepares a b ps product result work (Ok (record { pairs = l; room = room }))
+          goes_on room r = record {
+            answer = told (Ok (record { pairs = l; room = room })) (ok tt) (ok tt) true (ok tt) true (sym f) (sym g) n (sym k.answer) (sym r.enough) refl;
+            ready = record {
+              first = judged_sound a (sym f);
+              second = judged_sound b (sym g);
+              narrow = leb→le (a.tapes + b.tapes) max_tapes (true_T narrow n);
+              pairs = k.pairs;
+              sided = k.tapes_named;
+              fit = join_limits ps a.tapes b.tapes l k;
+              inside = pairs-within a.tapes b.tapes ps (sym k.answer);
+              enough = leb→le (join_work product result) work (true_T long (sym r.enough));
+              divides = r.divides;
+            };
+          }

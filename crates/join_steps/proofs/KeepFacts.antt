@@ -4,7 +4,7 @@ use Prim.Native.Nat.{ℕ, ◌≤◌}
 use mathlib.Core.Path.{◌≡◌, refl, sym, ap, subst, ◌∙◌}
 use mathlib.Core.List.{List}
 use lib.ListN.{length}
-use Rattle.automata.specs.Answer.{◌>>=◌, Answer, ok}
+use Rattle.automata.specs.Answer.{◌>>=◌, Answer, ok, refused}
 use Rattle.automata.specs.Automaton.{Automaton}
 use Rattle.automata.specs.Table.{WellFormed}
 use Rattle.automata.specs.TapePair.{tapes_of}
@@ -16,12 +16,9 @@ use Rattle.automata.specs.Calls.JoinSteps.{intersect_step, drop_step}
 use Rattle.automata.proofs.CallFacts.{decode_put, put_gave, given-ok, and_then_refused, and_then_given}
 use Rattle.automata.proofs.SoundFacts.{sound, sound_decoded, sound_well_formed, sound_holds}
 use Rattle.laws.proofs.Results
-use Rattle.table.specs.declared.answer.Refusal.{Refusal}
 use Rattle.table.specs.declared.answer.Counts.{Counts}
-use Rattle.table.specs.declared.answer.TableAnswer.{TableAnswer}
-use Rattle.table.specs.declared.answer.TableAnswer.TheVariants.{Table, Refused}
 use Rattle.table.specs.declared.pair.PairList.{PairList}
-use Rattle.table.specs.Answers.{refusal_number, counts_as, table_as, lent}
+use Rattle.table.specs.Answers.{counts_as, lent}
 use Rattle.table.specs.Pairs.{pairs_as, Named}
 use Rattle.intersect_room.specs.declared.room.Room.{Room}
 use Rattle.join_steps.specs.Steps.{SecondsDroppable, Keepable}
@@ -48,10 +45,6 @@ made_table r s c states arcs e =
       decoded = λ w. ap decode_table (sym g.2) ∙ decode_put g.0 w s;
     }
 
--- the answer of a step, by what it was
-pub told : (t : TableAnswer) (c : Counts) (states arcs : List ℕ) (o : Made) → t ≡ Table c → made_of (table_as t) states arcs ≡ o → made_of (ok (counts_as c)) states arcs ≡ o
-told t c states arcs o q e = subst (λ (x : TableAnswer). made_of (table_as x) states arcs ≡ o) q e
-
 -- ---- after the auto-intersection
 module _ (m : Memory) (pairs : PairList) (room : Room) (for_states for_arcs work : ℕ) (x : Keepable m pairs room for_states for_arcs work) (s : Slices) where
   -- the steps that are left
@@ -62,18 +55,16 @@ module _ (m : Memory) (pairs : PairList) (room : Room) (for_states for_arcs work
   step = intersect_step m (pairs_as pairs) s
 
   -- a refusal ends them
-  pub keep_refused : (t : TableAnswer) (why : Refusal) (states arcs : List ℕ) → t ≡ Refused why → made_of (table_as t) states arcs ≡ step
-      → made_of (table_as t) states arcs ≡ and_then step next
-  keep_refused t why states arcs q e = e ∙ sym (and_then_refused step next (refusal_number why) (ap (λ (o : Made). o.answer) (sym e) ∙ ap table_as q))
+  pub keep_refused : (n : ℕ) (states arcs : List ℕ) → made_of (refused n) states arcs ≡ step → made_of (refused n) states arcs ≡ and_then step next
+  keep_refused n states arcs e = e ∙ sym (and_then_refused step next n (ap (λ (o : Made). o.answer) (sym e)))
 
   -- what is kept is a table, of which the second tapes can be dropped
-  pub kept_droppable : (t : TableAnswer) (c : Counts) (states arcs : List ℕ) → t ≡ Table c → made_of (table_as t) states arcs ≡ step
-      → SecondsDroppable (lent c states arcs) pairs
+  pub kept_droppable : (c : Counts) (states arcs : List ℕ) → made_of (ok (counts_as c)) states arcs ≡ step → SecondsDroppable (lent c states arcs) pairs
   unfolding intersect_step
-  kept_droppable t₀ c states arcs q e =
+  kept_droppable c states arcs e =
       let i = x.keeps in
       let e' : made_of (ok (counts_as c)) states arcs ≡ put (intersect_on (space_of s) (pairs_as pairs) (table_of m)) s =
-      told t₀ c states arcs step q e ∙ ap (λ (r : Answer (Automaton ℕ)). put (r >>= λ P. intersect_on (space_of s) (pairs_as pairs) P) s) (sound_decoded m i.sound) in
+      e ∙ ap (λ (r : Answer (Automaton ℕ)). put (r >>= λ P. intersect_on (space_of s) (pairs_as pairs) P) s) (sound_decoded m i.sound) in
       let t = made_table (intersect_on (space_of s) (pairs_as pairs) (table_of m)) s (counts_as c) states arcs e' in
       let w = (Results.intersected (space_of s) (pairs_as pairs) (table_of m) t.automaton (sound_well_formed m i.sound) t.gave).well_formed in
       let same : m.tapes ≡ c.tapes =
@@ -85,7 +76,7 @@ module _ (m : Memory) (pairs : PairList) (room : Room) (for_states for_arcs work
       }
 
   -- dropping them ends the steps
-  pub keep_dropped : (t : TableAnswer) (c : Counts) (states arcs : List ℕ) (o : Made) → t ≡ Table c → made_of (table_as t) states arcs ≡ step
+  pub keep_dropped : (c : Counts) (states arcs : List ℕ) (o : Made) → made_of (ok (counts_as c)) states arcs ≡ step
       → o ≡ drop_step (lent c states arcs) (seconds (tapes_of (pairs_as pairs))) (slices_of states arcs) → o ≡ and_then step next
-  keep_dropped t c states arcs o q e z =
-      z ∙ sym (and_then_given (made_of (ok (counts_as c)) states arcs) next (counts_as c) refl) ∙ ap (λ (p : Made). and_then p next) (told t c states arcs step q e)
+  keep_dropped c states arcs o e z =
+      z ∙ sym (and_then_given (made_of (ok (counts_as c)) states arcs) next (counts_as c) refl) ∙ ap (λ (p : Made). and_then p next) e

@@ -7,7 +7,7 @@ use lib.Dec.{leb}
 use lib.ListN.{length}
 use Rattle.automata.specs.Limits.{max_delay}
 use Rattle.automata.specs.Lists.{and}
-use Rattle.automata.specs.Answer.{ok}
+use Rattle.automata.specs.Answer.{ok, refused}
 use Rattle.automata.specs.OrderedSum.{ℕ_sum}
 use Rattle.automata.specs.Table.{weight_fits}
 use Rattle.automata.specs.TapePair.{Pair, TapePair, tapes_of, placed, behind, limits_fit}
@@ -22,18 +22,15 @@ use Rattle.automata.proofs.PairFacts.{within_∈, tapes_behind}
 use Rattle.automata.proofs.ProductTable.{product_tapes}
 use Rattle.automata.proofs.SoundFacts.{sound, sound_well_formed, sound_holds}
 use Rattle.laws.proofs.Results
-use Rattle.table.specs.declared.answer.Refusal.{Refusal}
 use Rattle.table.specs.declared.answer.Counts.{Counts}
-use Rattle.table.specs.declared.answer.TableAnswer.{TableAnswer}
-use Rattle.table.specs.declared.answer.TableAnswer.TheVariants.{Table, Refused}
 use Rattle.table.specs.declared.pair.PairList.{PairList}
-use Rattle.table.specs.Answers.{refusal_number, counts_as, table_as, lent}
+use Rattle.table.specs.Answers.{counts_as, lent}
 use Rattle.table.specs.Pairs.{pairs_as, Named}
 use Rattle.pairs.specs.Judgement.{Moved}
 use Rattle.intersect_room.specs.declared.room.Room.{Room}
 use Rattle.product.specs.Multiplied.{Multipliable}
 use Rattle.join_steps.specs.Steps.{Keepable, Joinable}
-use Rattle.join_steps.proofs.KeepFacts.{made_table, told}
+use Rattle.join_steps.proofs.KeepFacts.{made_table}
 
 -- ---- the limits
 
@@ -56,24 +53,21 @@ product_ready a b pairs room for_product_states for_product_arcs for_states for_
 
 module _ (a b : Memory) (pairs : PairList) (p s : Slices) where
   -- the steps of the join
-  abbrev all_steps_lem : Made
-  all_steps_lem = join_by_calls (table_of a) (table_of b) (pairs_as pairs) p s
+  abbrev all_steps : Made
+  all_steps = join_by_calls (table_of a) (table_of b) (pairs_as pairs) p s
 
   abbrev product : Made
   product = product_step (table_of a) (table_of b) p
 
   -- a refusal ends them, and the result is as it was
-  pub product-refused : (t : TableAnswer) (why : Refusal) (states arcs : List ℕ) → t ≡ Refused why → made_of (table_as t) states arcs ≡ product
-      → made_of (table_as t) s.states s.arcs ≡ all_steps_lem
-  product-refused t why states arcs q e =
-      ap (λ (x : TableAnswer). made_of (table_as x) s.states s.arcs) q ∙ sym (put_refused s (refusal_number why))
-      ∙ sym (join-product-refused (table_of a) (table_of b) (pairs_as pairs) p s (refusal_number why) (ap (λ (o : Made). o.answer) (sym e) ∙ ap table_as q))
+  pub product-refused : (n : ℕ) (states arcs : List ℕ) → made_of (refused n) states arcs ≡ product → made_of (refused n) s.states s.arcs ≡ all_steps
+  product-refused n states arcs e =
+      sym (put_refused s n) ∙ sym (join-product-refused (table_of a) (table_of b) (pairs_as pairs) p s n (ap (λ (o : Made). o.answer) (sym e)))
 
   -- else the other steps follow on what stands in the product's space
-  pub product-given : Sound a → (t : TableAnswer) (c : Counts) (states arcs : List ℕ) (r : PairList) (o : Made) → t ≡ Table c → made_of (table_as t) states arcs ≡ product
-      → Moved a.tapes pairs r → o ≡ and_then (intersect_step (lent c states arcs) (pairs_as r) s) (λ K left. drop_step K (seconds (tapes_of (pairs_as r))) left) → o ≡ all_steps_lem
-  product-given h t c states arcs r o q e₀ v z =
-      let e : made_of (ok (counts_as c)) states arcs ≡ product = told t c states arcs product q e₀ in
+  pub product-given : Sound a → (c : Counts) (states arcs : List ℕ) (r : PairList) (o : Made) → made_of (ok (counts_as c)) states arcs ≡ product
+      → Moved a.tapes pairs r → o ≡ and_then (intersect_step (lent c states arcs) (pairs_as r) s) (λ K left. drop_step K (seconds (tapes_of (pairs_as r))) left) → o ≡ all_steps
+  product-given h c states arcs r o e v z =
       let kept : pairs_as r ≡ behind (table_of a).tapes (pairs_as pairs) =
       v.pairs ∙ ap (λ (n : ℕ). behind n (pairs_as pairs)) (sound_holds a h).tapes in
       z
@@ -84,11 +78,11 @@ module _ (a b : Memory) (pairs : PairList) (p s : Slices) where
 
   -- what stands there is a table that can be kept on the moved pairs
   pub product_keepable : (room : Room) (work size : ℕ) → Joinable a b pairs room (length p.states) (length p.arcs) (length s.states) (length s.arcs) work → size ≡ work
-      → (t : TableAnswer) (c : Counts) (states arcs : List ℕ) (r : PairList) → t ≡ Table c → made_of (table_as t) states arcs ≡ product
+      → (c : Counts) (states arcs : List ℕ) (r : PairList) → made_of (ok (counts_as c)) states arcs ≡ product
       → Moved a.tapes pairs r → length r.pairs ≡ 4 → Keepable (lent c states arcs) r room (length s.states) (length s.arcs) size
   unfolding product_step
-  product_keepable room work size x long t₀ c states arcs r q e v four =
-      let t = made_table (cross_product ℕ_sum weight_fits (space_of p) (table_of a) (table_of b)) p (counts_as c) states arcs (told t₀ c states arcs product q e) in
+  product_keepable room work size x long c states arcs r e v four =
+      let t = made_table (cross_product ℕ_sum weight_fits (space_of p) (table_of a) (table_of b)) p (counts_as c) states arcs e in
       let n = (sound_holds a x.first).tapes in
       let m = (sound_holds b x.second).tapes in
       let made = Results.crossed (space_of p) (table_of a) (table_of b) t.automaton (sound_well_formed a x.first) (sound_well_formed b x.second)

@@ -12,7 +12,7 @@ ghost use Rattle.join_steps.specs.Steps.{SecondsDroppable, Keepable};
 use crate::mask::second_tapes;
 use intersect::step::intersect_step;
 use intersect_offers::plan::Plan;
-use table::answer::{Counts, TableAnswer};
+use table::answer::{Counts, Refusal};
 use table::pair::PairList;
 use tapes::drop::drop_in_place;
 
@@ -23,8 +23,7 @@ fn drop_seconds(counts: Counts, pairs: PairList, states: &[u8], arcs: &mut [u8])
         ≡ drop_step (lent counts states.now arcs.old) (seconds (tapes_of (pairs_as pairs)))
         (slices_of states.now arcs.old) }
 {
-    let mask = second_tapes(pairs);
-    drop_in_place(counts, mask, states, arcs)
+    drop_in_place(counts, second_tapes(pairs), states, arcs)
 }
 
 // The steps after the product, by a plan on pairs of its tapes: what is kept of it, without the second tapes.
@@ -35,7 +34,7 @@ pub fn keep_firsts(
     out_states: &mut [u8],
     out_arcs: &mut [u8],
     work: &mut [u8],
-) -> TableAnswer
+) -> Result<Counts, Refusal>
     requires { Keepable (lent plan.counts states.now arcs.now) plan.pairs plan.room
         (length out_states.old) (length out_arcs.old) (length work.old) }
     ensures { made_of (table_as result) out_states.new out_arcs.new
@@ -44,9 +43,9 @@ pub fn keep_firsts(
         (λ K left. drop_step K (seconds (tapes_of (pairs_as plan.pairs))) left) }
 {
     let answer = intersect_step(plan, states, arcs, out_states, out_arcs, work);
-    let TableAnswer::Table(kept) = answer else {
+    // by `let else`, not by `?`: so document 01 has each step of a join hand its refusal on
+    let Ok(kept) = answer else {
         return answer;
     };
-    let pairs = plan.pairs;
-    TableAnswer::Table(drop_seconds(kept, pairs, out_states, out_arcs))
+    Ok(drop_seconds(kept, plan.pairs, out_states, out_arcs))
 }

@@ -17,15 +17,12 @@ use Rattle.automata.specs.Calls.Outcome.{found_of}
 use Rattle.automata.specs.Calls.Work.{lookup_work, enough}
 use Rattle.automata.specs.Calls.Lookup.{lookup_answer, lookup_outcome}
 use Rattle.table.specs.declared.answer.Refusal.{Refusal}
-use Rattle.table.specs.declared.answer.Judged.{Judged}
-use Rattle.table.specs.declared.answer.Judged.TheVariants.{Refused}
-use Rattle.table.specs.Answers.{judged_as}
+use Rattle.std.specs.Prelude.{Err}
+use Rattle.table.specs.Answers.{refusal_number}
 use Rattle.lookup_tuple.specs.declared.Strings.{Strings}
-use Rattle.lookup_tuple.specs.declared.judge.TupleJudged.{TupleJudged}
 use Rattle.lookup_tuple.specs.Strings.{Stands}
 use Rattle.lookup_tuple.specs.Positions.{positions}
 use Rattle.lookup_cells.specs.Fillable.{Fillable}
-use Rattle.lookup.specs.Answers.{none_after}
 use Rattle.lookup.specs.Judgement.{answer_by, Called, JudgedCall}
 use Rattle.lookup.proofs.JudgeFacts.{judged_refused, called_answer, called_size, cells_are, answers_by, tests-first}
 
@@ -40,10 +37,8 @@ module _ (m : Memory) (text work : List ℕ) where
   answer_is = answers_by m text (λ A t. lookup_call (enough (lookup_work (size A) t) work) A t) told (λ A t. tests-first A.tapes t (told A t))
 
   -- a table or a tuple that is refused
-  pub call_refused : (r : TupleJudged) (why : Refusal) (a : Answer (Option ℕ)) → JudgedCall m text r → r.judged ≡ Refused why
-      → a ≡ none_after (judged_as r.judged) → a ≡ lookup_answer m text work
-  call_refused r why a j f g =
-      g ∙ ap (λ (x : Judged). none_after (judged_as x)) f ∙ sym (judged_refused m text r j why f told) ∙ sym answer_is
+  pub call_refused : (why : Refusal) → JudgedCall m text (Err why) → refused (refusal_number why) ≡ lookup_answer m text work
+  call_refused why j = sym (answer_is ∙ judged_refused m text why j told)
 
   module _ (s : Strings) (k : Called m text s) (n : ℕ) (e : n ≡ m.states * positions s.lengths) where
     -- the answer, once the tuple is judged

@@ -19,14 +19,12 @@ use Rattle.automata.specs.Calls.Lookup.{lines}
 use Rattle.automata.proofs.AnswerFacts.{refused≢ok}
 use Rattle.automata.proofs.SoundFacts.{sound, sound_decoded, sound_holds}
 use Rattle.table.specs.declared.answer.Refusal.{Refusal}
-use Rattle.table.specs.declared.answer.Judged.{Judged}
-use Rattle.table.specs.declared.answer.Judged.TheVariants.{Fine, Refused}
-use Rattle.table.specs.Answers.{judged_as, refusal_number}
+use Rattle.std.specs.Prelude.{Ok, Err}
+use Rattle.table.specs.Answers.{refusal_number}
 use Rattle.table.proofs.AnswerFacts.{forget-ok}
 use Rattle.table.proofs.SoundFacts.{few_tapes, few_states}
 use Rattle.lookup_tuple.specs.declared.Strings.{Strings}
-use Rattle.lookup_tuple.specs.declared.judge.TupleJudged.{TupleJudged}
-use Rattle.lookup_tuple.specs.Judgement.{tuple_tests, tuple_answer, JudgedTuple}
+use Rattle.lookup_tuple.specs.Judgement.{tuple_tests, tuple_answer, TupleJudged, refused_as, JudgedTuple}
 use Rattle.lookup_tuple.specs.Positions.{positions, ShortStrings}
 use Rattle.lookup_tuple.proofs.PositionFacts.{stands_short, stands_positions}
 use Rattle.lookup.specs.Judgement.{answer_by, Called, JudgedCall}
@@ -81,9 +79,8 @@ module _ (m : Memory) (text : List ℕ) where
       go (refused p) k = let q : n ≡ p = cc in ap refused (sym q)
 
   -- a judgement that refuses is the answer
-  pub judged_refused : {X : Type 0} (r : TupleJudged) → JudgedCall m text r → (why : Refusal) → r.judged ≡ Refused why
-      → (onward : Automaton ℕ → Tuple → Answer X) → answer_by m text onward ≡ refused (refusal_number why)
-  judged_refused r j why f onward = judged_first (refusal_number why) (ap judged_as (sym f) ∙ j.answer) onward
+  pub judged_refused : {X : Type 0} (why : Refusal) → JudgedCall m text (Err why) → (onward : Automaton ℕ → Tuple → Answer X) → answer_by m text onward ≡ refused (refusal_number why)
+  judged_refused why j onward = judged_first (refusal_number why) j.answer onward
 
   module _ (s : Strings) (k : Called m text s) where
     -- the answer where both pass
@@ -108,22 +105,21 @@ module _ (m : Memory) (text : List ℕ) where
   -- ---- the judgement by its steps
 
   -- a table that is refused
-  pub table-refused : (j : Judged) (s : Strings) (why : Refusal) → judged_as j ≡ forget (decode_table m) → j ≡ Refused why
-      → JudgedCall m text (record { judged = j; strings = s })
-  table-refused j s why e f = record { answer = e ∙ go (decode_table m) (sym (ap judged_as f) ∙ e); called = λ g. absurd (refused≢ok (ap judged_as (sym f ∙ g))) }
+  pub table-refused : (why : Refusal) → refused (refusal_number why) ≡ forget (decode_table m) → JudgedCall m text (Err why)
+  table-refused why e = record { answer = go (decode_table m) e; called = λ s g. cc }
     where
       go : (d : Answer (Automaton ℕ)) → refused (refusal_number why) ≡ forget d
-          → forget d ≡ (d >>= λ A. lines text >>= λ t. tuple_tests A.tapes t >>= λ u. ok (tt {0}))
+          → refused (refusal_number why) ≡ (d >>= λ A. lines text >>= λ t. tuple_tests A.tapes t >>= λ u. ok (tt {0}))
       go (ok A) k = absurd (refused≢ok k)
-      go (refused n) k = refl
+      go (refused n) k = let q : refusal_number why ≡ n = cc in ap refused q
 
   -- a table that passes, and the tuple judged
-  pub tuple_judged : (j : Judged) (r : TupleJudged) → judged_as j ≡ forget (decode_table m) → j ≡ Fine → JudgedTuple text m.tapes r → JudgedCall m text r
+  pub tuple_judged : (r : TupleJudged) → ok tt ≡ forget (decode_table m) → JudgedTuple text m.tapes r → JudgedCall m text r
   unfolding tuple_answer
-  tuple_judged j r e f p = record { answer = p.answer ∙ sym by_tuple; called = called }
+  tuple_judged r e p = record { answer = p.answer ∙ sym by_tuple; called = called }
     where
       s : Sound m
-      s = let a = forget-ok (decode_table m) (sym e ∙ ap judged_as f) in sound m a.0 a.1
+      s = let a = forget-ok (decode_table m) (sym e) in sound m a.0 a.1
 
       unit : (a : Answer (Unit {0})) → (a >>= λ u. ok (tt {0})) ≡ a
       unit (ok u) = refl
@@ -138,13 +134,13 @@ module _ (m : Memory) (text : List ℕ) where
           ap (λ (d : Answer (Automaton ℕ)). d >>= λ A. lines text >>= λ t. tuple_tests A.tapes t >>= λ u. ok (tt {0})) (sound_decoded m s)
           ∙ each (table_of m).tapes (lines text) ∙ ap (λ (n : ℕ). lines text >>= λ t. tuple_tests n t) (sym (sound_holds m s).tapes)
 
-      called : r.judged ≡ Fine → Called m text r.strings
-      called g =
-          let t = p.stands (few_tapes m s) g in record {
+      called : (v : Strings) → r ≡ Ok v → Called m text v
+      called v g =
+          let t = p.stands (few_tapes m s) v g in record {
             sound = s;
             tuple = t.tuple;
             lines_are = t.lines_are;
             stands = t.stands;
             tapes_are = t.tapes_are;
-            passed = sym (ap judged_as (sym g) ∙ p.answer ∙ ap (λ (a : Answer Tuple). a >>= λ z. tuple_tests m.tapes z) t.lines_are);
+            passed = sym (ap refused_as (sym g) ∙ p.answer ∙ ap (λ (a : Answer Tuple). a >>= λ z. tuple_tests m.tapes z) t.lines_are);
           }

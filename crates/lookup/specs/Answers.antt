@@ -1,17 +1,17 @@
 -- What the answer of a lookup by value stands for.
-use Rattle.std.proofs.Math.Option.{Option, none, some}
-use Rattle.std.specs.Prelude.{ℕ}
-use Rattle.automata.specs.Answer.{◌>>=◌, Answer, ok, refused}
+use Rattle.std.specs.Prelude as rust
+use Rattle.std.specs.Prelude.{Ok, Err, ℕ}
+use Rattle.std.proofs.Math.Option.{Option}
+use Rattle.automata.specs.Answer.{Answer, ok, refused}
 use Rattle.table.specs.Answers.{refusal_number}
-use Rattle.lookup.specs.declared.call.WeightAnswer.{WeightAnswer}
-use Rattle.lookup.specs.declared.call.WeightAnswer.TheVariants.{Weight, Nothing, Refused}
+use Rattle.table.specs.Records.{option_of}
+use Rattle.table.specs.declared.answer.Refusal.{Refusal}
 
--- the weight, none, or a refusal
+-- what a lookup answers: a weight, or none, or a refusal
+abbrev pub WeightAnswer : Type 0
+WeightAnswer = rust.Result (rust.Option ℕ) Refusal
+
+-- what it stands for
 abbrev pub weight_as : WeightAnswer → Answer (Option ℕ)
-weight_as (Weight w) = ok (some w)
-weight_as Nothing = ok none
-weight_as (Refused r) = refused (refusal_number r)
-
--- the refusal of a judgement, and none where it has none
-abbrev pub none_after : Answer (Unit {0}) → Answer (Option ℕ)
-none_after a = a >>= λ u. ok none
+weight_as (Ok w) = ok (option_of w)
+weight_as (Err r) = refused (refusal_number r)

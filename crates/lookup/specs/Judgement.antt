@@ -1,15 +1,12 @@
 -- The judgement of a call that reads a table and the text of a tuple: first the table, then the tuple.
-use Rattle.std.specs.Prelude.{◌≡◌, List, ℕ, length}
+use Rattle.std.specs.Prelude.{Ok, ◌≡◌, List, ℕ, length}
 use Rattle.automata.specs.Answer.{◌>>=◌, Answer, ok}
 use Rattle.automata.specs.Automaton.{Automaton, Tuple}
 use Rattle.automata.specs.Memory.{Memory, Sound, decode_table}
 use Rattle.automata.specs.Calls.Lookup.{lines}
-use Rattle.table.specs.declared.answer.Judged.TheVariants.{Fine}
-use Rattle.table.specs.Answers.{judged_as}
 use Rattle.lookup_tuple.specs.declared.Strings.{Strings}
-use Rattle.lookup_tuple.specs.declared.judge.TupleJudged.{TupleJudged}
 use Rattle.lookup_tuple.specs.Strings.{Stands}
-use Rattle.lookup_tuple.specs.Judgement.{tuple_tests}
+use Rattle.lookup_tuple.specs.Judgement.{tuple_tests, TupleJudged, refused_as}
 
 -- the first refusal of the table, the text and the tuple, else what is answered of a table and a tuple
 abbrev pub answer_by : {X : Type 0} → Memory → List ℕ → (Automaton ℕ → Tuple → Answer X) → Answer X
@@ -26,5 +23,5 @@ pub record Called (m : Memory) (text : List ℕ) (s : Strings) : Type 0 where
 
 -- the first refusal, and where there is none the table and the tuple
 pub record JudgedCall (m : Memory) (text : List ℕ) (r : TupleJudged) : Type 0 where
-  pub answer : judged_as r.judged ≡ answer_by m text (λ A t. ok tt)
-  pub called : r.judged ≡ Fine → Called m text r.strings
+  pub answer : refused_as r ≡ answer_by m text (λ A t. ok tt)
+  pub called : (s : Strings) → r ≡ Ok s → Called m text s

@@ -1,27 +1,22 @@
 // The judgement of a call that reads a table and the text of a tuple, and how many work cells such a call has.
 ghost use Rattle.std.specs.Prelude.{◌≡◌, ◌*◌, ◌≤◌};
-ghost use Rattle.table.specs.Answers.{lent};
+ghost use Rattle.table.specs.Answers.{memory};
 ghost use Rattle.lookup_tuple.specs.Positions.{positions, ShortStrings};
 ghost use Rattle.lookup.specs.Judgement.{JudgedCall};
 
 use lookup_tuple::Strings;
-use lookup_tuple::judge::{TupleJudged, judge_tuple, no_strings};
+use lookup_tuple::judge::judge_tuple;
 use lookup_tuple::size::combinations;
-use table::answer::{Counts, Judged};
+use table::answer::Refusal;
 use table::judge::judge;
+use table::lent::Table;
 
-// The table, then the tuple.
-pub fn judge_call(counts: Counts, states: &[u8], arcs: &[u8], tuple: &[u8]) -> TupleJudged
-    ensures { JudgedCall (lent counts states.now arcs.now) tuple.now result }
+// The table, then the tuple: the first refusal, or the strings of the tuple by their places.
+pub fn judge_call(table: &Table, tuple: &[u8]) -> Result<Strings, Refusal>
+    ensures { JudgedCall (memory table.now) tuple.now result }
 {
-    let table = judge(counts, states, arcs);
-    let Judged::Fine = table else {
-        return TupleJudged {
-            judged: table,
-            strings: no_strings(),
-        };
-    };
-    judge_tuple(tuple, counts.tapes)
+    judge(table)?;
+    judge_tuple(tuple, table.counts.tapes)
 }
 
 // One work cell for each state and combination of positions.

@@ -7,9 +7,8 @@ use Prim.Native.Nat.{ℕ, suc, ◌+◌, ◌-◌, ◌*◌, ◌≤◌, ◌<◌, mi
 use native.Mathlib.Omega.{arith}
 use lib.ListN.{length, get_or}
 use borrow.Author.Tests.{lt-ltb, le-ltb}
-use Rattle.table.specs.Records.{state_at}
-use Rattle.table.specs.declared.record.Weight.{Weight}
-use Rattle.table.specs.declared.record.Weight.TheVariants.{Absent, Present}
+use Rattle.table.specs.Records.{Weight, state_at}
+use Rattle.std.specs.Prelude.{Some, None}
 use Rattle.table.specs.declared.record.State.{State}
 use Rattle.table.proofs.RowFacts.{mul_step}
 use Rattle.lookup_moves.specs.Distances.{far, weight_of, cells_of, lowered, Lowers}
@@ -19,16 +18,16 @@ use Rattle.automata.specs.Layout.{state_size}
 -- ---- final weights
 
 module _ (states : List ℕ) (all q : ℕ) (st : State) (e : st ≡ state_at (state_size * q) states) where
-  pub starts_none : (w : List ℕ) → st.last ≡ Absent → Starts states all q w w
+  pub starts_none : (w : List ℕ) → st.last ≡ None → Starts states all q w w
   unfolding started
   starts_none w f =
-      let g : (state_at (state_size * q) states).last ≡ Absent = ap (λ (z : State). z.last) (sym e) ∙ f in
+      let g : (state_at (state_size * q) states).last ≡ None = ap (λ (z : State). z.last) (sym e) ∙ f in
       record { cells_are = sym (ap (λ (z : Weight). ended_by z (q * all + (all - 1)) (cells_of w)) g); same_length = refl }
 
-  pub starts_some : (x k : ℕ) (changed : Bool) (u w : List ℕ) → st.last ≡ Present x → k ≡ q * all + (all - 1) → Lowers k x changed u w → Starts states all q u w
+  pub starts_some : (x k : ℕ) (changed : Bool) (u w : List ℕ) → st.last ≡ Some x → k ≡ q * all + (all - 1) → Lowers k x changed u w → Starts states all q u w
   unfolding started
   starts_some x k changed u w f i l =
-      let g : (state_at (state_size * q) states).last ≡ Present x = ap (λ (z : State). z.last) (sym e) ∙ f in
+      let g : (state_at (state_size * q) states).last ≡ Some x = ap (λ (z : State). z.last) (sym e) ∙ f in
       record {
         cells_are = l.cells_are ∙ ap (λ (j : ℕ). lowered j x (cells_of w)) i ∙ sym (ap (λ (z : Weight). ended_by z (q * all + (all - 1)) (cells_of w)) g);
         same_length = l.same_length;
@@ -65,16 +64,16 @@ module _ (states : List ℕ) (n all : ℕ) (v : List ℕ) where
 -- ---- initial weights
 
 module _ (states : List ℕ) (all q : ℕ) (w : List ℕ) (st : State) (e : st ≡ state_at (state_size * q) states) where
-  pub from-none : st.initial ≡ Absent → far ≡ from_state states all (cells_of w) q
+  pub from-none : st.initial ≡ None → far ≡ from_state states all (cells_of w) q
   unfolding from_state
   from-none f =
-      let g : (state_at (state_size * q) states).initial ≡ Absent = ap (λ (z : State). z.initial) (sym e) ∙ f in
+      let g : (state_at (state_size * q) states).initial ≡ None = ap (λ (z : State). z.initial) (sym e) ∙ f in
       sym (ap (λ (z : Weight). beginning z (get_or (cells_of w) (q * all + 0) 0)) g)
 
-  pub from_some : (x k y : ℕ) → st.initial ≡ Present x → k ≡ q * all + 0 → y ≡ get_or (cells_of w) k 0 → x + y ≡ from_state states all (cells_of w) q
+  pub from_some : (x k y : ℕ) → st.initial ≡ Some x → k ≡ q * all + 0 → y ≡ get_or (cells_of w) k 0 → x + y ≡ from_state states all (cells_of w) q
   unfolding from_state
   from_some x k y f i j =
-      let g : (state_at (state_size * q) states).initial ≡ Present x = ap (λ (z : State). z.initial) (sym e) ∙ f in
+      let g : (state_at (state_size * q) states).initial ≡ Some x = ap (λ (z : State). z.initial) (sym e) ∙ f in
       ap (λ (z : ℕ). x + z) (j ∙ ap (λ (z : ℕ). get_or (cells_of w) z 0) i) ∙ sym (ap (λ (z : Weight). beginning z (get_or (cells_of w) (q * all + 0) 0)) g)
 
 pub least_turn : (states : List ℕ) (all : ℕ) (xs : List ℕ) (q l x r : ℕ) → l ≡ least_up_to q states all xs → x ≡ from_state states all xs q → r ≡ min l x

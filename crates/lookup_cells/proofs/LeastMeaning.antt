@@ -22,10 +22,9 @@ use Rattle.automata.proofs.Cells.{beginnings, positions_beginnings, drop_all_beg
 use Rattle.automata.specs.Limits.{max_string}
 use Rattle.automata.specs.Layout.{state_size}
 use Rattle.table.specs.Answers.{lent}
-use Rattle.table.specs.Records.{option_of, state_at}
+use Rattle.table.specs.Records.{Weight, option_of, state_at}
 use Rattle.table.specs.declared.answer.Counts.{Counts}
-use Rattle.table.specs.declared.record.Weight.{Weight}
-use Rattle.table.specs.declared.record.Weight.TheVariants.{Absent, Present}
+use Rattle.std.specs.Prelude.{Some, None}
 use Rattle.table.proofs.SoundFacts.{state_loaded, few_states}
 use Rattle.lookup_tuple.specs.declared.Strings.{Strings}
 use Rattle.lookup_tuple.specs.Strings.{Stands}
@@ -101,8 +100,8 @@ module _ (c : Counts) (states arcs : List ℕ) (sound : Sound (lent c states arc
     from_means = go (state_at (state_size * q) states).initial refl
       where
         go : (x : Weight) → (state_at (state_size * q) states).initial ≡ x → weight_of (beginning x (get_or xs (q * all + 0) 0)) ≡ from q
-        go Absent e = let i : initial_of table q ≡ none = initial_is ∙ ap option_of e in rw (from, i)
-        go (Present w) e =
+        go None e = let i : initial_of table q ≡ none = initial_is ∙ ap option_of e in rw (from, i)
+        go (Some w) e =
             let i : initial_of table q ≡ some w = initial_is ∙ ap option_of e in
             rw (from, i) (weight-plus w (get_or xs (q * all + 0) 0) (best ℕ_sum table (arcs_enough ℕ_sum table t) q t)
             ((weights_bounded table (sound_well_formed (lent c states arcs) sound)).initials q w i) best_is

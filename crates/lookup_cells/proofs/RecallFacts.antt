@@ -9,9 +9,7 @@ use native.Mathlib.Omega.{arith}
 use lib.ListN.{length, get_or, set, length-set, replicate, length-replicate, get_or-replicate}
 use lib.Seq.{get_or-set_same, get_or-set_other}
 use Rattle.lookup_moves.specs.declared.spot.Spot.{Spot}
-use Rattle.lookup_moves.specs.declared.moves.Step.{Step}
-use Rattle.lookup_moves.specs.declared.moves.Step.TheVariants.{Moved, Stuck}
-use Rattle.lookup_moves.specs.Moves.{step_as, spot_with, Labelled}
+use Rattle.lookup_moves.specs.Moves.{spot_with, Labelled}
 use Rattle.lookup_moves.proofs.MoveFacts.{moves_any, moves_alike}
 use Rattle.lookup_labels.specs.Numbers.{Numbered}
 use Rattle.lookup_cells.specs.Pushes.{back_by}
@@ -20,12 +18,6 @@ use Rattle.automata.specs.Layout.{arc_size}
 use Rattle.table.specs.Arcs.{labels_start}
 
 -- ---- the number of a move
-
-pub number-stuck : (r : Step) (o : Option ℕ) → step_as r ≡ o → r ≡ Stuck → 18446744073709551615 ≡ back_number o
-number-stuck r o e k = let f = rw k at e in ap back_number f
-
-pub number-moved : (r : Step) (o : Option ℕ) (by : ℕ) → step_as r ≡ o → r ≡ Moved by → by ≡ back_number o
-number-moved r o by e k = let f = rw k at e in ap back_number f
 
 -- one that is too large for a combination stands for no move
 back_none : (o : Option ℕ) (by number : ℕ) → by ≡ back_number o → ((k : ℕ) → o ≡ some k → k ≤ number) → number < by → o ≡ none

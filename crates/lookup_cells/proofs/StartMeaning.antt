@@ -27,10 +27,9 @@ use Rattle.automata.specs.Layout.{state_size}
 use Rattle.table.specs.Region.{part}
 use Rattle.table.specs.Endian.{le}
 use Rattle.table.specs.Answers.{lent}
-use Rattle.table.specs.Records.{option_of, state_at}
+use Rattle.table.specs.Records.{Weight, option_of, state_at}
 use Rattle.table.specs.declared.answer.Counts.{Counts}
-use Rattle.table.specs.declared.record.Weight.{Weight}
-use Rattle.table.specs.declared.record.Weight.TheVariants.{Absent, Present}
+use Rattle.std.specs.Prelude.{Some, None}
 use Rattle.table.proofs.PartFacts.{length_part, get_d_part}
 use Rattle.table.proofs.SoundFacts.{state_loaded}
 use Rattle.lookup_moves.specs.Distances.{far, cells_of, lowered, far_byte}
@@ -223,8 +222,8 @@ module _ (c : Counts) (states arcs : List ℕ) (sound : Sound (lent c states arc
     begun_next all a = go (state_at (state_size * q) states).last refl
       where
         go : (x : Weight) → (state_at (state_size * q) states).last ≡ x → Begun (suc q) (ended_by x (q * all + (all - 1)) xs)
-        go Absent f = begun_none (final_is ∙ ap option_of f)
-        go (Present w) f = subst (λ (k : ℕ). Begun (suc q) (lowered (q * k + (k - 1)) w xs)) (sym a) (begun_some w (final_is ∙ ap option_of f))
+        go None f = begun_none (final_is ∙ ap option_of f)
+        go (Some w) f = subst (λ (k : ℕ). Begun (suc q) (lowered (q * k + (k - 1)) w xs)) (sym a) (begun_some w (final_is ∙ ap option_of f))
 
   begun_all : (n q : ℕ) (all : ℕ) → all ≡ combinations t → q + n ≡ c.states → (xs : List ℕ) → Begun q xs → Begun c.states (started_from n q states all xs)
   unfolding started_from
@@ -254,6 +253,6 @@ started_rest (suc n) q states all pos xs j out =
     started_rest n (q + 1) states all pos (started states all q xs) j (subst (λ (k : ℕ). k * all ≤ j) e out) ∙ ended_rest (state_at (state_size * q) states).last
   where
     ended_rest : (w : Weight) → get_or (ended_by w (q * all + (all - 1)) xs) j 0 ≡ get_or xs j 0
-    ended_rest Absent = refl
-    ended_rest (Present w) = lowered_other (q * all + (all - 1)) w xs j
+    ended_rest None = refl
+    ended_rest (Some w) = lowered_other (q * all + (all - 1)) w xs j
         (λ same. omega (arith, same, out, digits_lt {q = q} {m = q + suc n} {r = all - 1} {c = all} (omega arith) (omega arith)))

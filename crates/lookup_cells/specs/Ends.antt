@@ -1,16 +1,15 @@
 -- The cells of final states at the last combination of positions, and the least weight from the initial states at the
 -- first.
 use Rattle.std.specs.Prelude.{◌≡◌, List, ℕ, zero, suc, ◌+◌, ◌-◌, ◌*◌, ◌≤◌, ◌<◌, min, length, get_or}
-use Rattle.table.specs.Records.{state_at}
-use Rattle.table.specs.declared.record.Weight.{Weight}
-use Rattle.table.specs.declared.record.Weight.TheVariants.{Absent, Present}
+use Rattle.table.specs.Records.{Weight, state_at}
+use Rattle.std.specs.Prelude.{Some, None}
 use Rattle.lookup_moves.specs.Distances.{far, cells_of, lowered}
 use Rattle.automata.specs.Layout.{state_size}
 
 -- the cells after a final weight was found for cell k, where there is one
 abbrev pub ended_by : Weight → ℕ → List ℕ → List ℕ
-ended_by Absent k xs = xs
-ended_by (Present w) k xs = lowered k w xs
+ended_by None k xs = xs
+ended_by (Some w) k xs = lowered k w xs
 
 -- the cells after the final weight of state q, there being so many combinations
 unfoldable pub started : List ℕ → ℕ → ℕ → List ℕ → List ℕ
@@ -39,8 +38,8 @@ pub record Stated (states : List ℕ) (n all : ℕ) (work : List ℕ) : Type 0 w
 
 -- an initial weight and the weight from there on
 abbrev pub beginning : Weight → ℕ → ℕ
-beginning Absent x = far
-beginning (Present w) x = w + x
+beginning None x = far
+beginning (Some w) x = w + x
 
 -- of state q
 unfoldable pub from_state : List ℕ → ℕ → List ℕ → ℕ → ℕ

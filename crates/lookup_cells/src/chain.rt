@@ -23,7 +23,7 @@ fn chain_arc(arcs: &[u8], e: usize, index: &mut [u16])
     ensures { index.new ≡ set (set index.old (1024 + e)
         (get_or index.old (target_of arcs.now e) 0)) (target_of arcs.now e) e }
 {
-    let target = target_at(arcs, ARC_SIZE * e).0 as usize;
+    let target = usize::from(target_at(arcs, ARC_SIZE * e).0);
     index[1024 + e] = index[target];
     index[target] = e as u16;
 }
@@ -34,9 +34,7 @@ pub fn chain_arcs(counts: Counts, arcs: &[u8], index: &mut [u16])
         × ((e : _) → e < counts.arcs → target_of arcs.now e < 1024) × (index.old ≡ replicate 9216 65535) }
     ensures { Chained (target_of arcs.now) counts.arcs index.new }
 {
-    let mut left = counts.arcs;
-    while 0 < left {
-        left -= 1;
-        chain_arc(arcs, left, index);
+    for e in (0..counts.arcs).rev() {
+        chain_arc(arcs, e, index);
     }
 }

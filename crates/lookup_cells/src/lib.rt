@@ -2,7 +2,6 @@
 // strings.
 #![tactic(auto)]
 
-pub mod answer;
 pub mod chain;
 pub mod ends;
 pub mod fill;

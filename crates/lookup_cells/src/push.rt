@@ -8,7 +8,7 @@ ghost use Rattle.lookup_cells.specs.Recall.{Fresh, Knows};
 ghost use Rattle.lookup_cells.specs.Queues.{Queue};
 ghost use Rattle.lookup_cells.specs.Pushes.{Spaced, Ready, Marking, Visits, Pushes, PushesAll, AllDone, Marks, Settles};
 
-use crate::queue::{dequeue, enqueue, entry};
+use crate::queue::{dequeue, enqueue};
 use crate::recall::recall;
 use lookup_moves::cell::{FAR, cell_number, lower, weight_at};
 use lookup_moves::spot::Spot;
@@ -48,14 +48,11 @@ fn visit_arc(
     if number < by {
         return false;
     }
-    let source = cell_number(source_at(arcs, at).0 as usize, all, number - by);
-    let target = cell_number(target_at(arcs, at).0 as usize, all, number);
-    let through = arc_weight_at(arcs, at) as u64 + weight_at(work, target);
+    let source = cell_number(usize::from(source_at(arcs, at).0), all, number - by);
+    let target = cell_number(usize::from(target_at(arcs, at).0), all, number);
+    let through = u64::from(arc_weight_at(arcs, at)) + weight_at(work, target);
     let lowered = lower(work, source, through);
-    if by != 0 {
-        return false;
-    }
-    lowered
+    by == 0 && lowered
 }
 
 // Arc e, and its source into the queue where that is so.
@@ -88,11 +85,9 @@ fn push_arc(
     let near = visit_arc(
         counts, arcs, e, text, starts, positions, spans, number, all, numbers, memo, work,
     );
-    if !near {
-        return;
+    if near {
+        enqueue(usize::from(source_at(arcs, ARC_SIZE * e).0), queue);
     }
-    let source = source_at(arcs, ARC_SIZE * e).0 as usize;
-    enqueue(source, queue);
 }
 
 // The arcs into a state.
@@ -124,13 +119,13 @@ fn push_state(
         × Knows counts arcs.now text.now starts.now positions.now
         spans.now number numbers.now memo.new }
 {
-    let mut e = entry(index[state]);
+    let mut e = usize::from(index[state]);
     while e < counts.arcs {
         push_arc(
             counts, arcs, e, text, starts, positions, spans, number, all, numbers, memo, queue,
             work,
         );
-        e = entry(index[1024 + e]);
+        e = usize::from(index[1024 + e]);
     }
 }
 
@@ -139,15 +134,10 @@ fn enqueue_reached(states: usize, spot: Spot, work: &[u8], queue: &mut [u16])
     requires { (states ≤ 1024) × Spaced states spot work.now × Queue queue.old }
     ensures { Marks states spot work.now queue.new queue.old }
 {
-    let mut q: usize = 0;
-    while q < states {
-        let state = q;
-        q += 1;
-        let k = cell_number(state, spot.all, spot.number);
-        if FAR <= weight_at(work, k) {
-            continue;
+    for q in 0..states {
+        if weight_at(work, cell_number(q, spot.all, spot.number)) < FAR {
+            enqueue(q, queue);
         }
-        enqueue(state, queue);
     }
 }
 
@@ -179,10 +169,7 @@ fn push_waiting(
         × Knows counts arcs.now text.now starts.now positions.now
         spans.now number numbers.now memo.new }
 {
-    loop {
-        if queue[2049] == 0 {
-            return;
-        }
+    while queue[2049] != 0 {
         let state = dequeue(queue);
         push_state(
             counts, arcs, text, starts, positions, spans, number, all, numbers, memo, index, state,
@@ -210,16 +197,13 @@ pub fn settle(
         × Queue queue.new × Fresh spot.number memo.new }
 {
     enqueue_reached(counts.states, spot, work, queue);
-    let starts = spot.starts;
-    let positions = spot.positions;
-    let spans = spot.spans;
     push_waiting(
         counts,
         arcs,
         text,
-        &starts,
-        &positions,
-        &spans,
+        &spot.starts,
+        &spot.positions,
+        &spot.spans,
         spot.number,
         spot.all,
         numbers,

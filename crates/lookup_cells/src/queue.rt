@@ -10,13 +10,6 @@ pub fn no_states() -> [u16; 2050]
     [0; 2050]
 }
 
-// A number of 16 bits as a wider one.
-pub fn entry(n: u16) -> usize
-    ensures { result ≡ n }
-{
-    n as usize
-}
-
 // A state behind the last, unless it waits.
 pub fn enqueue(state: usize, queue: &mut [u16])
     requires { (state < 1024) × Queue queue.old }
@@ -25,8 +18,8 @@ pub fn enqueue(state: usize, queue: &mut [u16])
     if queue[state] != 0 {
         return;
     }
-    let count = entry(queue[2049]);
-    let place = (entry(queue[2048]) + count) % 1024;
+    let count = usize::from(queue[2049]);
+    let place = (usize::from(queue[2048]) + count) % 1024;
     queue[1024 + place] = state as u16;
     queue[state] = 1;
     queue[2049] = (count + 1) as u16;
@@ -37,9 +30,9 @@ pub fn dequeue(queue: &mut [u16]) -> usize
     requires { Queue queue.old × (0 < count_of queue.old) }
     ensures { Dequeues result queue.new queue.old }
 {
-    let count = entry(queue[2049]);
-    let begin = entry(queue[2048]);
-    let state = entry(queue[1024 + begin]);
+    let count = usize::from(queue[2049]);
+    let begin = usize::from(queue[2048]);
+    let state = usize::from(queue[1024 + begin]);
     queue[2048] = ((begin + 1) % 1024) as u16;
     queue[2049] = (count - 1) as u16;
     queue[state] = 0;

@@ -7,8 +7,7 @@ ghost use Rattle.lookup_cells.specs.Recall.{back_number, back_at, Knows};
 ghost use Rattle.automata.specs.Layout.{arc_size};
 ghost use Rattle.table.specs.Arcs.{labels_start};
 
-use crate::queue::entry;
-use lookup_moves::moves::{Step, moved_back};
+use lookup_moves::moves::moved_back;
 use table::answer::Counts;
 use table::layout::ARC_SIZE;
 
@@ -19,7 +18,8 @@ pub fn no_memo() -> [usize; 2048]
     [18446744073709551615; 2048]
 }
 
-// How far back the labels of arc e lead, 2^64 - 1 where they do not end at the combination.
+// How far back the labels of arc e lead, 2^64 - 1 where they do not end at the combination: a number and no Option, as
+// the memo keeps one word for each answer.
 fn lead_back(
     counts: Counts,
     arcs: &[u8],
@@ -34,7 +34,7 @@ fn lead_back(
     ensures { result ≡ back_number (back_at counts.tapes arcs.now text.now
         starts.now positions.now spans.now e) }
 {
-    let step = moved_back(
+    moved_back(
         arcs,
         ARC_SIZE * e,
         counts.tapes,
@@ -42,11 +42,8 @@ fn lead_back(
         starts,
         positions,
         spans,
-    );
-    match step {
-        Step::Moved(by) => by,
-        Step::Stuck => 18446744073709551615,
-    }
+    )
+    .unwrap_or(18446744073709551615)
 }
 
 // The same, from the memo where it is known there, and kept there.
@@ -72,7 +69,7 @@ pub fn recall(
         × Knows counts arcs.now text.now starts.now positions.now
         spans.now number numbers.now memo.new }
 {
-    let k = entry(numbers[e]);
+    let k = usize::from(numbers[e]);
     if 1024 <= k {
         return lead_back(counts, arcs, e, text, starts, positions, spans);
     }

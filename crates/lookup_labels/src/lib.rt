@@ -2,7 +2,7 @@
 // holds of the other. An arc whose labels got no number has 65,535.
 #![tactic(auto)]
 
-ghost use Rattle.std.specs.Prelude.{◌≡◌, true, ◌+◌, ◌*◌, ◌≤◌, ◌<◌, min, length};
+ghost use Rattle.std.specs.Prelude.{◌≡◌, true, ◌+◌, ◌*◌, ◌≤◌, ◌<◌, length};
 ghost use Rattle.table.specs.Region.{part};
 ghost use Rattle.lookup_labels.specs.Numbers.{words_at, Numbers, Numbered};
 ghost use Rattle.automata.specs.Layout.{arc_size, label_size};
@@ -27,19 +27,12 @@ fn no_owners() -> [u16; 1024]
     [65535; 1024]
 }
 
-// A number of 16 bits as a wider one.
-fn wide(n: u16) -> usize
-    ensures { result ≡ n }
-{
-    n as usize
-}
-
 // How many words of eight bytes hold the labels of so many tapes.
 fn words_of(tapes: usize) -> usize
     requires { tapes ≤ 8 }
     ensures { (label_size * tapes ≤ 8 * result) × (result ≤ 9) }
 {
-    (LABEL_SIZE * tapes + 7) / 8
+    (LABEL_SIZE * tapes).div_ceil(8)
 }
 
 // Whether n words of eight bytes at two places of the arcs are equal.
@@ -47,49 +40,33 @@ fn same_words(arcs: &[u8], i: usize, j: usize, n: usize) -> bool
     requires { (i + 8 * n ≤ length arcs.now) × (j + 8 * n ≤ length arcs.now) }
     ensures { result ≡ true → part i (8 * n) arcs.now ≡ part j (8 * n) arcs.now }
 {
-    let mut left = n;
-    let mut a = i;
-    let mut b = j;
-    while 0 < left {
-        if get64(arcs, a) != get64(arcs, b) {
+    for k in 0..n {
+        if get64(arcs, i + 8 * k) != get64(arcs, j + 8 * k) {
             return false;
         }
-        a += 8;
-        b += 8;
-        left -= 1;
     }
     true
 }
 
 // The number of arc e's labels: k, where no arc before it has that number or the arc d, which has it, has the same
-// labels.
+// labels; 65,535 else, and no Option, as a fixed array keeps two bytes for each number.
 fn number_of(arcs: &[u8], d: usize, e: usize, k: usize, words: usize) -> u16
     requires { (arc_size * e + arc_size ≤ length arcs.now) × (k < 1024) × (words ≤ 9) }
     ensures { result < 1024 → (result ≡ k) × (d < e → words_at words arcs.now d
         ≡ words_at words arcs.now e) }
 {
-    if e <= d {
-        return k as u16;
+    if e <= d
+        || same_words(
+            arcs,
+            labels_start(ARC_SIZE * d),
+            labels_start(ARC_SIZE * e),
+            words,
+        )
+    {
+        k as u16
+    } else {
+        65535
     }
-    if same_words(
-        arcs,
-        labels_start(ARC_SIZE * d),
-        labels_start(ARC_SIZE * e),
-        words,
-    ) {
-        return k as u16;
-    }
-    65535
-}
-
-// The lesser of two numbers.
-fn lesser(x: usize, y: usize) -> usize
-    ensures { result ≡ min x y }
-{
-    if x <= y {
-        return x;
-    }
-    y
 }
 
 // Arc e, by the bucket of its labels; `owners` has for each number the first arc that has it.
@@ -100,9 +77,9 @@ fn number_arc(arcs: &[u8], e: usize, words: usize, owners: &mut [u16], numbers: 
         numbers.new numbers.old }
 {
     let k = bucket_of(hash_words(arcs, labels_start(ARC_SIZE * e), words, 0), 1024);
-    let d = wide(owners[k]);
+    let d = usize::from(owners[k]);
     numbers[e] = number_of(arcs, d, e, k, words);
-    owners[k] = lesser(d, e) as u16;
+    owners[k] = d.min(e) as u16;
 }
 
 // All arcs of a table, the first to the last.
@@ -113,9 +90,7 @@ pub fn number_labels(counts: Counts, arcs: &[u8], numbers: &mut [u16])
 {
     let words = words_of(counts.tapes);
     let mut owners = no_owners();
-    let mut e: usize = 0;
-    while e < counts.arcs {
+    for e in 0..counts.arcs {
         number_arc(arcs, e, words, &mut owners, numbers);
-        e += 1;
     }
 }

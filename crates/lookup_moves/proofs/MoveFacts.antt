@@ -1,13 +1,13 @@
 -- Comparing bytes, turn by turn, and the labels of an arc, tape by tape.
 use mathlib.Core.Path.{◌≡◌, refl, sym, ap, ap₂, ◌∙◌}
 use mathlib.Core.Logic.{◌≢◌}
-use mathlib.Core.Bool.{Bool, true, false, not}
+use mathlib.Core.Bool.{Bool, true, false}
 use mathlib.Core.Option.{Option, none, some, none-ne-some, some-injective}
 use mathlib.Core.List.{List}
 use Prim.Native.Nat.{ℕ, zero, suc, ◌+◌, ◌-◌, ◌*◌, ◌≤◌, ◌<◌}
 use native.Mathlib.Nat.{mul-le-mul}
 use native.Mathlib.Omega.{arith}
-use borrow.Author.Tests.{lt-ltb, le-ltb, not-true, not-false}
+use borrow.Author.Tests.{lt-ltb, le-ltb}
 use lib.Dec.{eqb, ltb, eqb_refl}
 use lib.ListN.{length, get_or}
 use Rattle.automata.specs.Lists.{if, bind, same_list}
@@ -16,9 +16,7 @@ use Rattle.automata.specs.Layout.{label_size}
 use Rattle.table.specs.Region.{part}
 use Rattle.table.proofs.PartFacts.{get_d_part, part_zero, part_suc, part-part}
 use Rattle.lookup_moves.specs.declared.spot.Spot.{Spot}
-use Rattle.lookup_moves.specs.declared.moves.Step.{Step}
-use Rattle.lookup_moves.specs.declared.moves.Step.TheVariants.{Moved, Stuck}
-use Rattle.lookup_moves.specs.Moves.{step_as, tape_move, moves_from, Laid, spot_with}
+use Rattle.lookup_moves.specs.Moves.{tape_move, moves_from, Laid, spot_with}
 
 pub same_turn : (a b left rest : ℕ) (x y : List ℕ) → left ≡ suc rest → a < length x → b < length y → get_or x a 0 ≡ get_or y b 0
     → same_list (part (a + 1) rest x) (part (b + 1) rest y) ≡ same_list (part a left x) (part b left y)
@@ -39,13 +37,13 @@ module _ (arcs : List ℕ) (at : ℕ) (text : List ℕ) (start size span : ℕ) 
   move_long h = rw (lt-ltb size (get_or arcs at 0) h)
 
   module _ (h : get_or arcs at 0 ≤ size) (b : Bool) (e : b ≡ same_list (part (at + 1) (get_or arcs at 0) arcs) (part (start - get_or arcs at 0) (get_or arcs at 0) text)) where
-    pub move_differs : not b ≡ true → none ≡ tape_move arcs at text start size span
+    pub move_differs : b ≡ false → none ≡ tape_move arcs at text start size span
     unfolding tape_move
-    move_differs n = rw (le-ltb size (get_or arcs at 0) h, ← e, not-true b n)
+    move_differs n = rw (le-ltb size (get_or arcs at 0) h, ← e, n)
 
-    pub move_same : not b ≡ false → some (get_or arcs at 0 * span) ≡ tape_move arcs at text start size span
+    pub move_same : b ≡ true → some (get_or arcs at 0 * span) ≡ tape_move arcs at text start size span
     unfolding tape_move
-    move_same n = rw (le-ltb size (get_or arcs at 0) h, ← e, not-false b n)
+    move_same n = rw (le-ltb size (get_or arcs at 0) h, ← e, n)
 
   -- a move on one tape is not too long
   pub move_bound : (m : ℕ) → get_or arcs at 0 ≤ 8 → span ≤ 318644812890625 → tape_move arcs at text start size span ≡ some m → m ≤ 2549158503125000
@@ -59,19 +57,19 @@ module _ (arcs : List ℕ) (at : ℕ) (text : List ℕ) (start size span : ℕ) 
 
 -- ---- all tapes
 
-module _ (left rest h from total : ℕ) (arcs text : List ℕ) (s : Spot) (r : Step) (d : left ≡ suc rest)
-    (e : step_as r ≡ tape_move arcs from text (get_or s.starts h 0) (get_or s.positions h 0) (get_or s.spans h 0)) where
-  pub moves_stuck : r ≡ Stuck → step_as r ≡ moves_from left h from total arcs text s
+module _ (left rest h from total : ℕ) (arcs text : List ℕ) (s : Spot) (d : left ≡ suc rest) where
+  pub moves_stuck : none ≡ tape_move arcs from text (get_or s.starts h 0) (get_or s.positions h 0) (get_or s.spans h 0) → none ≡ moves_from left h from total arcs text s
   unfolding moves_from
-  moves_stuck k = let f = rw k at e in rw (d, k, ← f)
+  moves_stuck e = rw (d, ← e)
 
-  pub moves_turn : (by : ℕ) → r ≡ Moved by → moves_from rest (h + 1) (from + label_size) (total + by) arcs text s ≡ moves_from left h from total arcs text s
-  unfolding moves_from
-  moves_turn by k = let f = rw k at e in rw (d, ← f)
+  module _ (by : ℕ) (e : some by ≡ tape_move arcs from text (get_or s.starts h 0) (get_or s.positions h 0) (get_or s.spans h 0)) where
+    pub moves_turn : moves_from rest (h + 1) (from + label_size) (total + by) arcs text s ≡ moves_from left h from total arcs text s
+    unfolding moves_from
+    moves_turn = rw (d, ← e)
 
-  -- it is not too long
-  pub turn_bound : (by : ℕ) → r ≡ Moved by → get_or arcs from 0 ≤ 8 → get_or s.spans h 0 ≤ 318644812890625 → by ≤ 2549158503125000
-  turn_bound by k short small = let f = rw k at e in move_bound arcs from text (get_or s.starts h 0) (get_or s.positions h 0) (get_or s.spans h 0) by short small (sym f)
+    -- it is not too long
+    pub turn_bound : get_or arcs from 0 ≤ 8 → get_or s.spans h 0 ≤ 318644812890625 → by ≤ 2549158503125000
+    turn_bound short small = move_bound arcs from text (get_or s.starts h 0) (get_or s.positions h 0) (get_or s.spans h 0) by short small (sym e)
 
 pub moves_end : (left h from total : ℕ) (arcs text : List ℕ) (s : Spot) → left ≡ 0 → some total ≡ moves_from left h from total arcs text s
 unfolding moves_from

@@ -1,15 +1,17 @@
 -- The combinations in strings of these lengths, from what each call gave.
-use mathlib.Core.Path.{◌≡◌, refl, sym, ap, ◌∙◌}
+use mathlib.Core.Path.{◌≡◌, refl, sym, ap, subst, ◌∙◌}
 use mathlib.Core.List.{List, [], ◌∷◌}
-use Prim.Native.Nat.{ℕ, zero, suc, ◌+◌, ◌*◌, ◌/◌, ◌%◌, ◌≤◌, ◌<◌}
-use native.Mathlib.Nat.{mod-lt}
+use Prim.Native.Nat.{ℕ, suc, ◌+◌, ◌*◌, ◌^◌, ◌≤◌, ◌<◌}
+use native.Mathlib.Decide.{ℕ_discrete}
+use native.Mathlib.Nat.{mul-le-mul_right, pow-suc}
 use native.Mathlib.Omega.{arith}
-use lib.ListN.{length, get_or, drop, drop_of_length-le}
-use lib.Seq.{drop-cons}
+use lib.ListN.{length, get_or, set, drop, replicate, length-set, drop_of_length-le}
+use lib.Seq.{drop-cons, get_or-set_same, get_or-set_other}
+use Rattle.automata.specs.Limits.{max_string}
 use Rattle.lookup_tuple.specs.declared.Strings.{Strings}
 use Rattle.lookup_moves.specs.declared.spot.Spot.{Spot}
 use Rattle.lookup_moves.specs.declared.spot.Spans.{Spans}
-use Rattle.lookup_moves.specs.Spots.{span_of, Spanned, eight_of, digit, spot_of}
+use Rattle.lookup_moves.specs.Spots.{span_of, eight_of, digit, spot_of}
 
 span_step : (xs : List ℕ) (k v w : ℕ) → k < length xs → v ≡ span_of (drop (suc k) xs) → w ≡ (get_or xs k 0 + 1) * v → w ≡ span_of (drop k xs)
 unfolding span_of
@@ -19,59 +21,69 @@ span_end : (xs : List ℕ) → length xs ≡ 8 → 1 ≡ span_of (drop 8 xs)
 unfolding span_of
 span_end xs h = ap span_of (sym (drop_of_length-le xs {i = 8} (omega (arith, h))))
 
-module _ (xs : List ℕ) (eight : length xs ≡ 8) (a b c d e f g all : ℕ) (g-is : g ≡ (get_or xs 7 0 + 1) * 1) (f-is : f ≡ (get_or xs 6 0 + 1) * g)
-    (e-is : e ≡ (get_or xs 5 0 + 1) * f) (d-is : d ≡ (get_or xs 4 0 + 1) * e) (c-is : c ≡ (get_or xs 3 0 + 1) * d) (b-is : b ≡ (get_or xs 2 0 + 1) * c)
-    (a-is : a ≡ (get_or xs 1 0 + 1) * b) (all_are : all ≡ (get_or xs 0 0 + 1) * a) where
-  s8 : 1 ≡ span_of (drop 8 xs)
-  s8 = span_end xs eight
+-- the strings from one on: the combinations behind each, and in all of them, few enough whatever stands before
+pub record SpannedFrom (lengths : List ℕ) (h : ℕ) (spans : List ℕ) (all : ℕ) : Type 0 where
+  pub eight : length spans ≡ 8
+  pub each : (j : ℕ) → h ≤ j → j < 8 → get_or spans j 0 ≡ span_of (drop (suc j) lengths)
+  pub all_is : all ≡ span_of (drop h lengths)
+  pub small : all * 65 ^ h ≤ 318644812890625
 
-  s7 : g ≡ span_of (drop 7 xs)
-  s7 = span_step xs 7 1 g (omega (arith, eight)) s8 g-is
+module _ (xs : List ℕ) (eight : length xs ≡ 8) where
+  -- none yet
+  pub spanned_none : SpannedFrom xs 8 (replicate 8 0) 1
+  spanned_none = record { eight = refl; each = λ j le lt. absurd (omega arith); all_is = span_end xs eight; small = omega arith }
 
-  s6 : f ≡ span_of (drop 6 xs)
-  s6 = span_step xs 6 g f (omega (arith, eight)) s7 f-is
+  module _ (h rest : ℕ) (spans : List ℕ) (all : ℕ) (d : h ≡ suc rest) (in_eight : rest < 8) (f : SpannedFrom xs h spans all) where
+    -- there are few with one string more
+    span_small : get_or xs rest 0 ≤ max_string → (get_or xs rest 0 + 1) * all * 65 ^ rest ≤ 318644812890625
+    span_small short = few (get_or xs rest 0 + 1) all (65 ^ rest) (omega (arith, short)) (subst (λ (n : ℕ). all * n ≤ 318644812890625) (ap (λ (k : ℕ). 65 ^ k) d ∙ pow-suc 65 rest) f.small)
+      where
+        few : (n a p : ℕ) → n ≤ 65 → a * (p * 65) ≤ 318644812890625 → n * a * p ≤ 318644812890625
+        few n a p le at_most = let q : n * (a * p) ≤ 65 * (a * p) = mul-le-mul_right (a * p) le in omega (arith, q, at_most)
 
-  s5 : e ≡ span_of (drop 5 xs)
-  s5 = span_step xs 5 f e (omega (arith, eight)) s6 e-is
-
-  s4 : d ≡ span_of (drop 4 xs)
-  s4 = span_step xs 4 e d (omega (arith, eight)) s5 d-is
-
-  s3 : c ≡ span_of (drop 3 xs)
-  s3 = span_step xs 3 d c (omega (arith, eight)) s4 c-is
-
-  s2 : b ≡ span_of (drop 2 xs)
-  s2 = span_step xs 2 c b (omega (arith, eight)) s3 b-is
-
-  s1 : a ≡ span_of (drop 1 xs)
-  s1 = span_step xs 1 b a (omega (arith, eight)) s2 a-is
-
-  pub spans_spanned : Spanned xs (record { spans = a ∷ b ∷ c ∷ d ∷ e ∷ f ∷ g ∷ 1 ∷ []; all = all })
-  spans_spanned = record { eight = refl; each = each; all_is = span_step xs 0 a all (omega (arith, eight)) s1 all_are }
-    where
-      each : (h : ℕ) → h < 8 → get_or (a ∷ b ∷ c ∷ d ∷ e ∷ f ∷ g ∷ 1 ∷ []) h 0 ≡ span_of (drop (suc h) xs)
-      each zero lt = s1
-      each (suc zero) lt = s2
-      each (suc (suc zero)) lt = s3
-      each (suc (suc (suc zero))) lt = s4
-      each (suc (suc (suc (suc zero)))) lt = s5
-      each (suc (suc (suc (suc (suc zero))))) lt = s6
-      each (suc (suc (suc (suc (suc (suc zero)))))) lt = s7
-      each (suc (suc (suc (suc (suc (suc (suc zero))))))) lt = s8
-      each (suc (suc (suc (suc (suc (suc (suc (suc h)))))))) lt = absurd (omega arith)
-
--- a position is at most the length
-pub digit-le : (n span size r : ℕ) → r ≡ n / span % (size + 1) → r ≤ size
-digit-le n span size r e = omega (arith, e, mod-lt (n / span) {m = size + 1} (omega arith))
+    -- and what is known of it
+    pub spanned_next : get_or xs rest 0 ≤ max_string → SpannedFrom xs rest (set spans rest all) (all * (get_or xs rest 0 + 1))
+    spanned_next short = record {
+      eight = length-set spans rest all ∙ f.eight;
+      each = λ j le lt. one j le lt (ℕ_discrete j rest);
+      all_is = span_step xs rest all (all * (get_or xs rest 0 + 1)) (omega (arith, eight)) (f.all_is ∙ ap (λ (k : ℕ). span_of (drop k xs)) d) (omega arith);
+      small = omega (arith, span_small short);
+    }
+      where
+        one : (j : ℕ) → rest ≤ j → j < 8 → Dec (j ≡ rest) → get_or (set spans rest all) j 0 ≡ span_of (drop (suc j) xs)
+        one j le lt (yes same) =
+            ap (λ (k : ℕ). get_or (set spans rest all) k 0) same ∙ get_or-set_same spans rest all 0 (omega (arith, f.eight)) ∙ f.all_is
+            ∙ ap (λ (k : ℕ). span_of (drop k xs)) (d ∙ ap suc (sym same))
+        one j le lt (no other) = get_or-set_other spans rest j all 0 other ∙ f.each j (omega (arith, d)) lt
 
 -- eight values, one by one
-pub eight_are : (f : ℕ → ℕ) (a b c d e g h i : ℕ) → a ≡ f 0 → b ≡ f 1 → c ≡ f 2 → d ≡ f 3 → e ≡ f 4 → g ≡ f 5 → h ≡ f 6 → i ≡ f 7
-    → a ∷ b ∷ c ∷ d ∷ e ∷ g ∷ h ∷ i ∷ [] ≡ eight_of f
-eight_are f a b c d e g h i p q r s t u v w = rw (p, q, r, s, t, u, v, w)
+eight_are : (f : ℕ → ℕ) (xs : List ℕ) → length xs ≡ 8 → ((j : ℕ) → j < 8 → get_or xs j 0 ≡ f j) → xs ≡ eight_of f
+eight_are f (a ∷ b ∷ c ∷ d ∷ e ∷ g ∷ h ∷ i ∷ []) l p =
+    rw (p 0 (omega arith), p 1 (omega arith), p 2 (omega arith), p 3 (omega arith), p 4 (omega arith), p 5 (omega arith), p 6 (omega arith), p 7 (omega arith))
+eight_are f [] l p = absurd (omega arith)
+eight_are f (a ∷ []) l p = absurd (omega arith)
+eight_are f (a ∷ b ∷ []) l p = absurd (omega arith)
+eight_are f (a ∷ b ∷ c ∷ []) l p = absurd (omega arith)
+eight_are f (a ∷ b ∷ c ∷ d ∷ []) l p = absurd (omega arith)
+eight_are f (a ∷ b ∷ c ∷ d ∷ e ∷ []) l p = absurd (omega arith)
+eight_are f (a ∷ b ∷ c ∷ d ∷ e ∷ g ∷ []) l p = absurd (omega arith)
+eight_are f (a ∷ b ∷ c ∷ d ∷ e ∷ g ∷ h ∷ []) l p = absurd (omega arith)
+eight_are f (a ∷ b ∷ c ∷ d ∷ e ∷ g ∷ h ∷ i ∷ k ∷ xs) l p = absurd (omega arith)
 
--- the combination, part by part
-pub spot_is : (s : Strings) (spans : Spans) (number : ℕ) (starts positions : List ℕ) → starts ≡ eight_of (λ h. get_or s.starts h 0 + digit s spans number h)
-    → positions ≡ eight_of (λ h. digit s spans number h)
-    → ◌≡◌ {A = Spot} (record { starts = starts; positions = positions; spans = spans.spans; number = number; all = spans.all }) (spot_of s spans number)
-unfolding spot_of
-spot_is s spans number starts positions e f = λ i. record { starts = e i; positions = f i; spans = spans.spans; number = number; all = spans.all }
+-- the first so many strings at the positions of a number, the others at their starts
+pub record SpotTo (s : Strings) (spans : Spans) (number h : ℕ) (starts positions : List ℕ) : Type 0 where
+  pub eight_starts : length starts ≡ 8
+  pub eight_positions : length positions ≡ 8
+  pub starts_are : (j : ℕ) → j < h → get_or starts j 0 ≡ get_or s.starts j 0 + digit s spans number j
+  pub positions_are : (j : ℕ) → j < h → get_or positions j 0 ≡ digit s spans number j
+  pub starts_left : (j : ℕ) → h ≤ j → get_or starts j 0 ≡ get_or s.starts j 0
+
+module _ (s : Strings) (spans : Spans) (number : ℕ) where
+  -- all
+  pub spot_is : (h : ℕ) (starts positions : List ℕ) → 8 ≤ h → SpotTo s spans number h starts positions
+      → ◌≡◌ {A = Spot} (record { starts = starts; positions = positions; spans = spans.spans; number = number; all = spans.all }) (spot_of s spans number)
+  unfolding spot_of
+  spot_is h starts positions up f =
+      let e : starts ≡ eight_of (λ j. get_or s.starts j 0 + digit s spans number j) = eight_are (λ j. get_or s.starts j 0 + digit s spans number j) starts f.eight_starts (λ j lt. f.starts_are j (omega arith)) in
+      let g : positions ≡ eight_of (λ j. digit s spans number j) = eight_are (λ j. digit s spans number j) positions f.eight_positions (λ j lt. f.positions_are j (omega arith)) in
+      λ i. record { starts = e i; positions = g i; spans = spans.spans; number = number; all = spans.all }

@@ -7,13 +7,6 @@ use Rattle.automata.specs.Calls.Work.{combinations}
 use Rattle.automata.specs.Layout.{label_size, labels_size, symbols_place}
 use Rattle.table.specs.Region.{part}
 use Rattle.lookup_moves.specs.declared.spot.Spot.{Spot}
-use Rattle.lookup_moves.specs.declared.moves.Step.{Step}
-use Rattle.lookup_moves.specs.declared.moves.Step.TheVariants.{Moved, Stuck}
-
--- how far the number of a combination moves, or none
-abbrev pub step_as : Step → Option ℕ
-step_as (Moved n) = some n
-step_as Stuck = none
 
 -- the combination of these places in the text, positions, numbers of combinations behind each, number, and number of
 -- all

@@ -4,7 +4,7 @@ ghost use Rattle.lookup_moves.specs.Distances.{cells_of, Lowers, far_byte};
 
 use table::bytes::{get64, put64};
 
-// The number for "none" in a cell: eight bytes of 16. It is above every weight.
+// The number for "none" in a cell: eight bytes of 16, and no Option, as cells stay lent bytes. It is above every weight.
 pub const FAR: u64 = 1157442765409226768;
 
 const FAR_BYTE: u8 = 16;
@@ -41,16 +41,15 @@ pub fn lower(work: &mut [u8], k: usize, v: u64) -> bool
 {
     if v < weight_at(work, k) {
         put64(work, 8 * k, v);
-        return true;
+        true
+    } else {
+        false
     }
-    false
 }
 
 // Every cell set to the number for "none": each byte is 16.
 pub fn clear_cells(work: &mut [u8])
     ensures { work.new ≡ replicate (length work.old) far_byte }
 {
-    for i in 0..work.len() {
-        work[i] = FAR_BYTE;
-    }
+    work.fill(FAR_BYTE);
 }

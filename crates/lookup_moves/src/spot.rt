@@ -1,7 +1,6 @@
 // A combination of positions, one in each string of a tuple.
-ghost use Rattle.std.specs.Prelude.{◌≡◌, ◌+◌, ◌*◌, ◌≤◌, ◌<◌, get_or};
-ghost use Rattle.lookup_moves.specs.Spots.{Spanned, digit, spot_of, eight_of, Placed, Positive};
-ghost use Rattle.automata.specs.Limits.{max_string};
+ghost use Rattle.std.specs.Prelude.{◌≡◌};
+ghost use Rattle.lookup_moves.specs.Spots.{Spanned, spot_of, Placed, Positive};
 
 use lookup_tuple::Strings;
 
@@ -23,98 +22,18 @@ pub struct Spans {
     pub all: usize,
 }
 
-// The combinations in a string of this length and in those behind it.
-fn times(size: usize, behind: usize) -> usize
-    requires { (size ≤ max_string) × (behind ≤ 4902227890625) }
-    ensures { (result ≡ (size + 1) * behind) × (result ≤ 65 * behind) }
-{
-    (size + 1) * behind
-}
-
 // The combinations in the strings behind each, and in all.
 pub fn spans_of(strings: Strings) -> Spans
     requires { Placed strings }
     ensures { Spanned strings.lengths result }
 {
-    let h: usize = 1;
-    let g = times(strings.lengths[7], h);
-    let f = times(strings.lengths[6], g);
-    let e = times(strings.lengths[5], f);
-    let d = times(strings.lengths[4], e);
-    let c = times(strings.lengths[3], d);
-    let b = times(strings.lengths[2], c);
-    let a = times(strings.lengths[1], b);
-    let all = times(strings.lengths[0], a);
-    Spans {
-        spans: [a, b, c, d, e, f, g, h],
-        all,
+    let mut spans = [0; 8];
+    let mut all = 1;
+    for h in (0..8).rev() {
+        spans[h] = all;
+        all *= strings.lengths[h] + 1;
     }
-}
-
-// The position in string h of the combination of a number.
-fn position(strings: Strings, spans: Spans, number: usize, h: usize) -> usize
-    requires { (h < 8) × (get_or strings.lengths h 0 ≤ max_string) × (0 < get_or spans.spans h 0) }
-    ensures { (result ≡ digit strings spans number h) × (result ≤ get_or strings.lengths h 0) }
-{
-    let count = strings.lengths[h] + 1;
-    let span = spans.spans[h];
-    number / span % count
-}
-
-// A number. Its callers know that it fits 64 bits.
-fn whole(n: usize) -> usize
-    ensures { (result ≡ n) × (result < 18446744073709551616) }
-{
-    n
-}
-
-// Where string h goes on from its position.
-fn start_at(strings: Strings, spans: Spans, number: usize, h: usize) -> usize
-    requires { Placed strings × Positive spans × (h < 8) }
-    ensures { result ≡ get_or strings.starts h 0 + digit strings spans number h }
-{
-    let start = whole(strings.starts[h]);
-    start + position(strings, spans, number, h)
-}
-
-// The position in string h.
-fn position_at(strings: Strings, spans: Spans, number: usize, h: usize) -> usize
-    requires { Placed strings × Positive spans × (h < 8) }
-    ensures { result ≡ digit strings spans number h }
-{
-    position(strings, spans, number, h)
-}
-
-// Where each string goes on.
-fn starts_at(strings: Strings, spans: Spans, number: usize) -> [usize; 8]
-    requires { Placed strings × Positive spans }
-    ensures { result ≡ eight_of (λ h. get_or strings.starts h 0 + digit strings spans number h) }
-{
-    let a = start_at(strings, spans, number, 0);
-    let b = start_at(strings, spans, number, 1);
-    let c = start_at(strings, spans, number, 2);
-    let d = start_at(strings, spans, number, 3);
-    let e = start_at(strings, spans, number, 4);
-    let f = start_at(strings, spans, number, 5);
-    let g = start_at(strings, spans, number, 6);
-    let h = start_at(strings, spans, number, 7);
-    [a, b, c, d, e, f, g, h]
-}
-
-// The position in each string.
-fn positions_at(strings: Strings, spans: Spans, number: usize) -> [usize; 8]
-    requires { Placed strings × Positive spans }
-    ensures { result ≡ eight_of (λ h. digit strings spans number h) }
-{
-    let a = position_at(strings, spans, number, 0);
-    let b = position_at(strings, spans, number, 1);
-    let c = position_at(strings, spans, number, 2);
-    let d = position_at(strings, spans, number, 3);
-    let e = position_at(strings, spans, number, 4);
-    let f = position_at(strings, spans, number, 5);
-    let g = position_at(strings, spans, number, 6);
-    let h = position_at(strings, spans, number, 7);
-    [a, b, c, d, e, f, g, h]
+    Spans { spans, all }
 }
 
 // The combination of a number.
@@ -122,15 +41,18 @@ pub fn spot_at(strings: Strings, spans: Spans, number: usize) -> Spot
     requires { Placed strings × Positive spans }
     ensures { result ≡ spot_of strings spans number }
 {
-    let starts = starts_at(strings, spans, number);
-    let positions = positions_at(strings, spans, number);
-    let behind = spans.spans;
-    let all = spans.all;
+    let mut starts = strings.starts;
+    let mut positions = [0; 8];
+    for h in 0..8 {
+        let position = number / spans.spans[h] % (strings.lengths[h] + 1);
+        starts[h] += position;
+        positions[h] = position;
+    }
     Spot {
         starts,
         positions,
-        spans: behind,
+        spans: spans.spans,
         number,
-        all,
+        all: spans.all,
     }
 }

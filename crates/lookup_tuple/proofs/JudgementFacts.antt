@@ -1,5 +1,5 @@
 -- The judgement of a text by its steps: what each way out of it answers, and what is known where nothing is refused.
-use mathlib.Core.Path.{◌≡◌, refl, sym, ap, ◌∙◌}
+use mathlib.Core.Path.{◌≡◌, refl, sym, ap, subst, ◌∙◌}
 use mathlib.Core.Bool.{Bool, true, false}
 use mathlib.Core.List.{List}
 use Prim.Native.Nat.{ℕ, ◌+◌, ◌≤◌, ◌<◌}
@@ -17,11 +17,10 @@ use Rattle.automata.proofs.TestFacts.{T_true}
 use Rattle.automata.specs.Limits.{max_string}
 use Rattle.lookup_tuple.specs.Lines.{counted, every}
 use Rattle.table.specs.declared.answer.Refusal.{Refusal}
-use Rattle.table.specs.declared.answer.Judged.{Judged}
-use Rattle.table.specs.declared.answer.Judged.TheVariants.{Fine, Refused}
-use Rattle.table.specs.Answers.{judged_as}
+use Rattle.table.specs.Answers.{refusal_number}
+use Rattle.std.specs.Prelude.{Ok, Err}
 use Rattle.lookup_tuple.specs.declared.Strings.{Strings}
-use Rattle.lookup_tuple.specs.Judgement.{tuple_tests, tuple_answer, Placeable, Placed, JudgedTuple}
+use Rattle.lookup_tuple.specs.Judgement.{tuple_tests, tuple_answer, Placeable, Placed, Tupled, JudgedTuple}
 
 -- the tests of each string
 abbrev pub fits : List ℕ → Bool
@@ -113,17 +112,19 @@ module _ (text : List ℕ) (tapes : ℕ) where
       }
 
 -- ---- the whole judgement
-module _ (text : List ℕ) (tapes : ℕ) (j : Judged) (s : Strings) (e : judged_as j ≡ tuple_answer text tapes) where
+module _ (text : List ℕ) (tapes : ℕ) where
   -- a refusal
-  pub tuple-refused : (k : Refusal) → j ≡ Refused k → JudgedTuple text tapes (record { judged = j; strings = s })
-  tuple-refused k f = record { answer = e; stands = λ few g. absurd (refused≢ok (ap judged_as (sym f ∙ g))) }
+  pub tuple-refused : (k : Refusal) → refused (refusal_number k) ≡ tuple_answer text tapes → JudgedTuple text tapes (Err k)
+  tuple-refused k e = record { answer = e; stands = λ few s f. cc }
 
-  -- more tapes than a table has
-  pub tuple-wide : 8 < tapes → JudgedTuple text tapes (record { judged = j; strings = s })
-  tuple-wide h = record { answer = e; stands = λ few g. absurd (omega (arith, h, few)) }
+  module _ (s : Strings) (e : ok tt ≡ tuple_answer text tapes) where
+    -- more tapes than a table has
+    pub tuple-wide : 8 < tapes → JudgedTuple text tapes (Ok s)
+    tuple-wide h = record { answer = e; stands = λ few u f. absurd (omega (arith, h, few)) }
 
-  -- the strings by their places
-  pub tuple-placed : j ≡ Fine → tapes ≤ 8 → Placed text s → JudgedTuple text tapes (record { judged = j; strings = s })
-  tuple-placed f few p =
-      let q = judged_placeable text tapes few (sym (ap judged_as f) ∙ e) in
-      record { answer = e; stands = λ few g. record { tuple = q.tuple; lines_are = q.lines_are; stands = p.stands q.tuple q.lines_are; tapes_are = q.count_is } }
+    -- the strings by their places
+    pub tuple-placed : tapes ≤ 8 → Placed text s → JudgedTuple text tapes (Ok s)
+    tuple-placed few p = record { answer = e; stands = λ few u f. let g : s ≡ u = cc in subst (λ (v : Strings). Tupled text tapes v) g own }
+      where
+        own : Tupled text tapes s
+        own = let q = judged_placeable text tapes few e in record { tuple = q.tuple; lines_are = q.lines_are; stands = p.stands q.tuple q.lines_are; tapes_are = q.count_is }

@@ -1,11 +1,12 @@
--- Facts of the combinations of positions in the strings of a tuple: as products of two, four and eight, and by the
--- strings' places.
+-- Facts of the combinations of positions in the strings of a tuple: as a product, and by the strings' places.
 use mathlib.Core.Path.{◌≡◌, refl, sym, ap, ap₂, ◌∙◌}
 use mathlib.Core.List.{List, [], ◌∷◌}
-use Prim.Native.Nat.{ℕ, suc, ◌+◌, ◌*◌, ◌≤◌, ◌<◌}
+use Prim.Native.Nat.{ℕ, suc, ◌+◌, ◌*◌, ◌^◌, ◌≤◌, ◌<◌}
 use native.Mathlib.Omega.{arith}
-use native.Mathlib.Nat.{mul-le-mul, mul_assoc, mul-one}
-use lib.ListN.{length, get_or}
+use native.Mathlib.Nat.{mul-le-mul, mul-le-mul_left, mul_assoc, mul-one, pow-suc}
+use native.Mathlib.Numerals.{add-one}
+use lib.ListN.{length, get_or, drop, drop_of_length-le}
+use lib.Seq.{drop-cons}
 use Rattle.automata.specs.Automaton.{Tuple}
 use Rattle.automata.specs.Calls.Work.{combinations}
 use Rattle.automata.specs.Limits.{max_string}
@@ -13,44 +14,48 @@ use Rattle.lookup_tuple.specs.declared.Strings.{Strings}
 use Rattle.lookup_tuple.specs.Strings.{Stands}
 use Rattle.lookup_tuple.specs.Positions.{positions, ShortStrings}
 
--- ---- how great they are
+-- ---- the product, length by length
 
-pub two_fit : (a b : ℕ) → a ≤ max_string → b ≤ max_string → (a + 1) * (b + 1) ≤ 4225
-two_fit a b h k = let p : a + 1 ≤ 65 = omega arith in let q : b + 1 ≤ 65 = omega arith in mul-le-mul p q
+-- there is one combination at least
+positions_pos : (ls : List ℕ) → 1 ≤ positions ls
+positions_pos [] = omega arith
+positions_pos (n ∷ ls) =
+    let a : 1 ≤ suc n = omega arith in
+    let p : 1 * 1 ≤ suc n * positions ls = mul-le-mul a (positions_pos ls) in
+    omega (arith, p)
 
-pub four_fit : (a b : ℕ) → a ≤ 4225 → b ≤ 4225 → a * b ≤ 17850625
-four_fit a b h k = mul-le-mul h k
+-- and there are not too many
+positions-small : (ls : List ℕ) → ((h : ℕ) → get_or ls h 0 ≤ max_string) → positions ls ≤ 65 ^ length ls
+positions-small [] f = omega arith
+positions-small (n ∷ ls) f =
+    let k : suc n ≤ 65 = omega (arith, f 0) in
+    let p : suc n * positions ls ≤ 65 * 65 ^ length ls = mul-le-mul k (positions-small ls (λ h. f (suc h))) in
+    omega (arith, p, pow-suc 65 (length ls))
 
-pub eight_fit : (a b : ℕ) → a ≤ 17850625 → b ≤ 17850625 → a * b ≤ 318644812890625
-eight_fit a b h k = mul-le-mul h k
+module _ (ls : List ℕ) (i all : ℕ) (e : all * positions (drop i ls) ≡ positions ls) (lt : i < length ls) where
+  -- one length more
+  pub positions_turn : all * (get_or ls i 0 + 1) * positions (drop (i + 1) ls) ≡ positions ls
+  positions_turn =
+      let d : positions (drop i ls) ≡ suc (get_or ls i 0) * positions (drop (suc i) ls) = ap positions (drop-cons ls i 0 lt) in
+      let n : get_or ls i 0 + 1 ≡ suc (get_or ls i 0) = omega arith in
+      ap₂ (λ (x y : ℕ). all * x * positions (drop y ls)) n (add-one i) ∙ mul_assoc all (suc (get_or ls i 0)) (positions (drop (suc i) ls))
+      ∙ ap (λ (x : ℕ). all * x) (sym d) ∙ e
 
--- ---- the products
+  -- there are few
+  pub positions_fit : length ls ≡ 8 → ((h : ℕ) → get_or ls h 0 ≤ max_string) → all * (get_or ls i 0 + 1) ≤ 318644812890625
+  positions_fit eight f =
+      let p : all * (get_or ls i 0 + 1) * 1 ≤ all * (get_or ls i 0 + 1) * positions (drop (i + 1) ls) = mul-le-mul_left (all * (get_or ls i 0 + 1)) (positions_pos (drop (i + 1) ls)) in
+      let s : positions ls ≤ 318644812890625 = (let q = positions-small ls f in rw eight at q) in
+      omega (arith, p, positions_turn, s)
 
-pub two_are : (a b : ℕ) → (a + 1) * (b + 1) ≡ suc a * suc b
-two_are a b = let p : a + 1 ≡ suc a = omega arith in let q : b + 1 ≡ suc b = omega arith in ap₂ ◌*◌ p q
-
--- four factors, however they are put together
-grouped : (a b c d e : ℕ) → a * b * (c * d) * e ≡ a * (b * (c * (d * e)))
-grouped a b c d e = mul_assoc (a * b) (c * d) e ∙ mul_assoc a b (c * d * e) ∙ ap (λ (x : ℕ). a * (b * x)) (mul_assoc c d e)
-
--- the product over four lengths
-four_are : (ls : List ℕ) → length ls ≡ 4 → suc (get_or ls 0 0) * suc (get_or ls 1 0) * (suc (get_or ls 2 0) * suc (get_or ls 3 0)) ≡ positions ls
-four_are [] l = absurd (omega arith)
-four_are (a ∷ []) l = absurd (omega arith)
-four_are (a ∷ b ∷ []) l = absurd (omega arith)
-four_are (a ∷ b ∷ c ∷ []) l = absurd (omega arith)
-four_are (a ∷ b ∷ c ∷ d ∷ []) l = sym (mul-one (suc a * suc b * (suc c * suc d))) ∙ grouped (suc a) (suc b) (suc c) (suc d) 1
-four_are (a ∷ b ∷ c ∷ d ∷ e ∷ ls) l = absurd (omega arith)
-
--- over eight
-pub eight_are : (ls : List ℕ) → length ls ≡ 8
-    → suc (get_or ls 0 0) * suc (get_or ls 1 0) * (suc (get_or ls 2 0) * suc (get_or ls 3 0)) * (suc (get_or ls 4 0) * suc (get_or ls 5 0) * (suc (get_or ls 6 0) * suc (get_or ls 7 0))) ≡ positions ls
-eight_are [] l = absurd (omega arith)
-eight_are (a ∷ []) l = absurd (omega arith)
-eight_are (a ∷ b ∷ []) l = absurd (omega arith)
-eight_are (a ∷ b ∷ c ∷ []) l = absurd (omega arith)
-eight_are (a ∷ b ∷ c ∷ d ∷ ls) l =
-    ap (λ (x : ℕ). suc a * suc b * (suc c * suc d) * x) (four_are ls (omega arith)) ∙ grouped (suc a) (suc b) (suc c) (suc d) (positions ls)
+-- all lengths
+pub positions_all : (ls : List ℕ) (i all : ℕ) → length ls ≤ i → length ls ≡ 8 → ((h : ℕ) → get_or ls h 0 ≤ max_string) → all * positions (drop i ls) ≡ positions ls
+    → (all ≡ positions ls) × (all ≤ 318644812890625)
+positions_all ls i all up eight f e =
+    let d : positions (drop i ls) ≡ 1 = ap positions (drop_of_length-le ls up) in
+    let a : all ≡ positions ls = sym (mul-one all) ∙ ap (λ (x : ℕ). all * x) (sym d) ∙ e in
+    let s : positions ls ≤ 318644812890625 = (let q = positions-small ls f in rw eight at q) in
+    (a, omega (arith, a, s))
 
 -- ---- by the places of the strings
 

@@ -1,5 +1,6 @@
 -- The lines of a tuple's text, from a place of it on.
-use Rattle.std.specs.Prelude.{◌≡◌, Bool, List, [], ℕ, ◌+◌, ◌-◌, ◌≤◌, ◌<◌, length, get_or, drop}
+use Rattle.std.specs.Prelude as rust
+use Rattle.std.specs.Prelude.{Some, None, ◌≡◌, Bool, List, [], ℕ, ◌+◌, ◌-◌, ◌≤◌, ◌<◌, length, get_or, drop}
 use Rattle.automata.specs.Refusal
 use Rattle.automata.specs.Lists.{all}
 use Rattle.automata.specs.Answer.{◌>>=◌, Answer, ok, refused}
@@ -7,8 +8,6 @@ use Rattle.automata.specs.Automaton.{Tuple}
 use Rattle.automata.specs.Calls.Lookup.{lines_from}
 use Rattle.automata.specs.Layout.{newline}
 use Rattle.table.specs.Region.{part}
-use Rattle.lookup_tuple.specs.declared.line.LineCount.{LineCount}
-use Rattle.lookup_tuple.specs.declared.line.LineCount.TheVariants.{Lines, Unended}
 
 -- the strings of the lines from a place on
 unfoldable pub lines_at : ℕ → List ℕ → Answer Tuple
@@ -30,6 +29,9 @@ abbrev pub every : (List ℕ → Bool) → Answer Tuple → Answer Bool
 every p a = a >>= λ t. ok (all p t)
 
 -- a number of lines, or text after the last one
+abbrev pub LineCount : Type 0
+LineCount = rust.Option ℕ
+
 abbrev pub line_count_as : LineCount → Answer ℕ
-line_count_as (Lines n) = ok n
-line_count_as Unended = refused Refusal.short
+line_count_as (Some n) = ok n
+line_count_as None = refused Refusal.short

@@ -15,25 +15,16 @@ pub fn line_end(text: &[u8], from: usize) -> usize
     requires { from ≤ length text.now }
     ensures { LineEnd text.now from result }
 {
-    let mut i = from;
-    while i < text.len() {
+    for i in from..text.len() {
         if text[i] == NEWLINE {
             return i;
         }
-        i += 1;
     }
-    i
+    text.len()
 }
 
-// How many lines a text has, where it ends with one.
-#[derive(Clone, Copy)]
-pub enum LineCount {
-    Lines(usize),
-    Unended,
-}
-
-// The number of lines of a text.
-pub fn count_lines(text: &[u8]) -> LineCount
+// The number of lines of a text, where it ends with one.
+pub fn count_lines(text: &[u8]) -> Option<usize>
     ensures { line_count_as result ≡ counted (lines text.now) 0 }
 {
     let mut count = 0;
@@ -41,12 +32,12 @@ pub fn count_lines(text: &[u8]) -> LineCount
     while at < text.len() {
         let end = line_end(text, at);
         if end == text.len() {
-            return LineCount::Unended;
+            return None;
         }
         count += 1;
         at = end + 1;
     }
-    LineCount::Lines(count)
+    Some(count)
 }
 
 // Whether every string of a text has at most 64 bytes.
@@ -65,7 +56,8 @@ pub fn sizes_fit(text: &[u8]) -> bool
     true
 }
 
-// Whether every byte of every string of a text is a symbol.
+// Whether every byte of every string of a text is a symbol. The loop of `sizes_fit` with another test: one function for
+// both would state the test by the `post` of a closure, and is no shorter than the second loop.
 pub fn symbols_fit(text: &[u8]) -> bool
     requires { forget (lines text.now) ≡ ok tt }
     ensures { ok result ≡ every (λ s. all is_symbol s) (lines text.now) }

@@ -1,70 +1,29 @@
 -- Facts of the tests on the first four pairs of a list by value, and what they say of the whole list.
-use Prim.Native.Nat.{ℕ, ◌+◌, ◌≤◌, ◌<◌}
+use Prim.Native.Nat.{ℕ, ◌≤◌}
 use mathlib.Core.Path.{◌≡◌, refl, sym, ap, ◌∙◌}
 use mathlib.Core.Bool.{Bool, true, false}
-use mathlib.Core.List.{List, map}
+use mathlib.Core.List.{List}
 use native.Mathlib.Omega.{arith}
-use native.Mathlib.Numerals.{add-one}
 use lib.Dec.{leb}
-use lib.ListN.{length, get_or, take, drop, length-take, drop_of_length-le}
-use lib.Seq.{drop-cons, get_or-take}
-use borrow.Author.Tests.{leb-true, le-leb, lt-leb}
-use Rattle.automata.specs.Limits.{max_pairs, max_delay}
+use lib.ListN.{length}
+use borrow.Author.Tests.{leb-true}
+use Rattle.automata.specs.Limits.{max_pairs}
 use Rattle.automata.specs.Lists.{and}
 use Rattle.automata.specs.Answer.{ok}
 use Rattle.automata.specs.TapePair as automata
 use Rattle.automata.specs.IntersectCall.{distinct, named}
 use Rattle.automata.specs.Join.{within}
 use Rattle.automata.proofs.TestFacts.{and_true}
-use Rattle.table.specs.declared.pair.Pair.{Pair}
 use Rattle.table.specs.declared.pair.PairList.{PairList}
-use Rattle.table.specs.Answers.{judged_as}
-use Rattle.table.specs.Pairs.{pair_as, pairs_as, no_pair}
-use Rattle.pairs.specs.declared.PairsJudged.{PairsJudged}
+use Rattle.std.specs.Prelude.{Ok, Err, IfOk}
+use Rattle.table.specs.Pairs.{pairs_as}
 use Rattle.pairs.specs.PairTests.{tests, sides_once}
-use Rattle.pairs.specs.Judgement.{FirstFour, Decided, KeepJudged, JoinJudged, TapesJudged}
+use Rattle.pairs.specs.Judgement.{PairsJudged, judgement, FirstFour, Decided, KeepJudged, JoinJudged, TapesJudged}
 use Rattle.pairs.proofs.TestFacts.{separate_is, keep_judged, join_judged, tapes_judged}
 
 -- ---- test 6, by the number of pairs
-module _ (list : PairList) (once : Bool) where
-  pub many : 4 < list.used → and (leb list.used max_pairs) once ≡ false
-  many h = rw (lt-leb list.used 4 h)
-
-  pub few : list.used ≤ 4 → and (leb list.used max_pairs) once ≡ once
-  few h = rw (le-leb list.used 4 h)
-
-  pub once_few : (r : Bool) → r ≡ and (leb list.used max_pairs) once → r ≡ true → list.used ≤ 4
-  once_few r e t = leb-true list.used 4 (and_true (leb list.used max_pairs) once (sym e ∙ t)).0
-
--- ---- test 7, the loop over the pairs that are used: of l the first u
--- whether those from place i fit
-abbrev pub left : ℕ → List Pair → ℕ → Bool
-left u l i = automata.limits_fit (map pair_as (drop i (take u l)))
-
-module _ (u : ℕ) (l : List Pair) (i : ℕ) where
-  -- a turn of the loop: the limit here is above 64, or it is the others that say
-  module _ (h : i < u) (k : i < length l) where
-    here : left u l i ≡ and (leb (get_or l i no_pair).limit max_delay) (left u l (i + 1))
-    here =
-        let n = length-take u l in
-        ap (λ (ps : List Pair). automata.limits_fit (map pair_as ps)) (drop-cons (take u l) i no_pair (omega (arith, n)))
-        ∙ rw (get_or-take u l i no_pair h, add-one i)
-
-    pub fit_not : max_delay < (get_or l i no_pair).limit → left u l i ≡ false
-    fit_not e = here ∙ rw (lt-leb (get_or l i no_pair).limit max_delay e)
-
-    pub fit_next : (get_or l i no_pair).limit ≤ max_delay → left u l (i + 1) ≡ left u l i
-    fit_next e = sym (here ∙ rw (le-leb (get_or l i no_pair).limit max_delay e))
-
-  -- the end of the loop: no pair is left
-  fit_none : length (take u l) ≤ i → left u l i ≡ true
-  fit_none h = ap (λ (ps : List Pair). automata.limits_fit (map pair_as ps)) (drop_of_length-le (take u l) h)
-
-  pub fit_used : u ≤ i → left u l i ≡ true
-  fit_used h = let n = length-take u l in fit_none (omega (arith, n))
-
-  pub fit_end : length l ≤ i → left u l i ≡ true
-  fit_end h = let n = length-take u l in fit_none (omega (arith, n))
+once_few : (list : PairList) (once r : Bool) → r ≡ and (leb list.used max_pairs) once → r ≡ true → list.used ≤ 4
+once_few list once r e t = leb-true list.used 4 (and_true (leb list.used max_pairs) once (sym e ∙ t)).0
 
 -- ---- from the first four to the whole list
 tests_once : (inside once fit : Bool) → ok tt ≡ tests inside once fit → once ≡ true
@@ -94,11 +53,15 @@ module _ (list : PairList) (ps : List automata.TapePair) (is : FirstFour ps list
     whole : (fits : Bool) → (pairs_as list ≡ ps → fit ≡ fits) → Decided ps inside once fits r
     whole fits h = record {
       answer = s.answer ∙ tests_fit inside once fit fits (λ t. h (every t));
-      pairs = λ f. s.pairs f ∙ every (tests_once inside once fit (sym (ap judged_as f) ∙ s.answer));
+      pairs = all_pairs r s.answer s.pairs;
       used_fit = s.used_fit;
       four = s.four;
       all_inside = s.all_inside;
     }
+      where
+        all_pairs : (r : PairsJudged) → judgement r ≡ tests inside once fit → IfOk r (λ l. pairs_as l ≡ pairs_as list) → IfOk r (λ l. pairs_as l ≡ ps)
+        all_pairs (Ok l) a p = p ∙ every (tests_once inside once fit a)
+        all_pairs (Err e) a p = tt
 
 module _ (list : PairList) (inside once fit : Bool) (r : PairsJudged) (s : Decided (pairs_as list) inside once fit r) where
   pub decides_keep : once ≡ and (leb list.used max_pairs) (distinct (named (automata.tapes_of (pairs_as list)))) → fit ≡ automata.limits_fit (pairs_as list)

@@ -1,8 +1,8 @@
 -- Facts of lists of pairs: in bytes, by value, and in a loop over them.
-use Prim.Native.Nat.{ℕ, zero, suc, ◌+◌, ◌-◌, ◌*◌, ◌/◌, ◌≤◌, ◌<◌}
+use Prim.Native.Nat.{ℕ, zero, suc, ◌+◌, ◌*◌, ◌/◌, ◌≤◌, ◌<◌}
 use mathlib.Core.Path.{◌≡◌, refl, sym, ap, ap₂, ◌∙◌}
 use mathlib.Core.Bool.{true, false}
-use mathlib.Core.List.{List, [], ◌∷◌, map}
+use mathlib.Core.List.{List, [], ◌∷◌, ◌++◌, map}
 use native.Mathlib.Omega.{arith}
 use lib.ListN.{length, get_or, take, drop}
 use borrow.Author.Tests.{leb-true, lt-ltb}
@@ -56,25 +56,34 @@ pairs_end (x ∷ y ∷ []) zero h = refl
 pairs_end (x ∷ y ∷ z ∷ bs) zero h = absurd (omega arith)
 pairs_end (x ∷ bs) (suc at) h = pairs_end bs at (omega arith)
 
--- ---- the loops over the pairs
-module _ (n m : ℕ) (bs : List ℕ) (at : ℕ) where
-  pub within_end : length bs - at < 3 → within n m (tapes_of (pairs_of (drop at bs))) ≡ true
-  within_end h = ap (λ ps. within n m (tapes_of ps)) (pairs_end bs at (omega arith))
+-- ---- the loop over the pairs
+module _ (n m : ℕ) (w : List ℕ) where
+  -- no pair is left
+  pub within_end : length w < 3 → true ≡ within n m (tapes_of (pairs_of w))
+  within_end h = sym (ap (λ ps. within n m (tapes_of ps)) (pairs_end w 0 h))
 
-  module _ (h : 3 ≤ length bs - at) where
-    here : within n m (tapes_of (pairs_of (drop at bs)))
-        ≡ and (and (is_tape n (get_or bs at 0)) (is_tape m (get_or bs (at + 1) 0))) (within n m (tapes_of (pairs_of (drop (at + 3) bs))))
-    here = ap (λ ps. within n m (tapes_of ps)) (pairs_next bs at (omega arith))
+  -- three bytes, and the others behind them
+  module _ (p v : List ℕ) (e : w ≡ p ++ v) (l : length p ≡ 3) where
+    here : within n m (tapes_of (pairs_of w)) ≡ and (and (is_tape n (get_or p 0 0)) (is_tape m (get_or p 1 0))) (within n m (tapes_of (pairs_of v)))
+    unfolding pairs_of
+    here = ap (λ bs. within n m (tapes_of (pairs_of bs))) e ∙ go p l
+      where
+        go : (p : List ℕ) → length p ≡ 3
+            → within n m (tapes_of (pairs_of (p ++ v))) ≡ and (and (is_tape n (get_or p 0 0)) (is_tape m (get_or p 1 0))) (within n m (tapes_of (pairs_of v)))
+        go (x ∷ y ∷ z ∷ []) h = refl
+        go [] h = absurd (omega arith)
+        go (x ∷ []) h = absurd (omega arith)
+        go (x ∷ y ∷ []) h = absurd (omega arith)
+        go (x ∷ y ∷ z ∷ a ∷ p) h = absurd (omega arith)
 
-    pub within_first : is_tape n (get_or bs at 0) ≡ false → within n m (tapes_of (pairs_of (drop at bs))) ≡ false
-    within_first e = here ∙ rw e
+    pub within_first : false ≡ is_tape n (get_or p 0 0) → false ≡ within n m (tapes_of (pairs_of w))
+    within_first f = sym (here ∙ rw (← f))
 
-    pub within_second : is_tape n (get_or bs at 0) ≡ true → is_tape m (get_or bs (at + 1) 0) ≡ false → within n m (tapes_of (pairs_of (drop at bs))) ≡ false
-    within_second e f = here ∙ rw (e, f)
+    pub within_second : true ≡ is_tape n (get_or p 0 0) → false ≡ is_tape m (get_or p 1 0) → false ≡ within n m (tapes_of (pairs_of w))
+    within_second t f = sym (here ∙ rw (← t, ← f))
 
-    pub within-next : is_tape n (get_or bs at 0) ≡ true → is_tape m (get_or bs (at + 1) 0) ≡ true
-        → within n m (tapes_of (pairs_of (drop (at + 3) bs))) ≡ within n m (tapes_of (pairs_of (drop at bs)))
-    within-next e f = sym (here ∙ rw (e, f))
+    pub within-next : true ≡ is_tape n (get_or p 0 0) → true ≡ is_tape m (get_or p 1 0) → within n m (tapes_of (pairs_of v)) ≡ within n m (tapes_of (pairs_of w))
+    within-next t u = sym (here ∙ rw (← t, ← u))
 
 -- ---- at most four pairs by value
 -- read from the bytes
@@ -107,20 +116,15 @@ read_list bs a b c d ea eb ec ed =
     each h (suc (suc (suc (suc k)))) j = absurd (omega arith)
 
 -- one side of the pairs that are used: g is the first or the second tape
-pub side : (g : Pair → ℕ) (u : ℕ) (l : List memory.Pair) → length l ≡ 4
-    → take u (g (tapes_as (get_or l 0 no_pair)) ∷ g (tapes_as (get_or l 1 no_pair)) ∷ g (tapes_as (get_or l 2 no_pair)) ∷ g (tapes_as (get_or l 3 no_pair)) ∷ [])
-    ≡ map g (tapes_of (map pair_as (take u l)))
-side g u (a ∷ b ∷ c ∷ d ∷ []) h = go u (a ∷ b ∷ c ∷ d ∷ [])
-  where
-    go : (u : ℕ) (l : List memory.Pair) → take u (map (λ p. g (tapes_as p)) l) ≡ map g (tapes_of (map pair_as (take u l)))
-    go zero l = refl
-    go (suc u) [] = refl
-    go (suc u) (p ∷ l) = ap (λ (r : List ℕ). g (tapes_as p) ∷ r) (go u l)
-side g u [] h = absurd (omega arith)
-side g u (a ∷ []) h = absurd (omega arith)
-side g u (a ∷ b ∷ []) h = absurd (omega arith)
-side g u (a ∷ b ∷ c ∷ []) h = absurd (omega arith)
-side g u (a ∷ b ∷ c ∷ d ∷ e ∷ l) h = absurd (omega arith)
+pub side : (g : Pair → ℕ) (u n : ℕ) (xs : List ℕ) (l : List memory.Pair) → length xs ≡ n → length l ≡ n
+    → ((i : ℕ) → i < n → get_or xs i 0 ≡ g (tapes_as (get_or l i no_pair))) → take u xs ≡ map g (tapes_of (map pair_as (take u l)))
+side g zero n xs l h k e = refl
+side g (suc u) n [] [] h k e = refl
+side g (suc u) n [] (p ∷ l) h k e = absurd (omega arith)
+side g (suc u) n (x ∷ xs) [] h k e = absurd (omega arith)
+side g (suc u) zero (x ∷ xs) (p ∷ l) h k e = absurd (omega arith)
+side g (suc u) (suc n) (x ∷ xs) (p ∷ l) h k e =
+    ap₂ (λ (y : ℕ) (ys : List ℕ). y ∷ ys) (e zero (omega arith)) (side g u n xs l (omega arith) (omega arith) (λ i j. e (suc i) (omega arith)))
 
 -- ---- the tapes that pairs by value name
 between : (n m : ℕ) (p : memory.Pair) → and (is_tape n p.first) (is_tape m p.second) ≡ true → Between n m p

@@ -7,9 +7,8 @@ use Rattle.automata.specs.Answer.{◌>>=◌, Answer, ok, refused, require, judge
 use Rattle.automata.specs.Automaton.{Automaton}
 use Rattle.automata.specs.Memory.{Memory, decode_table}
 use Rattle.automata.proofs.AnswerFacts.{refused≢ok}
-use Rattle.table.specs.declared.answer.Judged.{Judged}
-use Rattle.table.specs.declared.answer.Judged.TheVariants.{Fine, Refused}
-use Rattle.table.specs.Answers.{judged_as}
+use Rattle.std.specs.Prelude.{Ok, Err}
+use Rattle.table.specs.Answers.{Judged, judged_as}
 use Rattle.pairs.specs.PairTests.{in_turn}
 
 -- the tests before an answer, and the answer
@@ -20,18 +19,14 @@ turn_then (ok u) true n rest = refl
 turn_then (ok u) false n rest = refl
 
 -- a judgement that is no refusal
-pub judged_fine : (j : Judged) (u : Unit {0}) → judged_as j ≡ ok u → j ≡ Fine
-judged_fine Fine u e = refl
-judged_fine (Refused why) u e = absurd (refused≢ok e)
+pub judged_fine : (j : Judged) (u : Unit {0}) → judged_as j ≡ ok u → j ≡ Ok tt
+judged_fine (Ok t) u e = refl
+judged_fine (Err why) u e = absurd (refused≢ok e)
 
 -- a test that is no refusal
 pub require_true : (b : Bool) (n : ℕ) (u : Unit {0}) → require b n ≡ ok u → b ≡ true
 require_true true n u e = refl
 require_true false n u e = absurd (refused≢ok e)
-
--- work space that is too short
-pub turn_short : (t p : Judged) (b : Bool) → t ≡ Fine → p ≡ Fine → b ≡ false → refused refusal.space ≡ in_turn (judged_as t) (judged_as p) b
-turn_short t p b e f g = rw (e, f, g)
 
 -- A call that judges its table, then the pairs and the space, and then goes on is its judgements in turn, and then the
 -- rest.

@@ -1,15 +1,14 @@
 -- What the judgements of a lent list promise, and the pairs of a join by value.
-use Rattle.std.specs.Prelude.{ℕ, ◌+◌, ◌≤◌, ◌<◌, ◌≡◌, Bool, true, List, length, get_or, ltb}
+use Rattle.std.specs.Prelude.{Result, Ok, Err, IfOk, ℕ, ◌+◌, ◌≤◌, ◌<◌, ◌≡◌, Bool, true, List, length, get_or, ltb}
 use Rattle.automata.specs.Lists.{if}
-use Rattle.automata.specs.Answer.{Answer}
+use Rattle.automata.specs.Answer.{Answer, ok, refused}
 use Rattle.automata.specs.TapePair as automata
 use Rattle.automata.specs.Join.{within}
-use Rattle.table.specs.declared.answer.Judged.TheVariants.{Fine}
+use Rattle.table.specs.declared.answer.Refusal.{Refusal}
 use Rattle.table.specs.declared.pair.Pair.{Pair}
 use Rattle.table.specs.declared.pair.PairList.{PairList}
-use Rattle.table.specs.Answers.{judged_as}
+use Rattle.table.specs.Answers.{refusal_number}
 use Rattle.table.specs.Pairs.{pairs_as, no_pair, Named}
-use Rattle.pairs.specs.declared.PairsJudged.{PairsJudged}
 use Rattle.pairs.specs.PairTests.{tests, pairs_answer, join_pairs_answer, tapes_answer}
 
 -- the first tape of a pair is among n, the second among m, counted from 1
@@ -29,21 +28,30 @@ pub record FirstFour (ps : List automata.TapePair) (l : PairList) : Type 0 where
   pub many : l.used ≡ length ps
   pub all_read : length ps ≤ 4 → pairs_as l ≡ ps
 
+-- What a judgement of a list answers: the pairs by value, or a refusal.
+abbrev pub PairsJudged : Type 0
+PairsJudged = Result PairList Refusal
+
+-- what it stands for as a judgement: nothing, or the number of the refusal
+abbrev pub judgement : PairsJudged → Answer (Unit {0})
+judgement (Ok l) = ok tt
+judgement (Err r) = refused (refusal_number r)
+
 -- The tests decided in their order, and where none fails the pairs by value.
 pub record Decided (ps : List automata.TapePair) (inside once fit : Bool) (r : PairsJudged) : Type 0 where
-  pub answer : judged_as r.judged ≡ tests inside once fit
-  pub pairs : r.judged ≡ Fine → pairs_as r.pairs ≡ ps
-  pub used_fit : r.judged ≡ Fine → r.pairs.used ≤ 4
-  pub four : r.judged ≡ Fine → length r.pairs.pairs ≡ 4
-  pub all_inside : r.judged ≡ Fine → inside ≡ true
+  pub answer : judgement r ≡ tests inside once fit
+  pub pairs : IfOk r (λ l. pairs_as l ≡ ps)
+  pub used_fit : IfOk r (λ l. l.used ≤ 4)
+  pub four : IfOk r (λ l. length l.pairs ≡ 4)
+  pub all_inside : IfOk r (λ l. inside ≡ true)
 
 -- A list of pairs judged: the answer that is called for, and where there is no refusal the pairs by value, as they are
 -- read here, and what holds of their tapes.
 pub record ListJudged {X : Type 0} (read : PairList → X) (list : X) (expected : Answer (Unit {0})) (Tapes : PairList → Type 0) (r : PairsJudged) : Type 0 where
-  pub answer : judged_as r.judged ≡ expected
-  pub pairs : r.judged ≡ Fine → read r.pairs ≡ list
-  pub four : r.judged ≡ Fine → length r.pairs.pairs ≡ 4
-  pub tapes_named : r.judged ≡ Fine → Tapes r.pairs
+  pub answer : judgement r ≡ expected
+  pub pairs : IfOk r (λ l. read l ≡ list)
+  pub four : IfOk r (λ l. length l.pairs ≡ 4)
+  pub tapes_named : IfOk r Tapes
 
 -- for an auto-intersection of a table with so many tapes
 abbrev pub KeepJudged : List automata.TapePair → ℕ → PairsJudged → Type 0

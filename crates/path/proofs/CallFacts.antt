@@ -1,44 +1,32 @@
 -- The call by its steps: what each way out of it answers and leaves in the list.
 use mathlib.Core.Path.{◌≡◌, sym, ap, ◌∙◌}
-use mathlib.Core.Bool.{Bool, true, false, not}
+use mathlib.Core.Bool.{Bool, true, false}
 use mathlib.Core.Option.{Option}
 use mathlib.Core.List.{List}
-use Prim.Native.Nat.{ℕ, ◌*◌, ◌/◌, ◌≤◌}
+use Prim.Native.Nat.{ℕ, ◌*◌}
 use native.Mathlib.Omega.{arith}
-use native.Mathlib.Decide.{dec_le}
 use lib.Dec.{leb}
 use lib.ListN.{length}
-use borrow.Author.Tests.{le-leb, lt-leb, leb-true, not-true, not-false}
+use borrow.Author.Tests.{leb-true}
 use Rattle.automata.specs.Lists.{and}
 use Rattle.automata.specs.Answer.{Answer, refused, judge}
 use Rattle.automata.specs.OrderedSum.{ℕ_sum}
 use Rattle.automata.specs.Automaton.{Automaton, Tuple, size}
-use Rattle.automata.specs.Memory.{Memory, table_of, zeros}
+use Rattle.automata.specs.Memory.{Memory, table_of}
 use Rattle.automata.specs.LeastPath.{Account, least_path}
 use Rattle.automata.specs.LeastPathCall.{listed, least_path_call}
 use Rattle.automata.specs.Calls.Work.{combinations, path_work, enough}
-use Rattle.automata.specs.Calls.LeastPath.{places_in, path_answer, Told, told_answer, path_in, PathFound, path_found_of, list_path, path_outcome}
+use Rattle.automata.specs.Calls.LeastPath.{places_in, path_answer, Told, told_answer, path_in, PathFound, list_path, path_outcome}
 use Rattle.automata.proofs.TestFacts.{and_true}
-use Rattle.table.specs.Answers.{judged_as, refusal_number}
+use Rattle.std.specs.Prelude.{Err}
+use Rattle.table.specs.Answers.{refusal_number}
 use Rattle.table.specs.declared.answer.Refusal.{Refusal}
-use Rattle.table.specs.declared.answer.Judged.{Judged}
-use Rattle.table.specs.declared.answer.Judged.TheVariants.{Refused}
 use Rattle.lookup_tuple.specs.declared.Strings.{Strings}
-use Rattle.lookup_tuple.specs.declared.judge.TupleJudged.{TupleJudged}
 use Rattle.lookup_tuple.specs.Strings.{Stands}
 use Rattle.lookup_tuple.specs.Positions.{positions}
 use Rattle.lookup.specs.Judgement.{answer_by, Called, JudgedCall}
 use Rattle.lookup.proofs.JudgeFacts.{judged_refused, called_answer, called_size, cells_are, answers_by, tests-first}
 use Rattle.path_search.specs.Traced.{Traceable}
-use Rattle.path.specs.Answers.{no_path_after}
-
--- a number of cells fits where its bytes do
-pub cells_fit : (cells work : ℕ) → leb cells (work / 24) ≡ leb (24 * cells) work
-cells_fit cells work = go (dec_le (24 * cells) work)
-  where
-    go : Dec (24 * cells ≤ work) → leb cells (work / 24) ≡ leb (24 * cells) work
-    go (yes h) = le-leb cells (work / 24) (omega arith) ∙ sym (le-leb (24 * cells) work h)
-    go (no h) = lt-leb cells (work / 24) (omega arith) ∙ sym (lt-leb (24 * cells) work (omega arith))
 
 module _ (m : Memory) (text : List ℕ) (room : Bool) (list work : List ℕ) where
   -- the answer of the call
@@ -63,11 +51,8 @@ module _ (m : Memory) (text : List ℕ) (room : Bool) (list work : List ℕ) whe
   refuses n e = (sym (ap told_answer e), sym (ap (λ (a : Answer (Option (Account ℕ))). path_in a list) e))
 
   -- a table or a tuple that is refused
-  pub call_refused : (r : TupleJudged) (why : Refusal) (a : Answer (Option Told)) → JudgedCall m text r → r.judged ≡ Refused why
-      → a ≡ no_path_after (judged_as r.judged) → Tells a list
-  call_refused r why a j f g =
-      let t = refuses (refusal_number why) (answer_is ∙ judged_refused m text r j why f found) in
-      (g ∙ ap (λ (x : Judged). no_path_after (judged_as x)) f ∙ t.0, t.1)
+  pub call_refused : (why : Refusal) → JudgedCall m text (Err why) → Tells (refused (refusal_number why)) list
+  call_refused why j = refuses (refusal_number why) (answer_is ∙ judged_refused m text why j found)
 
   module _ (s : Strings) (k : Called m text s) (n : ℕ) (e : n ≡ m.states * positions s.lengths) (b : Bool) (h : b ≡ and room (leb (24 * n) (length work))) where
     -- the answer, once the tuple is judged
@@ -80,35 +65,29 @@ module _ (m : Memory) (text : List ℕ) (room : Bool) (list work : List ℕ) whe
         ∙ ap (λ (x : Bool). judge x 13 (listed (places_in list) (least_path ℕ_sum (table_of m) k.tuple))) (sym h)
 
     -- too little space
-    pub space-short : not b ≡ true → Tells (refused 13) list
-    space-short f = refuses 13 (call_passed ∙ ap (λ (x : Bool). judge x 13 (listed (places_in list) (least_path ℕ_sum (table_of m) k.tuple))) (not-true b f))
+    pub space-short : b ≡ false → Tells (refused 13) list
+    space-short f = refuses 13 (call_passed ∙ ap (λ (x : Bool). judge x 13 (listed (places_in list) (least_path ℕ_sum (table_of m) k.tuple))) f)
 
     -- enough: the path can be searched
-    pub space-enough : not b ≡ false → Traceable m text s (length work)
+    pub space-enough : b ≡ true → Traceable m text s (length work)
     unfolding path_work
     space-enough f = record {
       sound = k.sound;
       tuple = k.tuple;
       stands = k.stands;
       tapes_are = k.tapes_are;
-      fits = omega (arith, cells_are m text s k n e, leb-true (24 * n) (length work) (and_true room (leb (24 * n) (length work)) (sym h ∙ not-false b f)).1);
+      fits = omega (arith, cells_are m text s k n e, leb-true (24 * n) (length work) (and_true room (leb (24 * n) (length work)) (sym h ∙ f)).1);
     }
 
     -- and what is found is the answer
-    pub path_found : not b ≡ false → (a : Answer (Option Told)) (left : List ℕ)
+    pub path_found : b ≡ true → (a : Answer (Option Told)) (left : List ℕ)
         → ((t : Tuple) → Stands text t s → length t ≡ m.tapes
         → (a ≡ told_answer (listed (places_in list) (least_path ℕ_sum (table_of m) t))) × (left ≡ path_in (listed (places_in list) (least_path ℕ_sum (table_of m) t)) list))
         → Tells a left
     path_found f a left g =
         let t = g k.tuple k.stands k.tapes_are in
-        let same = call_passed ∙ ap (λ (x : Bool). judge x 13 (listed (places_in list) (least_path ℕ_sum (table_of m) k.tuple))) (not-false b f) in
+        let same = call_passed ∙ ap (λ (x : Bool). judge x 13 (listed (places_in list) (least_path ℕ_sum (table_of m) k.tuple))) f in
         (t.0 ∙ sym (ap told_answer same), t.1 ∙ sym (ap (λ (x : Answer (Option (Account ℕ))). path_in x list) same))
-
--- Work space is zero afterwards.
-pub call_cleared : (m : Memory) (text : List ℕ) (room : Bool) (list work left zeroed : List ℕ) (n : ℕ) (a : Answer (Option Told))
-    → (a ≡ told_answer (path_answer m text room list work)) × (left ≡ path_in (path_answer m text room list work) list) → n ≡ length work → zeroed ≡ zeros n
-    → path_found_of a left zeroed ≡ list_path (path_answer m text room list work) list work
-call_cleared m text room list work left zeroed n a (e, f) l z = λ i. record { answer = e i; list = f i; work = (z ∙ ap zeros l) i }
 
 -- what is told by value has room
 pub call_outcome : (m : Memory) (text list work : List ℕ) (x : PathFound) → x ≡ list_path (path_answer m text true list work) list work → x ≡ path_outcome m text list work

@@ -1,5 +1,5 @@
 -- What is told in bytes: the four numbers one behind the other, and that they fit.
-use mathlib.Core.Path.{◌≡◌, refl, sym, ap, subst, ◌∙◌}
+use mathlib.Core.Path.{◌≡◌, refl, sym, ap, ◌∙◌}
 use mathlib.Core.Option.{Option, none, some}
 use mathlib.Core.List.{List, ◌++◌}
 use Prim.Native.Nat.{ℕ, ◌≤◌}
@@ -14,10 +14,6 @@ use Rattle.table.specs.Region.{splice}
 use Rattle.table.specs.Endian.{to_le}
 use Rattle.table.proofs.RegionFacts.{splice-behind, splice_front}
 use Rattle.laws.proofs.CallPath.{path_calls_lem}
-use Rattle.path_search.specs.declared.answer.PathTold.{PathTold}
-use Rattle.path_search.specs.declared.answer.PathAnswer.{PathAnswer}
-use Rattle.path_search.specs.declared.answer.PathAnswer.TheVariants.{Path}
-use Rattle.path_search.specs.Answers.{told_as, path_as}
 use Rattle.path.specs.Answers.{Fitting, Recordable}
 
 -- four numbers one behind the other
@@ -28,15 +24,6 @@ told_stored x v₀ v₁ v₂ v₃ v₄ l e₁ e₂ e₃ e₄ =
     let f₂ = splice-behind 0 8 w (to_le 8 0) v₀ v₁ v₂ e₁ e₂ refl (omega arith) in
     let f₃ = splice-behind 0 16 (w ++ to_le 8 0) (to_le 4 x.start) v₀ v₂ v₃ f₂ e₃ refl (omega arith) in
     splice-behind 0 20 (w ++ to_le 8 0 ++ to_le 4 x.start) (to_le 4 x.arcs) v₀ v₃ v₄ f₃ e₄ refl (omega arith) ∙ splice_front (told_bytes x) v₀
-
--- a path that is told has its room
-pub path_room : (a : PathAnswer) (x : PathTold) (n : ℕ) → Recordable (path_as a) n → a ≡ Path x → Fitting (told_as x) × (told_size ≤ n)
-path_room a x n r e = subst (λ (b : PathAnswer). Recordable (path_as b) n) e r
-
--- and stands over the front of the result space
-pub path-recorded : (a : PathAnswer) (x : PathTold) (result left : List ℕ) → a ≡ Path x → left ≡ overwrite (told_bytes (told_as x)) result
-    → left ≡ record_told (path_as a) result
-path-recorded a x result left e f = f ∙ sym (ap (λ (b : PathAnswer). record_told (path_as b) result) e)
 
 module _ (m : Memory) (text result list work : List ℕ) where
   -- what the call without the result space answers and leaves

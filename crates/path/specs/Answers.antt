@@ -1,12 +1,8 @@
--- What the answers of the call `path` stand for, and when what is told fits its bytes.
+-- When what is told of a path fits its bytes.
 use Rattle.std.proofs.Math.Option.{Option, none, some}
 use Rattle.std.specs.Prelude.{ℕ, ◌≤◌, ◌<◌}
-use Rattle.automata.specs.Answer.{◌>>=◌, Answer, ok, refused}
+use Rattle.automata.specs.Answer.{Answer, ok, refused}
 use Rattle.automata.specs.Calls.LeastPath.{Told, told_size}
-
--- the refusal of a judgement, and none where it has none
-abbrev pub no_path_after : Answer (Unit {0}) → Answer (Option Told)
-no_path_after a = a >>= λ u. ok none
 
 -- the starting state and the number of arcs fit four bytes each
 pub record Fitting (x : Told) : Type 0 where

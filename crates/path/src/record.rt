@@ -2,14 +2,15 @@
 ghost use Rattle.std.specs.Prelude.{◌≡◌, ◌≤◌, length};
 ghost use Rattle.automata.specs.Calls.LeastPath.{told_size, told_bytes, record_told, path_recorded_of, path_recorded};
 ghost use Rattle.automata.specs.Calls.Outcome.{overwrite};
-ghost use Rattle.table.specs.Answers.{lent};
+ghost use Rattle.table.specs.Answers.{memory};
 ghost use Rattle.path_search.specs.Answers.{told_as, path_as};
 ghost use Rattle.path.specs.Answers.{Fitting, Recordable};
 
 use crate::call::find_cleared;
-use path_search::answer::{PathAnswer, PathTold};
-use table::answer::Counts;
+use path_search::answer::PathTold;
+use table::answer::Refusal;
 use table::bytes::{put32, put64};
+use table::lent::Table;
 
 // The bytes of what is told.
 pub const TOLD: usize = 24;
@@ -27,32 +28,27 @@ fn put_told(told: PathTold, res: &mut [u8])
 }
 
 // The same of an answer, where a path is told.
-fn record_told(answer: PathAnswer, res: &mut [u8])
+fn record_told(answer: Result<Option<PathTold>, Refusal>, res: &mut [u8])
     requires { Recordable (path_as answer) (length res.old) }
     ensures { res.new ≡ record_told (path_as answer) res.old }
 {
-    match answer {
-        PathAnswer::Path(told) => put_told(told, res),
-        PathAnswer::Nothing => {}
-        PathAnswer::Refused(_) => {}
+    if let Ok(Some(told)) = answer {
+        put_told(told, res);
     }
 }
 
 // The call `path`, what is told over the front of `result`.
 pub fn path_into(
-    counts: Counts,
-    states: &[u8],
-    arcs: &[u8],
+    table: &Table,
     tuple: &[u8],
     res: &mut [u8],
     list: &mut [u8],
     work: &mut [u8],
-) -> PathAnswer
+) -> Result<Option<PathTold>, Refusal>
     ensures { path_recorded_of (path_as result) res.new list.new work.new
-        ≡ path_recorded (lent counts states.now arcs.now) tuple.now
-        res.old list.old work.old }
+        ≡ path_recorded (memory table.now) tuple.now res.old list.old work.old }
 {
-    let answer = find_cleared(counts, states, arcs, tuple, TOLD <= res.len(), list, work);
+    let answer = find_cleared(table, tuple, TOLD <= res.len(), list, work);
     record_told(answer, res);
     answer
 }

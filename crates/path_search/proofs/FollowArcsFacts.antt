@@ -1,7 +1,7 @@
 -- The arcs from a cell that is taken up: one arc from what each call gave, and all that leave a state by its chain.
 use mathlib.Core.Path.{◌≡◌, refl, sym, ap, subst, ◌∙◌}
 use mathlib.Core.Bool.{Bool, true, false}
-use mathlib.Core.Option.{Option, none}
+use mathlib.Core.Option.{Option, none, some}
 use mathlib.Core.List.{List}
 use Prim.Native.Nat.{ℕ, zero, suc, ◌+◌, ◌-◌, ◌*◌, ◌/◌, ◌%◌, ◌≤◌, ◌<◌}
 use native.Mathlib.Omega.{arith}
@@ -23,9 +23,6 @@ use Rattle.path_search.specs.FirstPath.{Kept}
 use Rattle.path_search.proofs.FollowFacts.{follow_front, follow_kept}
 use Rattle.table.specs.Arcs.{source_of, labels_start}
 use Rattle.path_search.specs.Tight.{shift_by, shift_of, tight_to, next_cell}
-use Rattle.path_search.specs.declared.answer.Reached.{Reached}
-use Rattle.path_search.specs.declared.answer.Reached.TheVariants.{Cell, Nowhere}
-use Rattle.path_search.specs.Answers.{reached_as}
 use Rattle.path_search.specs.Searchable.{Spannable, Searchable}
 use Rattle.path_search.proofs.TightArcFacts.{next_lt}
 use Rattle.path_search.proofs.KeptFacts.{next_kept}
@@ -141,22 +138,19 @@ module _ (c : Counts) (arcs text : List ℕ) (strings : Strings) (spans : Spans)
         rw (a, b, d)
 
     -- nowhere: no cell is found
-    pub follow_nowhere : (cells : ℕ) (s : Search) (r : Reached) → reached_as r ≡ tight_to c arcs text strings spans ws to here e → r ≡ Nowhere
+    pub follow_nowhere : (cells : ℕ) (s : Search) → none ≡ tight_to c arcs text strings spans ws to here e
         → s ≡ follow cells (next_cell c arcs text strings spans ws) here e s
-    follow_nowhere cells s r k n =
-        sym (follow-none cells (next_cell c arcs text strings spans ws) here e s (next_tight ∙ sym k ∙ ap reached_as n))
+    follow_nowhere cells s k = sym (follow-none cells (next_cell c arcs text strings spans ws) here e s (next_tight ∙ sym k))
 
     -- to a cell, which is one of the cells
-    pub reached_lt : (r : Reached) (d : ℕ) → reached_as r ≡ tight_to c arcs text strings spans ws to here e → r ≡ Cell d
-        → d < c.states * spans.all
-    reached_lt r d k n = tight_lt c arcs text strings spans h ws to here e d l (sym k ∙ ap reached_as n)
+    pub reached_lt : (d : ℕ) → some d ≡ tight_to c arcs text strings spans ws to here e → d < c.states * spans.all
+    reached_lt d k = tight_lt c arcs text strings spans h ws to here e d l (sym k)
 
     -- which is found
-    pub follow_there : (cells : ℕ) (s u : Search) (r : Reached) (d : ℕ) → reached_as r ≡ tight_to c arcs text strings spans ws to here e → r ≡ Cell d
+    pub follow_there : (cells : ℕ) (s u : Search) (d : ℕ) → some d ≡ tight_to c arcs text strings spans ws to here e
         → u ≡ enter cells e d s → u ≡ follow cells (next_cell c arcs text strings spans ws) here e s
     unfolding follow
-    follow_there cells s u r d k n f =
-        f ∙ sym (ap (λ (o : Option ℕ). entered cells e o s) (next_tight ∙ sym k ∙ ap reached_as n))
+    follow_there cells s u d k f = f ∙ sym (ap (λ (o : Option ℕ). entered cells e o s) (next_tight ∙ sym k))
 
   -- ---- the arcs that leave the state of a cell
 

@@ -28,8 +28,8 @@ use Rattle.automata.specs.Layout.{state_size}
 use Rattle.table.specs.Answers.{lent}
 use Rattle.table.specs.Records.{option_of, state_at}
 use Rattle.table.specs.declared.answer.Counts.{Counts}
-use Rattle.table.specs.declared.record.Weight.{Weight}
-use Rattle.table.specs.declared.record.Weight.TheVariants.{Absent, Present}
+use Rattle.table.specs.Records.{Weight}
+use Rattle.std.specs.Prelude.{None, Some}
 use Rattle.table.proofs.SoundFacts.{few_states}
 use Rattle.lookup_tuple.specs.declared.Strings.{Strings}
 use Rattle.lookup_tuple.specs.Strings.{Stands}
@@ -96,8 +96,8 @@ module _ (c : Counts) (states arcs text : List ℕ) (sound : Sound (lent c state
     where
       go : (x : Weight) → (state_at (state_size * q) states).initial ≡ x → beginning x (get_or ws (q * spans.all + 0) 0) ≡ least
           → (i : ℕ) × (initial_of table q ≡ some i) × (i + get_or ws (q * spans.all + 0) 0 ≡ least)
-      go Absent e h = absurd (omega (arith, h, least_small))
-      go (Present i) e h = (i, initial_is c states arcs sound q lt ∙ ap option_of e, h)
+      go None e h = absurd (omega (arith, h, least_small))
+      go (Some i) e h = (i, initial_is c states arcs sound q lt ∙ ap option_of e, h)
 
   -- and the other way round
   initial_start : (q i : ℕ) → q < c.states → initial_of table q ≡ some i → i + get_or ws (q * spans.all + 0) 0 ≡ least → from_state states spans.all ws q ≡ least

@@ -1,5 +1,5 @@
 -- A path in the lent list: it is told where the list has places for its arcs, and else refused by 14.
-use mathlib.Core.Path.{◌≡◌, sym, ap, subst, ◌∙◌}
+use mathlib.Core.Path.{◌≡◌, sym, ap, ◌∙◌}
 use mathlib.Core.Bool.{Bool}
 use mathlib.Core.Option.{Option, some}
 use mathlib.Core.List.{List, [], ◌∷◌}
@@ -15,9 +15,9 @@ use Rattle.automata.specs.Calls.LeastPath.{places_in, entries, Told, told_of, to
 use Rattle.table.specs.declared.answer.Counts.{Counts}
 use Rattle.lookup_moves.specs.declared.spot.Spans.{Spans}
 use Rattle.path_search.specs.declared.answer.PathTold.{PathTold}
-use Rattle.path_search.specs.declared.answer.PathAnswer.TheVariants.{Path}
+use Rattle.std.specs.Prelude.{Ok, Some}
 use Rattle.path_search.specs.Answers.{path_as}
-use Rattle.path_search.specs.Trail.{mark_of, found_from, count_back, run_back, CanWalk}
+use Rattle.path_search.specs.Trail.{mark_of, found_from, count_back, run_back}
 use Rattle.path_search.specs.Traced.{traced}
 
 module _ (c : Counts) (arcs : List ℕ) (spans : Spans) (xs : List ℕ) where
@@ -26,11 +26,6 @@ module _ (c : Counts) (arcs : List ℕ) (spans : Spans) (xs : List ℕ) where
   unfolding run_back
   run_length zero at run = omega arith
   run_length (suc n) at run = omega (arith, run_length n (found_from c arcs spans xs at) (mark_of c arcs spans xs at ∷ run))
-
-  -- the walk back has as many steps as were counted
-  pub counted_walk : (found end n : ℕ) → n ≡ count_back c arcs spans xs found end → CanWalk c arcs spans xs (count_back c arcs spans xs found end) end
-      → CanWalk c arcs spans xs n end
-  counted_walk found end n n-is = subst (λ (k : ℕ). CanWalk c arcs spans xs k end) (sym n-is)
 
   module _ (list : List ℕ) (weight found end n : ℕ) (n-is : n ≡ count_back c arcs spans xs found end) where
     -- the account of the path
@@ -59,7 +54,7 @@ module _ (c : Counts) (arcs : List ℕ) (spans : Spans) (xs : List ℕ) where
       told = record { weight = weight; start = first / spans.all; arcs = n }
 
       pub path-told : n ≤ places_in list
-          → (path_as (Path told) ≡ told_answer (listed (places_in list) (some account))) × (left ≡ path_in (listed (places_in list) (some account)) list)
+          → (path_as (Ok (Some told)) ≡ told_answer (listed (places_in list) (some account))) × (left ≡ path_in (listed (places_in list) (some account)) list)
       path-told h = (
         ap {B = Answer (Option Told)} (λ (x : Told). ok (some x)) same ∙ sym (ap told_answer (listed_long h)),
         l ∙ ap (λ (k : ℕ). overwrite (entries (run_back c arcs spans xs k end []).0) list) n-is

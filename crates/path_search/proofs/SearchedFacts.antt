@@ -13,13 +13,12 @@ use Rattle.automata.specs.Lists.{and}
 use Rattle.automata.specs.Layout.{state_size}
 use Rattle.table.specs.Records.{state_at}
 use Rattle.table.specs.declared.answer.Counts.{Counts}
-use Rattle.table.specs.declared.record.Weight.{Weight}
-use Rattle.table.specs.declared.record.Weight.TheVariants.{Absent, Present}
+use Rattle.table.specs.Records.{Weight}
+use Rattle.std.specs.Prelude.{None, Some}
 use Rattle.table.specs.declared.record.State.{State}
-use Rattle.table.proofs.RowFacts.{mul_step}
 use Rattle.lookup_tuple.specs.declared.Strings.{Strings}
 use Rattle.lookup_moves.specs.declared.spot.Spans.{Spans}
-use Rattle.lookup_moves.specs.Distances.{far, cells_of}
+use Rattle.lookup_moves.specs.Distances.{cells_of}
 use Rattle.path_search.specs.Search.{Search, no_arc, search_of, order_at, enter, entered, enter_starts, follow_arcs, search_from}
 use Rattle.path_search.specs.FirstPath.{Kept}
 use Rattle.path_search.proofs.FollowFacts.{starts_front, starts_kept, follow_arcs_front, follow_arcs_kept}
@@ -28,16 +27,10 @@ use Rattle.path_search.specs.Tight.{next_cell, start_cell, ends_by, end_cell}
 use Rattle.path_search.specs.Searchable.{Searchable, Weights}
 use Rattle.path_search.proofs.TightArcFacts.{next_lt, start_lt}
 use Rattle.path_search.proofs.KeptFacts.{next_kept, start_kept, end_kept}
-use Rattle.path_search.proofs.ReadFacts.{state_lt, targets}
+use Rattle.path_search.proofs.ReadFacts.{targets}
 use Rattle.path_search.proofs.FollowArcsFacts.{follow_arcs_same}
 
 -- ---- the starts of paths
-
--- what the weight from a state on asks
-pub from_requires : (n all q : ℕ) (states w : List ℕ) → q < n → state_size * n ≤ length states → 0 < all → Weights (n * all) w
-    → (state_size * q + state_size ≤ length states) × (0 < all) × (8 * (q * all + all) ≤ length w) × (get_or (cells_of w) (q * all + 0) 0 ≤ far)
-from_requires n all q states w l a p h =
-    let m = mul_step q n all l in (omega arith, p, omega (arith, m, h.room), h.below (q * all + 0) (omega (arith, m)))
 
 module _ (n all : ℕ) (states : List ℕ) (least q : ℕ) (l : q < n) (ws : List ℕ) (x : ℕ) (e : x ≡ from_state states all ws q) where
   -- no least path starts at a state from which another weight is attained
@@ -66,17 +59,6 @@ pub record Starting (n all : ℕ) (states : List ℕ) (least : ℕ) (v : List �
   pub same_length : length w ≡ length v
 
 module _ (n all : ℕ) (states : List ℕ) (least : ℕ) (v : List ℕ) where
-  -- before the first state
-  pub starting-first : Kept (n * all) (search_of (cells_of v) 0) → Starting n all states least v 0 0 v
-  starting-first k =
-      let z : n - 0 ≡ n = omega arith in
-      record {
-        rest = ap (λ (m : ℕ). enter_starts (n * all) (start_cell n states all (cells_of v) least) m 0 (search_of (cells_of v) 0)) z;
-        front = refl;
-        kept = k;
-        same_length = refl;
-      }
-
   module _ (q found : ℕ) (w : List ℕ) (i : Starting n all states least v q found w) where
     -- behind a state
     pub starting_turn : 0 < all → q < n → (r : ℕ) (u : List ℕ)
@@ -121,18 +103,18 @@ module _ (states : List ℕ) (all here : ℕ) (ws : List ℕ) (st : State) (e : 
   end_by x f = ap (λ (y : Weight). ends_by y all (here % all) (get_or ws here 0)) (ap (λ (z : State). z.last) (sym e) ∙ f)
 
   -- a state that is not final
-  pub end_absent : st.last ≡ Absent → false ≡ end_cell states all ws here
-  end_absent f = sym (end_by Absent f)
+  pub end_absent : st.last ≡ None → false ≡ end_cell states all ws here
+  end_absent f = sym (end_by None f)
 
-  module _ (x : ℕ) (f : st.last ≡ Present x) where
+  module _ (x : ℕ) (f : st.last ≡ Some x) where
     -- a combination that is not the last
     pub end_early : (here % all + 1 ≡ all → ⊥) → false ≡ end_cell states all ws here
-    end_early k = sym (end_by (Present x) f ∙ ap (λ (b : Bool). and b (eqb x (get_or ws here 0))) (ne_eqb (here % all + 1) all k))
+    end_early k = sym (end_by (Some x) f ∙ ap (λ (b : Bool). and b (eqb x (get_or ws here 0))) (ne_eqb (here % all + 1) all k))
 
     -- the last
     pub end_last : (y : ℕ) → here % all + 1 ≡ all → y ≡ get_or ws here 0 → eqb x y ≡ end_cell states all ws here
     end_last y k g =
-        ap (eqb x) g ∙ sym (end_by (Present x) f ∙ ap (λ (b : Bool). and b (eqb x (get_or ws here 0))) (eq-eqb (here % all + 1) all k))
+        ap (eqb x) g ∙ sym (end_by (Some x) f ∙ ap (λ (b : Bool). and b (eqb x (get_or ws here 0))) (eq-eqb (here % all + 1) all k))
 
 -- ---- the cells in the order found
 
@@ -175,18 +157,6 @@ pub record Searching (c : Counts) (states arcs text : List ℕ) (strings : Strin
   pub same_length : length w ≡ length v
 
 module _ (c : Counts) (states arcs text : List ℕ) (strings : Strings) (spans : Spans) (found : ℕ) (v : List ℕ) where
-  -- before the first cell
-  pub searching_start : Kept (c.states * spans.all) (search_of (cells_of v) found)
-      → Searching c states arcs text strings spans found v 0 found v
-  searching_start k = record { rest = ap from_first all_left; front = refl; kept = k; same_length = refl }
-    where
-      from_first : ℕ → Option ℕ × Search
-      from_first n = search_from (c.states * spans.all) (next_cell c arcs text strings spans (cells_of v)) c.arcs (end_cell states spans.all (cells_of v)) n 0
-          (search_of (cells_of v) found)
-
-      all_left : c.states * spans.all - 0 ≡ c.states * spans.all
-      all_left = omega arith
-
   module _ (head count : ℕ) (w : List ℕ) (i : Searching c states arcs text strings spans found v head count w) where
     -- no cell is left
     pub searching_none : count ≤ head
@@ -211,13 +181,6 @@ module _ (c : Counts) (states arcs text : List ℕ) (strings : Strings) (spans :
       -- the next cell is one of the cells
       pub here_lt : here < c.states * spans.all
       here_lt = omega (arith, i.kept.cell head l)
-
-      -- what the test for an end asks
-      pub end_requires : state_size * c.states ≤ length states → Weights (c.states * spans.all) v
-          → (0 < spans.all) × (state_size * (here / spans.all) + state_size ≤ length states) × (8 * here + 8 ≤ length w)
-      end_requires r k =
-          let q = state_lt c.states spans.all here h.some_combination here_lt in
-          (h.some_combination, omega (arith, q), omega (arith, here_lt, k.room, i.same_length))
 
       -- what the test tells, by the weights at first
       end_told : (b : Bool) → b ≡ end_cell states spans.all (cells_of w) here → (t : Bool) → b ≡ t

@@ -20,17 +20,17 @@ use Rattle.automata.specs.Layout.{state_size}
 use Rattle.table.specs.Answers.{lent}
 use Rattle.table.specs.Records.{option_of, state_at}
 use Rattle.table.specs.declared.answer.Counts.{Counts}
-use Rattle.table.specs.declared.record.Weight.{Weight}
-use Rattle.table.specs.declared.record.Weight.TheVariants.{Absent, Present}
+use Rattle.table.specs.Records.{Weight}
+use Rattle.std.specs.Prelude.{None, Some}
 use Rattle.table.proofs.SoundFacts.{state_loaded}
 use Rattle.lookup_moves.specs.Distances.{far, weight_of}
 use Rattle.lookup_cells.specs.Filled.{Filled}
 use Rattle.path_search.proofs.TightArcFacts.{if_some}
 
 -- the weight that a record holds
-pub weight_present : (x : Weight) (w : ℕ) → option_of x ≡ some w → x ≡ Present w
-weight_present Absent w e = none_not_some refl e
-weight_present (Present v) w e = ap Present (some-injective v w e)
+pub weight_present : (x : Weight) (w : ℕ) → option_of x ≡ some w → x ≡ Some w
+weight_present None w e = none_not_some refl e
+weight_present (Some v) w e = ap Some (some-injective v w e)
 
 -- the weight that a number stands for is the number
 weight_is : (x w : ℕ) → weight_of x ≡ some w → x ≡ w

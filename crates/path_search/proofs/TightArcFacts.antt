@@ -18,8 +18,8 @@ use Rattle.automata.proofs.TestFacts.{and_true}
 use Rattle.automata.specs.Layout.{state_size}
 use Rattle.table.specs.Records.{state_at}
 use Rattle.table.specs.declared.answer.Counts.{Counts}
-use Rattle.table.specs.declared.record.Weight.{Weight}
-use Rattle.table.specs.declared.record.Weight.TheVariants.{Absent, Present}
+use Rattle.table.specs.Records.{Weight}
+use Rattle.std.specs.Prelude.{None, Some}
 use Rattle.lookup_tuple.specs.declared.Strings.{Strings}
 use Rattle.lookup_tuple.specs.Strings.{Stands}
 use Rattle.lookup_moves.specs.declared.spot.Spans.{Spans}
@@ -110,18 +110,18 @@ module _ (n : ℕ) (states : List ℕ) (all : ℕ) (ws : List ℕ) (least : ℕ)
 
 module _ (states : List ℕ) (all : ℕ) (ws : List ℕ) where
   -- the final weight of the state of a cell is what is left, and the cell is at the last combination
-  pub end_says : (d : ℕ) → end_cell states all ws d ≡ true → ((state_at (state_size * (d / all)) states).last ≡ Present (get_or ws d 0)) × (d % all + 1 ≡ all)
+  pub end_says : (d : ℕ) → end_cell states all ws d ≡ true → ((state_at (state_size * (d / all)) states).last ≡ Some (get_or ws d 0)) × (d % all + 1 ≡ all)
   unfolding end_cell
   end_says d h = go (state_at (state_size * (d / all)) states).last h
     where
-      go : (x : Weight) → ends_by x all (d % all) (get_or ws d 0) ≡ true → (x ≡ Present (get_or ws d 0)) × (d % all + 1 ≡ all)
-      go Absent e = absurd (false≢true e)
-      go (Present w) e =
+      go : (x : Weight) → ends_by x all (d % all) (get_or ws d 0) ≡ true → (x ≡ Some (get_or ws d 0)) × (d % all + 1 ≡ all)
+      go None e = absurd (false≢true e)
+      go (Some w) e =
           let (t₁, t₂) = and_true (eqb (d % all + 1) all) (eqb w (get_or ws d 0)) e in
-          (ap Present (eqb-true w (get_or ws d 0) t₂), eqb-true (d % all + 1) all t₁)
+          (ap Some (eqb-true w (get_or ws d 0) t₂), eqb-true (d % all + 1) all t₁)
 
   -- and the other way round
-  pub says_end : (d : ℕ) → (state_at (state_size * (d / all)) states).last ≡ Present (get_or ws d 0) → d % all + 1 ≡ all → end_cell states all ws d ≡ true
+  pub says_end : (d : ℕ) → (state_at (state_size * (d / all)) states).last ≡ Some (get_or ws d 0) → d % all + 1 ≡ all → end_cell states all ws d ≡ true
   unfolding end_cell
   says_end d e l = rw (e, eq-eqb (d % all + 1) all l, eq-eqb (get_or ws d 0) (get_or ws d 0) refl)
 

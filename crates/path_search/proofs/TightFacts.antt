@@ -1,14 +1,13 @@
 -- Tight arcs, from what each call gave.
-use mathlib.Core.Path.{◌≡◌, sym, ap, subst, ◌∙◌}
+use mathlib.Core.Path.{◌≡◌, refl, sym, ap, subst, ◌∙◌}
 use mathlib.Core.Logic.{◌≢◌}
-use mathlib.Core.Bool.{Bool, true, false, not}
+use mathlib.Core.Bool.{Bool, true, false}
 use mathlib.Core.Option.{none, some}
 use mathlib.Core.List.{List}
-use Prim.Native.Nat.{ℕ, suc, ◌+◌, ◌-◌, ◌*◌, ◌≤◌, ◌<◌}
+use Prim.Native.Nat.{ℕ, suc, ◌+◌, ◌*◌, ◌≤◌, ◌<◌}
 use native.Mathlib.Nat.{mul-le-mul}
-use native.Mathlib.Numerals.{unary_clauses}
 use native.Mathlib.Omega.{arith}
-use borrow.Author.Tests.{lt-ltb, le-ltb, not-true, not-false}
+use borrow.Author.Tests.{lt-ltb, le-ltb}
 use lib.Arith.{digits_lt}
 use lib.Dec.{eqb, eqb_refl}
 use lib.ListN.{length, get_or}
@@ -18,10 +17,11 @@ use Rattle.table.specs.declared.answer.Counts.{Counts}
 use Rattle.lookup_tuple.specs.declared.Strings.{Strings}
 use Rattle.lookup_moves.specs.declared.spot.Spot.{Spot}
 use Rattle.lookup_moves.specs.declared.spot.Spans.{Spans}
-use Rattle.lookup_moves.specs.declared.moves.Step.{Step}
-use Rattle.lookup_moves.specs.declared.moves.Step.TheVariants.{Moved, Stuck}
+use Rattle.std.specs.Prelude as rust
+use Rattle.std.specs.Prelude.{Some, None, is_some}
+use Rattle.table.specs.Records.{option_of}
 use Rattle.lookup_moves.specs.Distances.{far, cells_of}
-use Rattle.lookup_moves.specs.Moves.{step_as, moves_from, Laid, Labelled, spot_with}
+use Rattle.lookup_moves.specs.Moves.{moves_from, Laid, Labelled, spot_with}
 use Rattle.lookup_moves.specs.Spots.{spot_of}
 use Rattle.lookup_moves.proofs.MoveFacts.{laid_any, moves_any}
 use Rattle.table.specs.Arcs.{target_of, arc_weight, labels_start}
@@ -30,10 +30,6 @@ use Rattle.path_search.specs.Tight.{shift_by, end_there, tight_to}
 use Rattle.path_search.specs.Searchable.{Spannable, Weights}
 
 -- ---- by how much labels move a combination
-
--- before the first tape, all are left
-pub shift_start : (arcs spans : List ℕ) (tapes h at : ℕ) → 0 + shift_by (tapes - 0) h at arcs spans ≡ shift_by tapes h at arcs spans
-shift_start arcs spans tapes h at = simp unary_clauses (omega arith)
 
 module _ (arcs spans : List ℕ) (left h at shift : ℕ) where
   -- what is added for one tape, with the rest, is what all make
@@ -64,20 +60,20 @@ module _ (s t : Spot) (is : s ≡ t) where
   laid_parts n size p =
       laid_any s.starts s.positions s.spans s.number s.all 0 0 n size (subst (Laid n size) (sym is) p)
 
-  module _ (tapes e : ℕ) (arcs text : List ℕ) (r : Step)
-      (f : step_as r ≡ moves_from tapes 0 (labels_start (arc_size * e)) 0 arcs text (spot_with s.starts s.positions s.spans 0 0)) where
+  module _ (tapes e : ℕ) (arcs text : List ℕ) (r : rust.Option ℕ)
+      (f : option_of r ≡ moves_from tapes 0 (labels_start (arc_size * e)) 0 arcs text (spot_with s.starts s.positions s.spans 0 0)) where
     -- the call tells how far back they lead from the combination
-    back_is : step_as r ≡ back_by tapes e arcs text t
+    back_is : option_of r ≡ back_by tapes e arcs text t
     back_is = f ∙ moves_any s.starts s.positions s.spans 0 0 s.number s.all tapes 0 (labels_start (arc_size * e)) 0 arcs text
         ∙ ap (back_by tapes e arcs text) is
 
-    -- where it tells a move, they end there
-    pub ends-moved : (by : ℕ) → r ≡ Moved by → true ≡ end_there (back_by tapes e arcs text t)
-    ends-moved by k = ap (λ (x : Step). end_there (step_as x)) (sym k) ∙ ap end_there back_is
-
-    -- where it tells none, they do not
-    pub ends_stuck : r ≡ Stuck → false ≡ end_there (back_by tapes e arcs text t)
-    ends_stuck k = ap (λ (x : Step). end_there (step_as x)) (sym k) ∙ ap end_there back_is
+    -- they end there where it tells a move
+    pub ends_are : is_some r ≡ end_there (back_by tapes e arcs text t)
+    ends_are = go r ∙ ap end_there back_is
+      where
+        go : (o : rust.Option ℕ) → is_some o ≡ end_there (option_of o)
+        go None = refl
+        go (Some k) = refl
 
 -- ---- tight arcs
 
@@ -109,13 +105,13 @@ module _ (c : Counts) (arcs text : List ℕ) (s : Strings) (spans : Spans) (ws :
 
     module _ (same : weight + x ≡ y) (b : Bool) (spells : b ≡ end_there (back_by c.tapes e arcs text (spot_of s spans to))) where
       -- it is not where its labels do not end there
-      pub tight_astray : not b ≡ true → none ≡ tight_to c arcs text s spans ws to here e
+      pub tight_astray : b ≡ false → none ≡ tight_to c arcs text s spans ws to here e
       unfolding tight_to
       tight_astray n =
-          rw (lt-ltb to spans.all in_all, ← there_is, ← c₃, ← c₄, ← c₅, same, T_true (eqb y y) (eqb_refl y), ← spells, not-true b n)
+          rw (lt-ltb to spans.all in_all, ← there_is, ← c₃, ← c₄, ← c₅, same, T_true (eqb y y) (eqb_refl y), ← spells, n)
 
       -- it is where they do
-      pub tight_leads : not b ≡ false → some there ≡ tight_to c arcs text s spans ws to here e
+      pub tight_leads : b ≡ true → some there ≡ tight_to c arcs text s spans ws to here e
       unfolding tight_to
       tight_leads n =
-          rw (lt-ltb to spans.all in_all, ← there_is, ← c₃, ← c₄, ← c₅, same, T_true (eqb y y) (eqb_refl y), ← spells, not-false b n)
+          rw (lt-ltb to spans.all in_all, ← there_is, ← c₃, ← c₄, ← c₅, same, T_true (eqb y y) (eqb_refl y), ← spells, n)

@@ -3,9 +3,7 @@ use mathlib.Core.Path.{◌≡◌, refl, sym, ap, ap₂, subst, ◌∙◌}
 use mathlib.Core.Logic.{⊎_elim}
 use mathlib.Core.List.{List, [], ◌∷◌}
 use Prim.Native.Nat.{ℕ, zero, suc, ◌+◌, ◌-◌, ◌*◌, ◌%◌, ◌≤◌, ◌<◌}
-use native.Mathlib.Nat.{mod-lt}
 use native.Mathlib.Omega.{arith}
-use lib.Arith.{digits_lt}
 use lib.ListN.{length}
 use borrow.Author.Tests.{eq-eqb, ne_eqb}
 use Rattle.automata.specs.Calls.LeastPath.{entries}
@@ -13,23 +11,14 @@ use Rattle.automata.specs.Calls.Outcome.{overwrite}
 use Rattle.table.specs.Region.{splice}
 use Rattle.table.specs.Endian.{to_le}
 use Rattle.table.specs.declared.answer.Counts.{Counts}
-use Rattle.table.proofs.SpliceFacts.{length_splice, splice-none, splice_append, splice_swap, splice_front}
+use Rattle.table.proofs.SpliceFacts.{splice-none, splice_append, splice_swap, splice_front}
 use Rattle.lookup_moves.specs.declared.spot.Spans.{Spans}
 use Rattle.path_search.specs.Search.{no_arc}
 use Rattle.table.specs.Arcs.{source_of}
 use Rattle.path_search.specs.Tight.{shift_of, cell_before}
-use Rattle.path_search.specs.Trail.{Retraceable, Behind, mark_of, found_from, count_back, run_back, CanCount, CanWalk}
+use Rattle.path_search.specs.Trail.{Behind, mark_of, found_from, count_back, run_back, CanCount, CanWalk}
 
 -- ---- the cell before
-
--- its number, from the source of an arc and how far its labels reach, fits a word
-pub before_fits : {c : Counts} {arcs : List ℕ} {spans : Spans} {e there source : ℕ} → Retraceable c arcs spans
-    → Behind c arcs spans e there → source ≡ source_of arcs e → (shift : ℕ)
-    → source * spans.all + (there % spans.all - shift) < 18446744073709551616
-before_fits {c} {arcs} {spans} {e} {there} {source} h b p shift =
-    let s : source < c.states = rw p (h.source e b.arc) in
-    let r : there % spans.all - shift < spans.all = omega (arith, mod-lt there h.some_combination) in
-    omega (arith, h.fits, digits_lt s r)
 
 -- it is the cell before
 pub before_is : (c : Counts) (arcs : List ℕ) (spans : Spans) (e there source shift : ℕ) → source ≡ source_of arcs e
@@ -47,19 +36,7 @@ pub record Counting (c : Counts) (arcs : List ℕ) (spans : Spans) (xs : List �
   pub can : CanCount c arcs spans xs left at
 
 module _ {c : Counts} {arcs : List ℕ} {spans : Spans} {xs : List ℕ} {found end : ℕ} where
-  -- no arc was counted
-  pub count_first : CanCount c arcs spans xs found end → Counting c arcs spans xs found end 0 end found
-  count_first h = record { all_are = omega arith; rest = omega arith; can = h }
-
   module _ {count at left : ℕ} (h : Counting c arcs spans xs found end count at left) where
-    -- the cell is one of the table
-    pub count_cell : at < c.states * spans.all
-    count_cell = go left h.can
-      where
-        go : (n : ℕ) → CanCount c arcs spans xs n at → at < c.states * spans.all
-        go zero l = l
-        go (suc n) l = l.0
-
     -- no arc is left
     pub count_end : left ≤ 0 → count ≡ count_back c arcs spans xs found end
     unfolding count_back
@@ -147,14 +124,6 @@ module _ {c : Counts} {arcs : List ℕ} {spans : Spans} {xs : List ℕ} {count e
       -- the places of the numbers written are in the list
       in_list : 2 * left + length (entries h.done) ≤ length old
       in_list = omega (arith, h.all_are, length_entries h.done)
-
-      -- no place is added or lost
-      pub write_length : length list ≡ length old
-      write_length = ap length h.list_is ∙ length_splice (2 * left) (entries h.done) old in_list
-
-      -- there is a place for the next number
-      pub write_room : 0 < left → 2 * (left - 1) + 2 ≤ length list
-      write_room some_left = omega (arith, h.all_are, write_length)
 
     module _ {mark : ℕ} (some_left : 0 < left) (m : mark ≡ mark_of c arcs spans xs at) where
       -- a cell before it can be reached

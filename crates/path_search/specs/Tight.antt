@@ -1,14 +1,12 @@
 -- Tight arcs on the cells of a lookup: an arc is tight from one cell to another where its labels lead there and its
 -- weight, with the least weight from there on, is the least weight here. The least paths are those that start where the
 -- least weight is, go over tight arcs and end where the final weight is the one left.
-use Rattle.std.specs.Prelude.{Bool, true, false, List, ℕ, zero, suc, ◌+◌, ◌-◌, ◌*◌, ◌/◌, ◌%◌, eqb, ltb, get_or}
+use Rattle.std.specs.Prelude.{Some, None, Bool, true, false, List, ℕ, zero, suc, ◌+◌, ◌-◌, ◌*◌, ◌/◌, ◌%◌, eqb, ltb, get_or}
 use Rattle.std.proofs.Math.Option.{Option, none, some}
 use Rattle.automata.specs.Lists.{if, and}
 use Rattle.automata.specs.Layout.{arc_size, state_size, label_size}
-use Rattle.table.specs.Records.{state_at}
+use Rattle.table.specs.Records.{Weight, state_at}
 use Rattle.table.specs.declared.answer.Counts.{Counts}
-use Rattle.table.specs.declared.record.Weight.{Weight}
-use Rattle.table.specs.declared.record.Weight.TheVariants.{Absent, Present}
 use Rattle.lookup_tuple.specs.declared.Strings.{Strings}
 use Rattle.lookup_moves.specs.declared.spot.Spans.{Spans}
 use Rattle.lookup_moves.specs.Spots.{spot_of}
@@ -56,8 +54,8 @@ start_cell n states all ws least q = if (ltb q n) (if (eqb (from_state states al
 
 -- a final weight is the one left at the last combination
 abbrev pub ends_by : Weight → ℕ → ℕ → ℕ → Bool
-ends_by Absent all number left = false
-ends_by (Present w) all number left = and (eqb (number + 1) all) (eqb w left)
+ends_by None all number left = false
+ends_by (Some w) all number left = and (eqb (number + 1) all) (eqb w left)
 
 -- a least path ends at a cell
 unfoldable pub end_cell : List ℕ → ℕ → List ℕ → ℕ → Bool

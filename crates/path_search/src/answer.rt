@@ -1,5 +1,4 @@
-// What the search for the path behind a weight answers.
-use table::answer::Refusal;
+// What is told of the path behind a weight, and of the search for it.
 
 // The weight, the starting state of the path and its number of arcs.
 #[derive(Clone, Copy)]
@@ -9,24 +8,9 @@ pub struct PathTold {
     pub arcs: usize,
 }
 
-// A path, none, or a refusal.
-#[derive(Clone, Copy)]
-pub enum PathAnswer {
-    Path(PathTold),
-    Nothing,
-    Refused(Refusal),
-}
-
-// A cell, or none.
-#[derive(Clone, Copy)]
-pub enum Reached {
-    Cell(usize),
-    Nowhere,
-}
-
-// The cell at which the search ended, and how many cells it found.
+// The cell at which the search ended, if there is one, and how many cells it found.
 #[derive(Clone, Copy)]
 pub struct Searched {
-    pub end: Reached,
+    pub end: Option<usize>,
     pub found: usize,
 }

@@ -8,7 +8,6 @@ ghost use Rattle.table.specs.Arcs.{source_of};
 ghost use Rattle.path_search.specs.Tight.{next_cell};
 ghost use Rattle.path_search.specs.Searchable.{Searchable, Weights};
 
-use crate::answer::Reached;
 use crate::enter::enter_cell;
 use crate::tight::{shift_of, tight_to};
 use lookup_moves::spot::Spans;
@@ -37,11 +36,10 @@ fn follow_arc(
         (search_of (cells_of work.old) found)) × (length work.new ≡ length work.old) }
 {
     let to = here % spans.all + shift_of(counts, arcs, e, spans);
-    let step = tight_to(counts, arcs, e, text, strings, spans, to, here, work);
-    let Reached::Cell(there) = step else {
-        return found;
-    };
-    enter_cell(work, counts.states * spans.all, there, e, found)
+    match tight_to(counts, arcs, e, text, strings, spans, to, here, work) {
+        Some(there) => enter_cell(work, counts.states * spans.all, there, e, found),
+        None => found,
+    }
 }
 
 // All arcs that leave the state of a cell, by their chain. Tells how many cells are found.

@@ -6,20 +6,20 @@ ghost use Rattle.lookup_moves.specs.Distances.{cells_of};
 ghost use Rattle.path_search.specs.Search.{no_arc, search_of, entered, enter_starts, search_from};
 ghost use Rattle.path_search.specs.FirstPath.{Kept};
 ghost use Rattle.path_search.specs.Tight.{next_cell, start_cell, end_cell};
-ghost use Rattle.path_search.specs.Answers.{reached_as};
+ghost use Rattle.table.specs.Records.{option_of};
 ghost use Rattle.path_search.specs.Searchable.{Searchable, Weights};
 ghost use Rattle.automata.specs.Layout.{state_size};
 
-use crate::answer::{Reached, Searched};
+use crate::answer::Searched;
 use crate::enter::{NO_ARC, enter_cell};
 use crate::follow::follow_arcs;
 use lookup_cells::ends::from_state;
 use lookup_moves::cell::{cell_number, weight_at};
 use lookup_moves::spot::Spans;
 use lookup_tuple::Strings;
-use table::answer::Counts;
 use table::layout::STATE_SIZE;
-use table::record::{Weight, load_state};
+use table::lent::Table;
+use table::record::load_state;
 
 // The cell of state q at the first combination, where a least path starts there. Tells how many cells are found.
 fn enter_start(
@@ -37,11 +37,11 @@ fn enter_start(
         ≡ entered (count * all) no_arc (start_cell count states.now all (cells_of work.old) least q)
         (search_of (cells_of work.old) found)) × (length work.new ≡ length work.old) }
 {
-    if from_state(states, q, all, work) != least {
-        return found;
+    if from_state(states, q, all, work) == least {
+        enter_cell(work, count * all, cell_number(q, all, 0), NO_ARC, found)
+    } else {
+        found
     }
-    let cell = cell_number(q, all, 0);
-    enter_cell(work, count * all, cell, NO_ARC, found)
 }
 
 // Those of so many states.
@@ -54,10 +54,8 @@ pub fn enter_starts(states: &[u8], count: usize, all: usize, least: u64, work: &
         × (length work.new ≡ length work.old) }
 {
     let mut found: usize = 0;
-    let mut q: usize = 0;
-    while q < count {
+    for q in 0..count {
         found = enter_start(states, count, q, all, least, found, work);
-        q += 1;
     }
     found
 }
@@ -68,22 +66,15 @@ fn is_end(states: &[u8], all: usize, here: usize, work: &[u8]) -> bool
         × (8 * here + 8 ≤ length work.now) }
     ensures { result ≡ end_cell states.now all (cells_of work.now) here }
 {
-    let state = load_state(states, STATE_SIZE * (here / all));
-    let last = state.last;
-    let Weight::Present(w) = last else {
-        return false;
-    };
-    if here % all + 1 != all {
-        return false;
+    match load_state(states, STATE_SIZE * (here / all)).last {
+        Some(w) => here % all + 1 == all && w as u64 == weight_at(work, here),
+        None => false,
     }
-    w as u64 == weight_at(work, here)
 }
 
 // The first end in the order found, from the `found` cells at which paths start.
 pub fn search(
-    counts: Counts,
-    states: &[u8],
-    arcs: &[u8],
+    table: &Table,
     text: &[u8],
     strings: Strings,
     spans: Spans,
@@ -92,17 +83,23 @@ pub fn search(
     found: usize,
     work: &mut [u8],
 ) -> Searched
-    requires { (state_size * counts.states ≤ length states.now)
-        × Searchable counts arcs.now text.now strings spans × Weights (counts.states * spans.all) work.old
-        × Kept (counts.states * spans.all) (search_of (cells_of work.old) found)
-        × Chained counts.states counts.arcs arcs.now first.now next.now }
-    ensures { ((reached_as result.end, search_of (cells_of work.new) result.found)
-        ≡ search_from (counts.states * spans.all)
-        (next_cell counts arcs.now text.now strings spans (cells_of work.old))
-        counts.arcs (end_cell states.now spans.all (cells_of work.old))
-        (counts.states * spans.all) 0 (search_of (cells_of work.old) found))
+    requires { (state_size * table.now.counts.states ≤ length table.now.states.now)
+        × Searchable table.now.counts table.now.arcs.now text.now strings spans
+        × Weights (table.now.counts.states * spans.all) work.old
+        × Kept (table.now.counts.states * spans.all) (search_of (cells_of work.old) found)
+        × Chained table.now.counts.states table.now.counts.arcs table.now.arcs.now first.now next.now }
+    ensures { ((option_of result.end, search_of (cells_of work.new) result.found)
+        ≡ search_from (table.now.counts.states * spans.all)
+        (next_cell table.now.counts table.now.arcs.now text.now strings spans (cells_of work.old))
+        table.now.counts.arcs (end_cell table.now.states.now spans.all (cells_of work.old))
+        (table.now.counts.states * spans.all) 0 (search_of (cells_of work.old) found))
         × (length work.new ≡ length work.old) }
 {
+    let Table {
+        counts,
+        states,
+        arcs,
+    } = *table;
     let cells = counts.states * spans.all;
     let mut count = found;
     let mut head: usize = 0;
@@ -110,7 +107,7 @@ pub fn search(
         let here = weight_at(work, 2 * cells + head) as usize;
         if is_end(states, spans.all, here, work) {
             return Searched {
-                end: Reached::Cell(here),
+                end: Some(here),
                 found: count,
             };
         }
@@ -120,7 +117,7 @@ pub fn search(
         head += 1;
     }
     Searched {
-        end: Reached::Nowhere,
+        end: None,
         found: count,
     }
 }

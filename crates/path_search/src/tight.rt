@@ -6,14 +6,13 @@ ghost use Rattle.lookup_moves.specs.Moves.{Labelled};
 ghost use Rattle.lookup_cells.specs.Pushes.{back_by};
 ghost use Rattle.lookup_moves.specs.Spots.{spot_of};
 ghost use Rattle.path_search.specs.Tight.{shift_of, end_there, tight_to};
-ghost use Rattle.path_search.specs.Answers.{reached_as};
+ghost use Rattle.table.specs.Records.{option_of};
 ghost use Rattle.path_search.specs.Searchable.{Searchable, Weights, Spannable};
 ghost use Rattle.automata.specs.Layout.{arc_size};
 ghost use Rattle.table.specs.Arcs.{labels_start};
 
-use crate::answer::Reached;
 use lookup_moves::cell::{cell_number, weight_at};
-use lookup_moves::moves::{Step, moved_back};
+use lookup_moves::moves::moved_back;
 use lookup_moves::spot::{Spans, spot_at};
 use lookup_tuple::Strings;
 use table::answer::Counts;
@@ -25,14 +24,10 @@ pub fn shift_of(counts: Counts, arcs: &[u8], e: usize, spans: Spans) -> usize
     requires { Labelled arcs.now (labels_start (arc_size * e)) × (counts.tapes ≤ 8) × Spannable spans }
     ensures { result ≡ shift_of counts arcs.now spans.spans e }
 {
-    let behind = spans.spans;
+    let at = labels_start(ARC_SIZE * e);
     let mut shift: usize = 0;
-    let mut at = labels_start(ARC_SIZE * e);
-    let mut h: usize = 0;
-    while h < counts.tapes {
-        shift += arcs[at] as usize * behind[h];
-        at += LABEL_SIZE;
-        h += 1;
+    for h in 0..counts.tapes {
+        shift += arcs[at + LABEL_SIZE * h] as usize * spans.spans[h];
     }
     shift
 }
@@ -52,22 +47,16 @@ fn ends_at(
         (spot_of strings spans to)) }
 {
     let spot = spot_at(strings, spans, to);
-    let starts = spot.starts;
-    let positions = spot.positions;
-    let behind = spot.spans;
-    let step = moved_back(
+    moved_back(
         arcs,
         ARC_SIZE * e,
         counts.tapes,
         text,
-        &starts,
-        &positions,
-        &behind,
-    );
-    match step {
-        Step::Moved(_) => true,
-        Step::Stuck => false,
-    }
+        &spot.starts,
+        &spot.positions,
+        &spot.spans,
+    )
+    .is_some()
 }
 
 // The cell of the combination `to` to which arc e leads from a cell, where the arc is tight.
@@ -81,23 +70,22 @@ pub fn tight_to(
     to: usize,
     here: usize,
     work: &[u8],
-) -> Reached
+) -> Option<usize>
     requires { Searchable counts arcs.now text.now strings spans
         × Weights (counts.states * spans.all) work.now × (e < counts.arcs)
         × (here < counts.states * spans.all) }
-    ensures { reached_as result ≡ tight_to counts arcs.now text.now strings spans
+    ensures { option_of result ≡ tight_to counts arcs.now text.now strings spans
         (cells_of work.now) to here e }
 {
     if spans.all <= to {
-        return Reached::Nowhere;
+        return None;
     }
     let at = ARC_SIZE * e;
     let there = cell_number(target_at(arcs, at).0 as usize, spans.all, to);
-    if arc_weight_at(arcs, at) as u64 + weight_at(work, there) != weight_at(work, here) {
-        return Reached::Nowhere;
+    let weighs = arc_weight_at(arcs, at) as u64 + weight_at(work, there) == weight_at(work, here);
+    if weighs && ends_at(counts, arcs, e, text, strings, spans, to) {
+        Some(there)
+    } else {
+        None
     }
-    if !ends_at(counts, arcs, e, text, strings, spans, to) {
-        return Reached::Nowhere;
-    }
-    Reached::Cell(there)
 }

@@ -39,19 +39,15 @@ pub fn count_arcs(
     ensures { result ≡ count_back counts arcs.now spans (cells_of work.now) found end }
 {
     let cells = counts.states * spans.all;
-    let mut count: usize = 0;
     let mut at = end;
-    let mut left = found;
-    while 0 < left {
+    for count in 0..found {
         let mark = weight_at(work, cells + at) as usize;
         if mark == NO_ARC {
             return count;
         }
         at = cell_before(counts, arcs, mark, spans, at);
-        count += 1;
-        left -= 1;
     }
-    count
+    found
 }
 
 // The numbers of the `count` arcs from the start of the path to a cell, over the front of the list. Tells the cell at
@@ -74,9 +70,7 @@ pub fn write_arcs(
 {
     let cells = counts.states * spans.all;
     let mut at = end;
-    let mut left = count;
-    while 0 < left {
-        left -= 1;
+    for left in (0..count).rev() {
         let mark = weight_at(work, cells + at) as usize;
         put16(list, 2 * left, mark as u16);
         at = cell_before(counts, arcs, mark, spans, at);

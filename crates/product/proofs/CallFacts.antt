@@ -2,7 +2,7 @@
 use mathlib.Core.Path.{◌≡◌, refl, sym, ap, subst, ◌∙◌}
 use mathlib.Core.Bool.{Bool, true, false}
 use mathlib.Core.List.{List}
-use Prim.Native.Nat.{ℕ, ◌+◌, ◌-◌, ◌*◌, ◌/◌, ◌≤◌, ◌<◌, min}
+use Prim.Native.Nat.{ℕ, ◌+◌, ◌-◌, ◌*◌, ◌/◌, ◌≤◌, ◌<◌}
 use native.Mathlib.Omega.{arith}
 use lib.Dec.{leb, leb→le, nleb→lt}
 use lib.ListN.{length}
@@ -26,14 +26,13 @@ use Rattle.automata.specs.Layout.{arc_size, state_size, step_size, vertex_size}
 use Rattle.table.specs.declared.answer.Counts.{Counts}
 use Rattle.table.specs.declared.answer.Refusal.{Refusal}
 use Rattle.table.specs.declared.answer.Refusal.TheVariants.{Width, Space}
-use Rattle.table.specs.declared.answer.Judged.{Judged}
-use Rattle.table.specs.declared.answer.Judged.TheVariants.{Fine, Refused}
-use Rattle.table.specs.Answers.{judged_as, refusal_number, lent}
+use Rattle.std.specs.Prelude.{Ok, Err}
+use Rattle.table.specs.Answers.{Judged, judged_as, refusal_number, lent}
 use Rattle.table.proofs.TableFacts.{judged_sound}
 use Rattle.table.proofs.SoundFacts.{few_tapes}
 use Rattle.product_search.specs.declared.plan.Plan.{Plan}
 use Rattle.product_search.specs.declared.head.Head.{Head}
-use Rattle.product_search.specs.Plans.{Explorable, first_in, second_in}
+use Rattle.product_search.specs.Plans.{Explorable}
 use Rattle.product_search.specs.Exploring.{Explored}
 use Rattle.product.specs.Answered.{Answerable}
 use Rattle.product.specs.Multiplied.{Multipliable}
@@ -62,18 +61,18 @@ work_tested states arcs work h = go (leb arcs ((work - vertex_size * states) / s
 
 module _ (a b : Memory) (states arcs work : ℕ) where
   -- a table that is refused
-  refused-table : (m : Memory) (j : Judged) (why : Refusal) → judged_as j ≡ forget (decode_table m) → j ≡ Refused why → decode_table m ≡ refused (refusal_number why)
+  refused-table : (m : Memory) (j : Judged) (why : Refusal) → judged_as j ≡ forget (decode_table m) → j ≡ Err why → decode_table m ≡ refused (refusal_number why)
   refused-table m j why e f = go (decode_table m) (ap judged_as (sym f) ∙ e)
     where
       go : (d : Answer (Automaton ℕ)) → refused (refusal_number why) ≡ forget d → d ≡ refused (refusal_number why)
       go (ok A) g = absurd (refused≢ok g)
       go (refused n) g = let k : refusal_number why ≡ n = cc in ap (λ (i : ℕ). refused i) (sym k)
 
-  fine_table : (m : Memory) (j : Judged) → judged_as j ≡ forget (decode_table m) → j ≡ Fine → Sound m
+  fine_table : (m : Memory) (j : Judged) → judged_as j ≡ forget (decode_table m) → j ≡ Ok tt → Sound m
   fine_table m j e f = judged_sound m (sym e ∙ ap judged_as f)
 
   -- a refusal before the product
-  refused-first : (j : Judged) (why : Refusal) → j ≡ Refused why → ((w : List ℕ) → length w ≡ work → product_answer a b (space_for states arcs) w ≡ refused (refusal_number why)) → Prepares a b states arcs work j
+  refused-first : (j : Judged) (why : Refusal) → j ≡ Err why → ((w : List ℕ) → length w ≡ work → product_answer a b (space_for states arcs) w ≡ refused (refusal_number why)) → Prepares a b states arcs work j
   refused-first j why e h = record {
     answer = λ w l. h w l ∙ sym (ap (λ (i : Judged). judged_as i >>= λ (u : Unit {0}). cross_product ℕ_sum weight_fits (space_for states arcs) (table_of a) (table_of b)) e);
     first = λ f. not_fine f;
@@ -82,22 +81,22 @@ module _ (a b : Memory) (states arcs work : ℕ) where
     work_fits = λ f. not_fine f;
   }
     where
-      not_fine : {X : Type 0} → j ≡ Fine → X
+      not_fine : {X : Type 0} → j ≡ Ok tt → X
       not_fine f = absurd (refused≢ok (ap judged_as (sym e ∙ f)))
 
-  pub first-refused : (j : Judged) (why : Refusal) → judged_as j ≡ forget (decode_table a) → j ≡ Refused why → Prepares a b states arcs work j
+  pub first-refused : (j : Judged) (why : Refusal) → judged_as j ≡ forget (decode_table a) → j ≡ Err why → Prepares a b states arcs work j
   unfolding product_answer
   first-refused j why e f = refused-first j why f (λ w l. rw (refused-table a j why e f))
 
-  module _ (i : Judged) (d : judged_as i ≡ forget (decode_table a)) (g : i ≡ Fine) where
+  module _ (i : Judged) (d : judged_as i ≡ forget (decode_table a)) (g : i ≡ Ok tt) where
     one : Sound a
     one = fine_table a i d g
 
-    pub second_refused : (j : Judged) (why : Refusal) → judged_as j ≡ forget (decode_table b) → j ≡ Refused why → Prepares a b states arcs work j
+    pub second_refused : (j : Judged) (why : Refusal) → judged_as j ≡ forget (decode_table b) → j ≡ Err why → Prepares a b states arcs work j
     unfolding product_answer
     second_refused j why e f = refused-first j why f (λ w l. rw (sound_decoded a one, refused-table b j why e f))
 
-    module _ (j : Judged) (e : judged_as j ≡ forget (decode_table b)) (f : j ≡ Fine) where
+    module _ (j : Judged) (e : judged_as j ≡ forget (decode_table b)) (f : j ≡ Ok tt) where
       two : Sound b
       two = fine_table b j e f
 
@@ -113,19 +112,19 @@ module _ (a b : Memory) (states arcs work : ℕ) where
       tapes_are : (table_of a).tapes + (table_of b).tapes ≡ a.tapes + b.tapes
       tapes_are = omega (arith, (sound_holds a one).tapes, (sound_holds b two).tapes)
 
-      pub too_wide : 8 < a.tapes + b.tapes → Prepares a b states arcs work (Refused Width)
-      too_wide h = refused-first (Refused Width) Width refl (λ w l. called w
+      pub too_wide : 8 < a.tapes + b.tapes → Prepares a b states arcs work (Err Width)
+      too_wide h = refused-first (Err Width) Width refl (λ w l. called w
           ∙ product-width (enough (product_work (space_for states arcs)) w) (space_for states arcs) (table_of a) (table_of b) (lt-leb ((table_of a).tapes + (table_of b).tapes) 8 (omega (arith, h, tapes_are))))
 
       module _ (h : a.tapes + b.tapes ≤ 8) (t : Bool) (k : t ≡ leb (product_work (space_for states arcs)) work) where
         narrow : leb ((table_of a).tapes + (table_of b).tapes) 8 ≡ true
         narrow = le-leb ((table_of a).tapes + (table_of b).tapes) 8 (omega (arith, h, tapes_are))
 
-        pub too_short : t ≡ false → Prepares a b states arcs work (Refused Space)
-        too_short z = refused-first (Refused Space) Space refl (λ w l. called w
+        pub too_short : t ≡ false → Prepares a b states arcs work (Err Space)
+        too_short z = refused-first (Err Space) Space refl (λ w l. called w
             ∙ product-space (enough (product_work (space_for states arcs)) w) (space_for states arcs) (table_of a) (table_of b) narrow (ap (leb (product_work (space_for states arcs))) l ∙ sym k ∙ z))
 
-        pub all_fine : t ≡ true → Prepares a b states arcs work Fine
+        pub all_fine : t ≡ true → Prepares a b states arcs work (Ok tt)
         all_fine z = record {
           answer = λ w l. called w
               ∙ product-passed (enough (product_work (space_for states arcs)) w) (space_for states arcs) (table_of a) (table_of b) narrow (ap (leb (product_work (space_for states arcs))) l ∙ sym k ∙ z);
@@ -136,11 +135,6 @@ module _ (a b : Memory) (states arcs work : ℕ) where
         }
 
 -- ---- the plan
-
--- the plan by its parts
-pub plan_is : (first second : Counts) (states arcs s a : ℕ) → s ≡ min states 1024 → a ≡ min arcs 8192
-    → ◌≡◌ {A = Plan} (record { first = first; second = second; states = s; arcs = a; base = vertex_size * states; limit = a }) (plan_of first second states arcs)
-plan_is first second states arcs s a e f = rw (e, f)
 
 module _ (first second : Counts) (s1 a1 s2 a2 : List ℕ) (for_states for_arcs size : ℕ) (m : Multipliable (lent first s1 a1) (lent second s2 a2) for_states for_arcs size)
     (p : Plan) (e : p ≡ plan_of first second (for_states / state_size) (for_arcs / arc_size)) where
@@ -175,10 +169,6 @@ module _ (first second : Counts) (s1 a1 s2 a2 : List ℕ) (for_states for_arcs s
     held = x.held;
   }
 
-  -- the tables are those of the plan
-  pub stepped : (slices : Slices) (o : Made) → o ≡ product_step (first_in p s1 a1) (second_in p s2 a2) slices → o ≡ product_step (table_of (lent first s1 a1)) (table_of (lent second s2 a2)) slices
-  stepped slices o h = h ∙ ap (λ (q : Plan). product_step (first_in q s1 a1) (second_in q s2 a2) slices) e
-
 -- ---- the whole call
 
 module _ (a b : Memory) (old_states old_arcs work : List ℕ) (r : Judged) (p : Prepares a b (length old_states / state_size) (length old_arcs / arc_size) (length work) r) where
@@ -190,18 +180,14 @@ module _ (a b : Memory) (old_states old_arcs work : List ℕ) (r : Judged) (p : 
   answer = product_answer a b (space_of slices) work
 
   -- a refusal before the product
-  pub call_refused : (why : Refusal) → r ≡ Refused why → made_of (refused (refusal_number why)) old_states old_arcs ≡ put answer slices
+  pub call_refused : (why : Refusal) → r ≡ Err why → made_of (refused (refusal_number why)) old_states old_arcs ≡ put answer slices
   call_refused why e =
       sym (put_refused slices (refusal_number why))
       ∙ ap (λ (x : Answer (Automaton ℕ)). put x slices)
       (sym (p.answer work refl ∙ ap (λ (j : Judged). judged_as j >>= λ (u : Unit {0}). cross_product ℕ_sum weight_fits (space_of slices) (table_of a) (table_of b)) e))
 
-  -- the product can be made
-  pub call_ready : r ≡ Fine → Multipliable a b (length old_states) (length old_arcs) (length work)
-  call_ready e = record { first = p.first e; second = p.second e; tapes_fit = p.tapes_fit e; work_fits = p.work_fits e }
-
   -- and is the call's
-  pub call_made : r ≡ Fine → (o : Made) → o ≡ product_step (table_of a) (table_of b) slices → o ≡ put answer slices
+  pub call_made : r ≡ Ok tt → (o : Made) → o ≡ product_step (table_of a) (table_of b) slices → o ≡ put answer slices
   unfolding product_step
   call_made e o h =
       h ∙ ap (λ (x : Answer (Automaton ℕ)). put x slices)

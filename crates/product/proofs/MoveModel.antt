@@ -25,8 +25,8 @@ use Rattle.automata.specs.Layout.{step_size, vertex_size, label_size, labels_siz
 use Rattle.table.specs.Region.{part}
 use Rattle.table.specs.Endian.{le, to_le}
 use Rattle.table.specs.Records.{option_of, state_as}
-use Rattle.table.specs.declared.record.Weight.{Weight}
-use Rattle.table.specs.declared.record.Weight.TheVariants.{Absent, Present}
+use Rattle.std.specs.Prelude.{Some, None}
+use Rattle.table.specs.Records.{Weight}
 use Rattle.table.proofs.RegionFacts.{part-part}
 use Rattle.table.proofs.EndianFacts.{le-to_le}
 use Rattle.search_chains.specs.Chain.{fronts}
@@ -54,9 +54,9 @@ row_read at w x y hx hy e =
 
 -- two weights by value added
 added_model : (v w : Weight) → option_of (plus v w) ≡ added ℕ_sum (option_of v) (option_of w)
-added_model Absent w = refl
-added_model (Present x) Absent = refl
-added_model (Present x) (Present y) = refl
+added_model None w = refl
+added_model (Some x) None = refl
+added_model (Some x) (Some y) = refl
 
 module _ (a b : Memory) (sa : Sound a) (sb : Sound b) where
   -- the two tables in memory, and what is below their states

@@ -24,8 +24,8 @@ use Rattle.automata.proofs.WellFormedFacts.{all-place}
 use Rattle.automata.specs.Layout.{arc_size, state_size, label_size, labels_place}
 use Rattle.table.specs.Region.{part}
 use Rattle.table.specs.Arcs.{arc_weight, labels_start}
-use Rattle.table.specs.declared.record.Weight.{Weight}
-use Rattle.table.specs.declared.record.Weight.TheVariants.{Absent, Present}
+use Rattle.std.specs.Prelude.{Some, None}
+use Rattle.table.specs.Records.{Weight}
 use Rattle.table.specs.Records.{option_of, state_as, state_at, arc_as, arc_at, content_at}
 use Rattle.table.proofs.RegionFacts.{part-part}
 use Rattle.table.proofs.LoadedFacts.{zeros_label}
@@ -41,8 +41,8 @@ blank_labels (suc t) = zeros_label t ∙ ap (λ (z : List ℕ). zeros label_size
 
 -- a weight that is there as a number
 amount_is : (w : Weight) (f : ℕ) → option_of w ≡ some f → amount w ≡ f
-amount_is Absent f e = absurd (none-ne-some f e)
-amount_is (Present n) f e = some-injective n f e
+amount_is None f e = absurd (none-ne-some f e)
+amount_is (Some n) f e = some-injective n f e
 
 weight_is : (o : Option ℕ) (f : ℕ) → Each table.Weight o → o ≡ some f → f ≤ 999999999
 weight_is none f h e = absurd (none-ne-some f e)

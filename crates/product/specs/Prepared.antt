@@ -1,5 +1,5 @@
 -- What is judged before any state of a product is reached, and what the search is planned by.
-use Rattle.std.specs.Prelude.{◌≡◌, List, ℕ, ◌+◌, ◌*◌, ◌≤◌, min, length}
+use Rattle.std.specs.Prelude.{Ok, ◌≡◌, List, ℕ, ◌+◌, ◌*◌, ◌≤◌, min, length}
 use Rattle.automata.specs.Answer.{◌>>=◌}
 use Rattle.automata.specs.Space.{Space}
 use Rattle.automata.specs.OrderedSum.{ℕ_sum}
@@ -10,9 +10,7 @@ use Rattle.automata.specs.Calls.Work.{product_work}
 use Rattle.automata.specs.Calls.Product.{product_answer}
 use Rattle.automata.specs.Layout.{vertex_size}
 use Rattle.table.specs.declared.answer.Counts.{Counts}
-use Rattle.table.specs.declared.answer.Judged.{Judged}
-use Rattle.table.specs.declared.answer.Judged.TheVariants.{Fine}
-use Rattle.table.specs.Answers.{judged_as}
+use Rattle.table.specs.Answers.{Judged, judged_as}
 use Rattle.product_search.specs.declared.plan.Plan.{Plan}
 
 -- the space lent, in states and arcs
@@ -29,7 +27,7 @@ plan_of first second states arcs = record { first = first; second = second; stat
 pub record Prepares (a b : Memory) (states arcs work : ℕ) (r : Judged) : Type 0 where
   pub answer : (w : List ℕ) → length w ≡ work → product_answer a b (space_for states arcs) w
       ≡ (judged_as r >>= λ (u : Unit {0}). cross_product ℕ_sum weight_fits (space_for states arcs) (table_of a) (table_of b))
-  pub first : r ≡ Fine → Sound a
-  pub second : r ≡ Fine → Sound b
-  pub tapes_fit : r ≡ Fine → a.tapes + b.tapes ≤ 8
-  pub work_fits : r ≡ Fine → product_work (space_for states arcs) ≤ work
+  pub first : r ≡ Ok tt → Sound a
+  pub second : r ≡ Ok tt → Sound b
+  pub tapes_fit : r ≡ Ok tt → a.tapes + b.tapes ≤ 8
+  pub work_fits : r ≡ Ok tt → product_work (space_for states arcs) ≤ work

@@ -4,57 +4,53 @@ ghost use Rattle.automata.specs.Memory.{table_of};
 ghost use Rattle.automata.specs.Calls.Outcome.{space_of, put, made_of, built_of, slices_of};
 ghost use Rattle.automata.specs.Calls.JoinSteps.{product_step};
 ghost use Rattle.automata.specs.Calls.Product.{product_answer, product_outcome};
-ghost use Rattle.table.specs.Answers.{lent, table_as};
+ghost use Rattle.table.specs.Answers.{memory, table_as};
 ghost use Rattle.product.specs.Multiplied.{Multipliable};
 
 use crate::finish::answer_search;
 use crate::prepare::{plan_for, prepare};
 use product_search::explore::explore;
-use table::answer::{Counts, Judged, TableAnswer};
+use table::answer::{Counts, Refusal};
 use table::bytes::zero;
 use table::layout::{ARC_SIZE, STATE_SIZE};
+use table::lent::Table;
 
 // The product as a step of a join: of two tables that were judged, with enough work space. Work space is left as it is.
 pub fn product_step(
-    first: Counts,
-    first_states: &[u8],
-    first_arcs: &[u8],
-    second: Counts,
-    second_states: &[u8],
-    second_arcs: &[u8],
+    first: &Table,
+    second: &Table,
     out_states: &mut [u8],
     out_arcs: &mut [u8],
     work: &mut [u8],
-) -> TableAnswer
-    requires { Multipliable (lent first first_states.now first_arcs.now)
-        (lent second second_states.now second_arcs.now) (length out_states.old) (length out_arcs.old)
+) -> Result<Counts, Refusal>
+    requires { Multipliable (memory first.now) (memory second.now) (length out_states.old) (length out_arcs.old)
         (length work.old) }
     ensures { made_of (table_as result) out_states.new out_arcs.new
-        ≡ product_step (table_of (lent first first_states.now first_arcs.now))
-        (table_of (lent second second_states.now second_arcs.now))
+        ≡ product_step (table_of (memory first.now))
+        (table_of (memory second.now))
         (slices_of out_states.old out_arcs.old) }
 {
     let plan = plan_for(
-        first,
-        second,
+        first.counts,
+        second.counts,
         out_states.len() / STATE_SIZE,
         out_arcs.len() / ARC_SIZE,
     );
     let head = explore(
         plan,
-        first_states,
-        first_arcs,
-        second_states,
-        second_arcs,
+        first.states,
+        first.arcs,
+        second.states,
+        second.arcs,
         work,
     );
     answer_search(
         plan,
         head,
-        first_states,
-        first_arcs,
-        second_states,
-        second_arcs,
+        first.states,
+        first.arcs,
+        second.states,
+        second.arcs,
         work,
         out_states,
         out_arcs,
@@ -63,78 +59,41 @@ pub fn product_step(
 
 // The answer of the call, with whatever is left in work space.
 fn multiply(
-    first: Counts,
-    first_states: &[u8],
-    first_arcs: &[u8],
-    second: Counts,
-    second_states: &[u8],
-    second_arcs: &[u8],
+    first: &Table,
+    second: &Table,
     out_states: &mut [u8],
     out_arcs: &mut [u8],
     work: &mut [u8],
-) -> TableAnswer
+) -> Result<Counts, Refusal>
     ensures { made_of (table_as result) out_states.new out_arcs.new
-        ≡ put (product_answer (lent first first_states.now first_arcs.now)
-        (lent second second_states.now second_arcs.now)
+        ≡ put (product_answer (memory first.now) (memory second.now)
         (space_of (slices_of out_states.old out_arcs.old)) work.old)
         (slices_of out_states.old out_arcs.old) }
 {
-    let judged = prepare(
+    prepare(
         first,
-        first_states,
-        first_arcs,
         second,
-        second_states,
-        second_arcs,
         out_states.len() / STATE_SIZE,
         out_arcs.len() / ARC_SIZE,
         work.len(),
-    );
-    match judged {
-        Judged::Refused(why) => TableAnswer::Refused(why),
-        Judged::Fine => product_step(
-            first,
-            first_states,
-            first_arcs,
-            second,
-            second_states,
-            second_arcs,
-            out_states,
-            out_arcs,
-            work,
-        ),
-    }
+    )?;
+    product_step(first, second, out_states, out_arcs, work)
 }
 
 // The aligned product of the first table and the second, into `out_states` and `out_arcs`. Work space is zero
 // afterwards.
 pub fn product(
-    first: Counts,
-    first_states: &[u8],
-    first_arcs: &[u8],
-    second: Counts,
-    second_states: &[u8],
-    second_arcs: &[u8],
+    first: &Table,
+    second: &Table,
     out_states: &mut [u8],
     out_arcs: &mut [u8],
     work: &mut [u8],
-) -> TableAnswer
+) -> Result<Counts, Refusal>
     ensures { built_of (table_as result) out_states.new out_arcs.new work.new
-        ≡ product_outcome (lent first first_states.now first_arcs.now)
-        (lent second second_states.now second_arcs.now)
+        ≡ product_outcome (memory first.now) (memory second.now)
         (slices_of out_states.old out_arcs.old) work.old }
 {
-    let answer = multiply(
-        first,
-        first_states,
-        first_arcs,
-        second,
-        second_states,
-        second_arcs,
-        out_states,
-        out_arcs,
-        work,
-    );
+    let answer = multiply(first, second, out_states, out_arcs, work);
     zero(work);
     answer
 }

@@ -10,7 +10,7 @@ use product_records::judge::sums_fit;
 use product_records::result::{write_moves, write_states};
 use product_search::head::Head;
 use product_search::plan::Plan;
-use table::answer::{Counts, Refusal, TableAnswer};
+use table::answer::{Counts, Refusal};
 
 // The answer: more states than there is room for (8), more arcs (9), a summed weight out of range (11), or the product.
 // Nothing is written before that is known.
@@ -24,7 +24,7 @@ pub fn answer_search(
     work: &[u8],
     out_states: &mut [u8],
     out_arcs: &mut [u8],
-) -> TableAnswer
+) -> Result<Counts, Refusal>
     requires { Answerable plan first_states.now first_arcs.now second_states.now second_arcs.now head
         work.now (length out_states.old) (length out_arcs.old) }
     ensures { made_of (table_as result) out_states.new out_arcs.new
@@ -33,10 +33,10 @@ pub fn answer_search(
         (slices_of out_states.old out_arcs.old) }
 {
     if head.full {
-        return TableAnswer::Refused(Refusal::StatesFull);
+        return Err(Refusal::StatesFull);
     }
     if plan.arcs < head.arcs {
-        return TableAnswer::Refused(Refusal::ArcsFull);
+        return Err(Refusal::ArcsFull);
     }
     let fit = sums_fit(
         work,
@@ -49,25 +49,23 @@ pub fn answer_search(
         second_arcs,
     );
     if !fit {
-        return TableAnswer::Refused(Refusal::Weight);
+        return Err(Refusal::Weight);
     }
-    let n = plan.first.tapes;
-    let k = plan.second.tapes;
     write_states(work, head.reached, first_states, second_states, out_states);
     write_moves(
         work,
         plan.base,
         head.arcs,
-        n,
-        k,
+        plan.first.tapes,
+        plan.second.tapes,
         first_states,
         first_arcs,
         second_states,
         second_arcs,
         out_arcs,
     );
-    TableAnswer::Table(Counts {
-        tapes: n + k,
+    Ok(Counts {
+        tapes: plan.first.tapes + plan.second.tapes,
         states: head.reached,
         arcs: head.arcs,
     })

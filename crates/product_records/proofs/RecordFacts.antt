@@ -1,20 +1,19 @@
 -- The record of a move as it is written, over plain lists.
 use mathlib.Core.Path.{◌≡◌, refl, sym, ap, ◌∙◌}
 use mathlib.Core.Bool.{Bool, true, false}
-use mathlib.Core.List.{List, [], ◌∷◌, ◌++◌}
+use mathlib.Core.List.{List, [], ◌++◌}
 use Prim.Native.Nat.{ℕ, ◌+◌, ◌-◌, ◌*◌, ◌≤◌}
 use native.Mathlib.Omega.{arith}
 use lib.Dec.{eqb, eqb_refl}
-use lib.ListN.{length, get_or, set, length-append, length-replicate, replicate-append-replicate}
+use lib.ListN.{length, length-append, length-replicate, replicate-append-replicate}
 use Rattle.automata.specs.Lists.{if}
 use Rattle.automata.specs.Memory.{zeros}
 use Rattle.automata.proofs.TestFacts.{eqb_false, false_not_true, T_true}
 use Rattle.automata.specs.Layout.{arc_size, content_place, label_size, labels_place, labels_size}
 use Rattle.table.specs.Arcs.{labels_start}
 use Rattle.table.specs.Region.{part, splice}
-use Rattle.table.specs.Endian.{le, to_le}
-use Rattle.table.proofs.EndianFacts.{Bytes, to_le-part}
-use Rattle.table.proofs.RegionFacts.{length_part, part_zero, part_suc, part-add, length_splice, splice-none, splice-twice, splice_append, splice-behind, splice_swap, one_store}
+use Rattle.table.specs.Endian.{to_le}
+use Rattle.table.proofs.RegionFacts.{length_part, part_zero, part-add, length_splice, splice-none, splice-twice, splice_append, splice-behind, splice_swap}
 use Rattle.product_search.specs.declared.vertex.Move.{Move}
 use Rattle.product_search.specs.Moves.{no_arc}
 use Rattle.product_records.specs.Sums.{side_labels, side_over, move_sum, move_front, move_labels, move_record, MoveFits}
@@ -25,18 +24,6 @@ eqb_differs m n f e = false_not_true {A = ⊥} f (T_true (eqb m n) (rw e (eqb_re
 
 -- ---- zeros
 
--- written in three equal parts, one behind the other
-pub thirds_stored : (n to : ℕ) (out out1 out2 out3 : List ℕ) → to + 3 * n ≤ length out → out1 ≡ splice to (zeros n) out
-    → out2 ≡ splice (to + n) (zeros n) out1 → out3 ≡ splice (to + 2 * n) (zeros n) out2 → out3 ≡ splice to (zeros (3 * n)) out
-thirds_stored n to out out1 out2 out3 h a b c =
-    let l : length (zeros n) ≡ n = length-replicate n 0 in
-    let m : length (zeros (n + n)) ≡ n + n = length-replicate (n + n) 0 in
-    let e : n + n + n ≡ 3 * n = omega arith in
-    let p : out2 ≡ splice to (zeros (n + n)) out =
-    splice-behind to (to + n) (zeros n) (zeros n) out out1 out2 a b (omega (arith, l)) (omega (arith, l)) ∙ ap (λ (z : List ℕ). splice to z out) (replicate-append-replicate n n 0) in
-    splice-behind to (to + 2 * n) (zeros (n + n)) (zeros n) out out2 out3 p c (omega (arith, m)) (omega (arith, l, m))
-    ∙ ap (λ (z : List ℕ). splice to z out) (replicate-append-replicate (n + n) n 0 ∙ ap zeros e)
-
 -- zeros in three parts
 zeros_parts : (a b c : ℕ) → zeros (a + (b + c)) ≡ zeros a ++ (zeros b ++ zeros c)
 zeros_parts a b c = sym (ap (λ (j : List ℕ). zeros a ++ j) (replicate-append-replicate b c 0) ∙ replicate-append-replicate a (b + c) 0)
@@ -44,17 +31,6 @@ zeros_parts a b c = sym (ap (λ (j : List ℕ). zeros a ++ j) (replicate-append-
 -- those of a record: of each side, and behind them
 zeros_split : (n k : ℕ) → n + k ≤ 8 → zeros labels_size ≡ zeros (label_size * n) ++ (zeros (label_size * k) ++ zeros (labels_size - label_size * n - label_size * k))
 zeros_split n k t = let s : labels_size ≡ label_size * n + (label_size * k + (labels_size - label_size * n - label_size * k)) = omega arith in ap zeros s ∙ zeros_parts (label_size * n) (label_size * k) (labels_size - label_size * n - label_size * k)
-
--- ---- a label
-
--- a label copied: its length, and its eight bytes as one number
-pub label_copied : (arcs : List ℕ) (from to w : ℕ) (out out2 : List ℕ) → Bytes arcs → from + label_size ≤ length arcs → to + label_size ≤ length out
-    → w ≡ le (part (from + 1) 8 arcs) → out2 ≡ splice (to + 1) (to_le 8 w) (set out to (get_or arcs from 0)) → out2 ≡ splice to (part from label_size arcs) out
-label_copied arcs from to w out out2 bytes h k e f =
-    let x = get_or arcs from 0 in
-    let b : to_le 8 w ≡ part (from + 1) 8 arcs = ap (to_le 8) e ∙ to_le-part (from + 1) 8 arcs (omega arith) bytes in
-    splice-behind to (to + 1) (x ∷ []) (to_le 8 w) out (set out to x) out2 (one_store to x out (omega arith)) f refl (omega arith)
-    ∙ ap (λ (z : List ℕ). splice to z out) (ap (λ (z : List ℕ). x ∷ z) b ∙ sym (part_suc from 8 arcs 0 (omega arith)))
 
 -- ---- the labels of a side
 

@@ -14,8 +14,8 @@ use Rattle.automata.proofs.RecordFacts.{All_map, length_write_all}
 use Rattle.automata.specs.Layout.{arc_size, state_size, step_size, vertex_size}
 use Rattle.table.specs.Region.{splice}
 use Rattle.table.specs.Records.{state_bytes}
-use Rattle.table.specs.declared.record.Weight.{Weight}
-use Rattle.table.specs.declared.record.Weight.TheVariants.{Absent, Present}
+use Rattle.std.specs.Prelude.{Some, None}
+use Rattle.table.specs.Records.{Weight}
 use Rattle.table.specs.declared.record.State.{State}
 use Rattle.table.proofs.RegionFacts.{splice-none, splice_append, splice_front}
 use Rattle.product_search.specs.declared.vertex.Vertex.{Vertex}
@@ -68,10 +68,10 @@ unfolding state_bytes
 length_state s = go s.initial s.last
   where
     go : (i l : Weight) → length (state_bytes (record { initial = i; last = l })) ≡ state_size
-    go Absent Absent = refl
-    go Absent (Present y) = refl
-    go (Present x) Absent = refl
-    go (Present x) (Present y) = refl
+    go None None = refl
+    go None (Some y) = refl
+    go (Some x) None = refl
+    go (Some x) (Some y) = refl
 
 -- the records of states
 pub length_states : (s1 s2 : List ℕ) (vs : List Vertex) → length (state_records s1 s2 vs) ≡ length vs * state_size
@@ -192,14 +192,3 @@ module _ (s1 a1 s2 a2 u : List ℕ) where
   moves_end w at left to base n k count out out0 s e =
       written_end to (move_records s1 a1 s2 a2 u n k (moves_at at left w)) (move_records s1 a1 s2 a2 u n k (moves_at base count w)) out out0
       (ap (λ (xs : List Move). move_records s1 a1 s2 a2 u n k xs) (moves_none at left w s)) e
-
--- ---- both
-
--- a state is out of range, or the states are in range and the arcs count
-pub sums_stop : (b x y : Bool) → b ≡ x → not b ≡ true → false ≡ and x y
-sums_stop true x y e f = absurd (false_not_true {A = ⊥} refl f)
-sums_stop false x y e f = rw (← e)
-
-pub sums_next : (b x y r : Bool) → b ≡ x → not b ≡ false → r ≡ y → r ≡ and x y
-sums_next true x y r e f g = g ∙ (rw (← e))
-sums_next false x y r e f g = absurd (false_not_true {A = ⊥} refl (sym f))

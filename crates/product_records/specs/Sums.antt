@@ -10,8 +10,8 @@ use Rattle.table.specs.Region.{part, splice}
 use Rattle.table.specs.Endian.{to_le}
 use Rattle.table.specs.Arcs.{arc_weight, labels_start}
 use Rattle.table.specs.Records.{option_of, state_as, state_at}
-use Rattle.table.specs.declared.record.Weight.{Weight}
-use Rattle.table.specs.declared.record.Weight.TheVariants.{Absent, Present}
+use Rattle.std.specs.Prelude.{Some, None, unwrap_or}
+use Rattle.table.specs.Records.{Weight}
 use Rattle.table.specs.declared.record.State.{State}
 use Rattle.product_search.specs.declared.vertex.Vertex.{Vertex}
 use Rattle.product_search.specs.declared.vertex.Move.{Move}
@@ -22,7 +22,7 @@ use Rattle.product_search.specs.Moves.{no_arc, move_at}
 
 -- where a path has ended nothing begins, and nothing more is weighed
 abbrev pub ended_state : State
-ended_state = record { initial = Absent; last = Present 0 }
+ended_state = record { initial = None; last = Some 0 }
 
 -- the state of a side at a place, by the records of its states
 unfoldable pub place_state : List ℕ → ℕ → State
@@ -30,9 +30,9 @@ place_state states k = if (eqb k ended) ended_state (state_at (state_size * k) s
 
 -- two weights added, absent where either is
 abbrev pub plus : Weight → Weight → Weight
-plus Absent y = Absent
-plus (Present a) Absent = Absent
-plus (Present a) (Present b) = Present (a + b)
+plus None y = None
+plus (Some a) None = None
+plus (Some a) (Some b) = Some (a + b)
 
 -- two states side by side
 abbrev pub plus_state : State → State → State
@@ -50,8 +50,7 @@ state_fits s = and (fits_at weight_fits (option_of s.initial)) (fits_at weight_f
 
 -- a weight as a number, 0 where it is absent
 abbrev pub amount : Weight → ℕ
-amount Absent = 0
-amount (Present w) = w
+amount w = unwrap_or w 0
 
 -- what a side adds to the weight of a move: that of its arc, or the final weight of its place where its path ends or
 -- has ended

@@ -16,16 +16,12 @@ fn states_fit(work: &[u8], count: usize, first_states: &[u8], second_states: &[u
     ensures { result ≡ states_fit first_states.now second_states.now
         (vertices_at 0 count work.now) }
 {
-    let mut left = count;
-    let mut at: usize = 0;
-    while 0 < left {
-        let v = load_vertex(work, at);
+    for i in 0..count {
+        let v = load_vertex(work, VERTEX_SIZE * i);
         let s = vertex_state(v, first_states, second_states);
         if !state_fits(s) {
             return false;
         }
-        at += VERTEX_SIZE;
-        left -= 1;
     }
     true
 }
@@ -47,10 +43,8 @@ fn moves_fit(
         second_states.now second_arcs.now work.now
         (moves_at base count work.now) }
 {
-    let mut left = count;
-    let mut at = base;
-    while 0 < left {
-        let m = load_move(work, at);
+    for i in 0..count {
+        let m = load_move(work, base + STEP_SIZE * i);
         let weight = move_weight(
             m,
             work,
@@ -62,8 +56,6 @@ fn moves_fit(
         if 999999999 < weight {
             return false;
         }
-        at += STEP_SIZE;
-        left -= 1;
     }
     true
 }
@@ -89,16 +81,14 @@ pub fn sums_fit(
         (moves_fit first_states.now first_arcs.now second_states.now
         second_arcs.now work.now (moves_at base arcs work.now)) }
 {
-    if !states_fit(work, reached, first_states, second_states) {
-        return false;
-    }
-    moves_fit(
-        work,
-        base,
-        arcs,
-        first_states,
-        first_arcs,
-        second_states,
-        second_arcs,
-    )
+    states_fit(work, reached, first_states, second_states)
+        && moves_fit(
+            work,
+            base,
+            arcs,
+            first_states,
+            first_arcs,
+            second_states,
+            second_arcs,
+        )
 }

@@ -9,8 +9,8 @@ ghost use Rattle.product_records.specs.Sums.{side_over, move_front, move_labels,
 use crate::sum::move_weight;
 use product_search::vertex::{Move, NO_ARC};
 use table::arc::{labels_start, store_arc_weight, store_ends};
-use table::bytes::{get64, put64};
-use table::layout::{ARC_SIZE, LABEL_SIZE, SYMBOLS_PLACE};
+use table::bytes::copy_into;
+use table::layout::{ARC_SIZE, LABEL_SIZE, LABELS_SIZE};
 use table::record::ResultState;
 
 // A label: its length and its eight bytes.
@@ -18,20 +18,7 @@ fn copy_label(arcs: &[u8], from: usize, out: &mut [u8], to: usize)
     requires { (from + label_size ≤ length arcs.now) × (to + label_size ≤ length out.old) }
     ensures { out.new ≡ splice to (part from label_size arcs.now) out.old }
 {
-    let len = arcs[from];
-    let symbols = get64(arcs, from + SYMBOLS_PLACE);
-    out[to] = len;
-    put64(out, to + SYMBOLS_PLACE, symbols);
-}
-
-// A third of the labels of a record: 24 zeros.
-fn clear_third(out: &mut [u8], to: usize)
-    requires { to + 24 ≤ length out.old }
-    ensures { out.new ≡ splice to (zeros 24) out.old }
-{
-    put64(out, to, 0);
-    put64(out, to + 8, 0);
-    put64(out, to + 16, 0);
+    copy_into(out, to, &arcs[from..from + LABEL_SIZE]);
 }
 
 // The labels of a record: 72 zeros.
@@ -39,9 +26,7 @@ fn clear_labels(out: &mut [u8], to: usize)
     requires { to + labels_size ≤ length out.old }
     ensures { out.new ≡ splice to (zeros labels_size) out.old }
 {
-    clear_third(out, to);
-    clear_third(out, to + 24);
-    clear_third(out, to + 48);
+    copy_into(out, to, &[0; LABELS_SIZE]);
 }
 
 // The labels of a side's arc on so many tapes; nothing where its path has ended.
@@ -53,14 +38,9 @@ fn store_side(arcs: &[u8], arc: u16, tapes: usize, out: &mut [u8], to: usize)
     if arc == NO_ARC {
         return;
     }
-    let mut from = labels_start(ARC_SIZE * arc as usize);
-    let mut at = to;
-    let mut left = tapes;
-    while 0 < left {
-        copy_label(arcs, from, out, at);
-        from += LABEL_SIZE;
-        at += LABEL_SIZE;
-        left -= 1;
+    let from = labels_start(ARC_SIZE * arc as usize);
+    for tape in 0..tapes {
+        copy_label(arcs, from + LABEL_SIZE * tape, out, to + LABEL_SIZE * tape);
     }
 }
 

@@ -25,16 +25,10 @@ pub fn write_states(
     ensures { out.new ≡ overwrite (state_records first_states.now
         second_states.now (vertices_at 0 count work.now)) out.old }
 {
-    let mut left = count;
-    let mut at: usize = 0;
-    let mut to: usize = 0;
-    while 0 < left {
-        let v = load_vertex(work, at);
+    for i in 0..count {
+        let v = load_vertex(work, VERTEX_SIZE * i);
         let s = vertex_state(v, first_states, second_states);
-        store_state(out, to, s);
-        at += VERTEX_SIZE;
-        to += STATE_SIZE;
-        left -= 1;
+        store_state(out, STATE_SIZE * i, s);
     }
 }
 
@@ -59,11 +53,8 @@ pub fn write_moves(
         second_states.now second_arcs.now work.now first_tapes second_tapes
         (moves_at base count work.now)) out.old }
 {
-    let mut left = count;
-    let mut at = base;
-    let mut to: usize = 0;
-    while 0 < left {
-        let m = load_move(work, at);
+    for i in 0..count {
+        let m = load_move(work, base + STEP_SIZE * i);
         store_move(
             m,
             first_tapes,
@@ -74,10 +65,7 @@ pub fn write_moves(
             second_states,
             second_arcs,
             out,
-            to,
+            ARC_SIZE * i,
         );
-        at += STEP_SIZE;
-        to += ARC_SIZE;
-        left -= 1;
     }
 }

@@ -10,7 +10,7 @@ ghost use Rattle.product_records.specs.Sums.{place_state, plus, vertex_sum, stat
 use product_search::vertex::{ENDED, Move, NO_ARC, Vertex, load_vertex};
 use table::arc::arc_weight_at;
 use table::layout::{ARC_SIZE, STATE_SIZE, VERTEX_SIZE};
-use table::record::{InputState, State, Weight, load_state};
+use table::record::{InputState, State, load_state};
 
 // The state of a side at a place: no initial weight and the final weight 0 where its path has ended.
 fn place_state(states: &[u8], place: InputState) -> State
@@ -18,26 +18,24 @@ fn place_state(states: &[u8], place: InputState) -> State
     ensures { result ≡ place_state states.now place.0 }
 {
     if place.0 == ENDED {
-        return State {
-            initial: Weight::Absent,
-            last: Weight::Present(0),
-        };
+        State {
+            initial: None,
+            last: Some(0),
+        }
+    } else {
+        load_state(states, STATE_SIZE * place.0 as usize)
     }
-    load_state(states, STATE_SIZE * place.0 as usize)
 }
 
 // Two weights added, absent where either is.
-fn add_weights(a: Weight, b: Weight) -> Weight
+fn add_weights(a: Option<u32>, b: Option<u32>) -> Option<u32>
     requires { amount a + amount b < 4294967296 }
     ensures { result ≡ plus a b }
 {
-    let Weight::Present(x) = a else {
-        return Weight::Absent;
-    };
-    let Weight::Present(y) = b else {
-        return Weight::Absent;
-    };
-    Weight::Present(x + y)
+    match (a, b) {
+        (Some(x), Some(y)) => Some(x + y),
+        _ => None,
+    }
 }
 
 // The state of the product at a place on each side.
@@ -47,45 +45,24 @@ pub fn vertex_state(v: Vertex, first_states: &[u8], second_states: &[u8]) -> Sta
 {
     let a = place_state(first_states, v.first);
     let b = place_state(second_states, v.second);
-    let first_initial = a.initial;
-    let second_initial = b.initial;
-    let initial = add_weights(first_initial, second_initial);
-    let first_last = a.last;
-    let second_last = b.last;
-    let last = add_weights(first_last, second_last);
-    State { initial, last }
+    State {
+        initial: add_weights(a.initial, b.initial),
+        last: add_weights(a.last, b.last),
+    }
 }
 
 // Whether a weight is in range, if it is there.
-fn weight_fits(w: Weight) -> bool
+fn weight_fits(w: Option<u32>) -> bool
     ensures { result ≡ fits_at weight_fits (option_of w) }
 {
-    let Weight::Present(n) = w else {
-        return true;
-    };
-    n <= 999999999
+    w.is_none_or(|n| n <= 999999999)
 }
 
 // Whether both weights of a state are.
 pub fn state_fits(s: State) -> bool
     ensures { result ≡ state_fits s }
 {
-    let initial = s.initial;
-    if !weight_fits(initial) {
-        return false;
-    }
-    let last = s.last;
-    weight_fits(last)
-}
-
-// A weight as a number, 0 where it is absent.
-fn weight_amount(w: Weight) -> u32
-    ensures { result ≡ amount w }
-{
-    match w {
-        Weight::Absent => 0,
-        Weight::Present(n) => n,
-    }
+    weight_fits(s.initial) && weight_fits(s.last)
 }
 
 // What a side adds to the weight of a move: that of its arc, or the final weight of its place where its path ends or
@@ -95,11 +72,10 @@ fn side_weight(states: &[u8], arcs: &[u8], arc: u16, place: InputState) -> u32
     ensures { (result ≡ side_sum states.now arcs.now arc place.0) × (result ≤ 999999999) }
 {
     if arc == NO_ARC {
-        let s = place_state(states, place);
-        let last = s.last;
-        return weight_amount(last);
+        place_state(states, place).last.unwrap_or(0)
+    } else {
+        arc_weight_at(arcs, ARC_SIZE * arc as usize)
     }
-    arc_weight_at(arcs, ARC_SIZE * arc as usize)
 }
 
 // The weight of a move, from the row of its first state in `work`.

@@ -22,10 +22,10 @@ use Rattle.product_search.specs.Moves.{by_both}
 use Rattle.table.specs.Arcs.{source_of}
 use Rattle.table_adjacency.specs.Chains.{in_chain, FirstIn, first_for}
 use Rattle.table_adjacency.proofs.ChainFacts.{first_for_lem, next_for}
-use Rattle.product_search.specs.Reading.{ArcsLent, ReadsArcs, LinkedArcs, chained_arcs, chained_only}
+use Rattle.product_search.specs.Reading.{ArcsLent, ReadsArcs, chained_arcs, chained_only}
 use Rattle.product_search.specs.Searching.{progress, Step, Notes, Ready, Grows, out_by, on_second, PassesSecond, Indexed, TriesBoth, PassesBoth}
 use Rattle.search_rows.proofs.ProgressFacts.{grows_none, grows_then, grows_wider}
-use Rattle.product_search.proofs.NoteFacts.{ready_on, notes_none, notes_same}
+use Rattle.product_search.proofs.NoteFacts.{notes_none, notes_same}
 use Rattle.product_search.proofs.ReadFacts.{source_at_lem, target_at_lem, out_one, out_away, out-all, at_source, turn_start, turn_more, turn_pass, turn_full, turn_all}
 
 -- the pairs of steps of two lists and of a third
@@ -135,21 +135,10 @@ module _ (p : Plan) (h : Head) (c : Vertex) (a1 f1 n1 a2 f2 n2 : List ℕ) (v : 
       (subst (FirstIn a1 n1 c.first.0 p.first.arcs 0) (sym e) (first_for_lem p.first.states p.first.arcs a1 f1 n1 indexed.first c.first.0))
 
   module _ (g : Head) (w : List ℕ) (i : ℕ) (t : PassingBoth p h c a1 n1 a2 n2 v g w i) where
-    pub both_requires : i < p.first.arcs
-        → (Ready p g 8192 (length w)) × (g.full ≡ false) × (ArcsLent p.first a1) × (i < p.first.arcs) × (ArcsLent p.second a2) × (LinkedArcs p.second a2 f2 n2)
-    both_requires b = (ready_on p (8192 * i) 8192 67108864 h g v w q t.turned.grows (omega (arith, b, lent-first.few)), t.turned.opened, lent-first, b, lent-second, indexed.second)
-
     module _ (b : i < p.first.arcs) where
       -- the next arc of the chain
       following : FirstIn a1 n1 c.first.0 p.first.arcs (i + 1) (get_or n1 i 0)
       following = next_for p.first.states p.first.arcs a1 f1 n1 indexed.first c.first.0 i b (t.leaves b)
-
-      -- stands behind, and has a small number
-      pub both-goes : i < get_or n1 i 0
-      both-goes = let f = following.behind in omega (arith, f)
-
-      pub both_bound : get_or n1 i 0 ≤ 8192
-      both_bound = let f = following.within in omega (arith, f, lent-first.few)
 
       module _ (r : Head) (u : List ℕ) (z : TriesBoth p g c a1 a2 n2 i w r u) where
         next_grows : Grows p (8192 * (i + 1)) h v r u

@@ -69,10 +69,6 @@ module _ (counts : Counts) (first next : List ℕ) (x : ℕ) (w : Walkable count
       following : (arcs : List ℕ) → LinkedArcs counts arcs first next → FirstIn arcs next x counts.arcs (j + 1) (get_or next j 0)
       following arcs c = next_for counts.states counts.arcs arcs first next c x j b (t.leaves arcs c b)
 
-      -- stands behind, and has a small number
-      pub count_goes : (j < get_or next j 0) × (get_or next j 0 ≤ 8192)
-      count_goes = let f = following w.bytes w.linked in let l = f.behind in let h = f.within in (omega (arith, l), omega (arith, h, w.few))
-
       -- the arc leads out of the place
       one-step : (arcs : List ℕ) (A : Automaton ℕ) → LinkedArcs counts arcs first next → ReadsArcs counts arcs A → (y : Option ℕ) → x ≡ place_number y
           → length (out_by (arc_as counts.tapes (arc_at (arc_size * j) arcs) ∷ []) y) ≡ 1

@@ -1,10 +1,12 @@
 -- One side's arcs after the other side's end.
-use Prim.Native.Nat.{ℕ, ◌+◌, ◌*◌, ◌≤◌, ◌<◌}
+use Prim.Native.Nat.{ℕ, ◌+◌, ◌*◌, ◌<◌}
 use mathlib.Core.Path.{◌≡◌, refl, sym, ap, ◌∙◌}
 use mathlib.Core.Bool.{Bool, true, false, not}
 use mathlib.Core.Option.{Option, none, some}
 use mathlib.Core.List.{List, [], map}
 use native.Mathlib.Omega.{arith}
+use lib.Dec.{eqb}
+use borrow.Author.Tests.{eqb-true, eqb-false}
 use lib.ListN.{length, get_or, get_elem?}
 use Rattle.automata.specs.Lists.{is_some, bind}
 use Rattle.automata.specs.OrderedSum.{ℕ_sum}
@@ -29,25 +31,28 @@ use Rattle.product_search.proofs.ReadFacts.{final_absent, final_present}
 -- ---- the test for an end
 
 module _ (counts : Counts) (bytes : List ℕ) (x : ℕ) (lent : StatesLent counts bytes) where
-  -- the path has ended already
-  pub ends_past : counts.states ≤ x → TellsEnd counts bytes x true
-  ends_past l A none k e b = refl
-  ends_past l A (some q) k e b = absurd (omega (arith, l, k.count, e, b))
-
   -- the final weight of a state, from its record
   final_is : (A : Automaton ℕ) (q : ℕ) → ReadsStates counts bytes A → x ≡ q → x < counts.states → final_of A q ≡ (state_as (state_at (state_size * x) bytes)).final
   final_is A q k e l =
       ap (λ (o : Option (State ℕ)). bind o (λ s. s.final)) (ap (get_elem? A.states) (sym e) ∙ k.loaded x l)
 
   -- the state has none
-  pub ends_not : x < counts.states → get_or bytes (state_size * x + final_place) 0 ≡ 0 → TellsEnd counts bytes x false
+  ends_not : x < counts.states → get_or bytes (state_size * x + final_place) 0 ≡ 0 → TellsEnd counts bytes x false
   ends_not l z A none k e b = absurd (omega (arith, l, e, lent.few))
   ends_not l z A (some q) k e b = sym (ap is_some (final_is A q k e l ∙ final_absent x bytes z))
 
   -- it has one
-  pub ends_there : x < counts.states → (get_or bytes (state_size * x + final_place) 0 ≡ 0 → ⊥) → TellsEnd counts bytes x true
+  ends_there : x < counts.states → (get_or bytes (state_size * x + final_place) 0 ≡ 0 → ⊥) → TellsEnd counts bytes x true
   ends_there l z A none k e b = refl
   ends_there l z A (some q) k e b = let f = final_present x bytes z in sym (ap is_some (final_is A q k e l ∙ f.1))
+
+  -- by the first byte of the final weight
+  pub ends_by : x < counts.states → TellsEnd counts bytes x (not (eqb (get_or bytes (state_size * x + final_place) 0) 0))
+  ends_by l = go (eqb (get_or bytes (state_size * x + final_place) 0) 0) refl
+    where
+      go : (t : Bool) → eqb (get_or bytes (state_size * x + final_place) 0) 0 ≡ t → TellsEnd counts bytes x (not t)
+      go true t = ends_not l (eqb-true _ _ t)
+      go false t = ends_there l (eqb-false _ _ t)
 
 -- an option by whether it is there
 absent : (e : Bool) (o : Option ℕ) → not e ≡ true → e ≡ is_some o → o ≡ none

@@ -1,7 +1,7 @@
 -- The whole search: by all arcs first, and where there are more moves than there is room for, by arcs to distinct
 -- targets.
 use Prim.Native.Nat.{ℕ, ◌*◌, ◌≤◌, ◌<◌}
-use mathlib.Core.Path.{◌≡◌, refl, sym, ◌∙◌, subst}
+use mathlib.Core.Path.{◌≡◌, refl, ◌∙◌, subst}
 use mathlib.Core.Logic.{◌⊎◌, inl, inr}
 use mathlib.Core.Bool.{true, false}
 use mathlib.Core.List.{List}
@@ -55,25 +55,7 @@ module _ (p : Plan) (s1 a1 s2 a2 : List ℕ) (v : List ℕ) (x : Explorable p s1
   abbrev B : Automaton ℕ
   B = second_in p s2 a2
 
-  -- the same in work space of the same length
-  pub kept_explorable : (size : ℕ) → size ≡ length v → Explorable p s1 a1 s2 a2 size
-  kept_explorable size e = subst (Explorable p s1 a1 s2 a2) (sym e) x
-
-  -- it may be gone through again for states alone
-  pub may_recount : (q : Plan) → q ≡ states_only p → Explorable q s1 a1 s2 a2 (length v)
-  may_recount q e = subst (λ (z : Plan). Explorable z s1 a1 s2 a2 (length v)) (sym e) (record {
-    first_sound = x.first_sound;
-    second_sound = x.second_sound;
-    vertices_fit = x.vertices_fit;
-    moves_fit = omega (arith, x.moves_fit);
-    few_states = x.few_states;
-    few_arcs = omega arith;
-  })
-
   module _ (f1 n1 f2 n2 : List ℕ) (d1 : LinksDistinct p.first.states p.first.arcs a1 f1 n1) (d2 : LinksDistinct p.second.states p.second.arcs a2 f2 n2) where
-    pub distinct_indexed : (q : Plan) → q ≡ states_only p → Indexed q a1 f1 n1 a2 f2 n2
-    distinct_indexed q e = subst (λ (z : Plan). Indexed z a1 f1 n1 a2 f2 n2) (sym e) (record { first = d1.linked; second = d2.linked })
-
     told-again : (arcs : ℕ) (r : Head) (w : List ℕ) → Searches (states_only p) s1 a1 n1 s2 a2 n2 v r w
         → Recounts p s1 a1 s2 a2 arcs v (record { taken = r.taken; reached = r.reached; arcs = arcs; full = r.full }) w
     told-again arcs r w y = record {

@@ -23,7 +23,7 @@ use Rattle.table_adjacency.proofs.ChainFacts.{first_for_lem, next_for}
 use Rattle.product_search.specs.Reading.{ArcsLent, LinkedArcs, chained_arcs, chained_only}
 use Rattle.product_search.specs.Searching.{progress, Notes, Ready, Grows, Arrives, out_by, on_first, ByFirst, TriesFirst, PassesFirst}
 use Rattle.search_rows.proofs.ProgressFacts.{grows_none, grows_then, grows_wider}
-use Rattle.product_search.proofs.NoteFacts.{ready_on, notes_none, notes_same}
+use Rattle.product_search.proofs.NoteFacts.{notes_none, notes_same}
 use Rattle.product_search.proofs.ReadFacts.{source_at_lem, target_at_lem, out_one, out_away, out-all, at_source, turn_start, turn_more, turn_pass, turn_full, turn_all}
 
 -- ---- one arc
@@ -114,20 +114,10 @@ module _ (p : Plan) (h : Head) (c : Vertex) (arcs first next : List ℕ) (v : Li
       (subst (FirstIn arcs next c.first.0 p.first.arcs 0) (sym e) (first_for_lem p.first.states p.first.arcs arcs first next linked c.first.0))
 
   module _ (g : Head) (w : List ℕ) (i : ℕ) (t : PassingFirst p h c arcs next v g w i) where
-    pub first_requires : i < p.first.arcs → (Ready p g 1 (length w)) × (g.full ≡ false) × (ArcsLent p.first arcs) × (i < p.first.arcs)
-    first_requires b = (ready_on p i 1 8192 h g v w q t.turned.grows (omega (arith, b, lent.few)), t.turned.opened, lent, b)
-
     module _ (b : i < p.first.arcs) where
       -- the next arc of the chain
       following : FirstIn arcs next c.first.0 p.first.arcs (i + 1) (get_or next i 0)
       following = next_for p.first.states p.first.arcs arcs first next linked c.first.0 i b (t.leaves b)
-
-      -- stands behind, and has a small number
-      pub first_goes : i < get_or next i 0
-      first_goes = let f = following.behind in omega (arith, f)
-
-      pub first_bound : get_or next i 0 ≤ 8192
-      first_bound = let f = following.within in omega (arith, f, lent.few)
 
       module _ (r : Head) (u : List ℕ) (z : TriesFirst p g c arcs i w r u) where
         next_grows : Grows p (i + 1) h v r u

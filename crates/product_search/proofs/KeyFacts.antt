@@ -5,15 +5,15 @@ use mathlib.Core.List.{List, [], ◌∷◌}
 use native.Mathlib.Nat.{add-mul-mod_self_left}
 use native.Mathlib.Omega.{arith}
 use lib.ListN.{length, get_or}
-use Rattle.table.specs.Region.{part, splice}
+use Rattle.table.specs.Region.{part}
 use Rattle.table.specs.Endian.{le, to_le}
 use Rattle.table.proofs.RegionFacts.{get_d_part}
 use Rattle.table.proofs.EndianFacts.{Bytes, le-to_le, to_le-part}
 use Rattle.search_rows.specs.declared.Entered.{Entered}
-use Rattle.search_rows.specs.declared.Found.TheVariants.{At}
+use Rattle.std.specs.Prelude.{Some}
 use Rattle.search_chains.specs.Hash.{bucket_of}
 use Rattle.search_chains.specs.Parts.{Agrees}
-use Rattle.search_chains.specs.Chain.{link_below, appended, Enters}
+use Rattle.search_chains.specs.Chain.{link_below, Enters}
 use Rattle.search_chains.proofs.FindFacts.{Passes, passes_next, finds_record}
 use Rattle.search_chains.proofs.EnterFacts.{entered_row}
 use Rattle.product_search.specs.declared.vertex.Vertex.{Vertex}
@@ -56,7 +56,7 @@ module _ (at n key : ℕ) (xs : List ℕ) (within : at + 4 ≤ length xs) (read 
 
 module _ (count bucket key : ℕ) (xs : List ℕ) (rows : count * vertex_size ≤ length xs) where
   -- the state is found
-  pub key_found : (k n : ℕ) → k < count → n ≡ le (part (k * vertex_size) 4 xs) → Bytes xs → n ≡ key → FindsVertex count bucket key xs (At (record { 0 = k }))
+  pub key_found : (k n : ℕ) → k < count → n ≡ le (part (k * vertex_size) 4 xs) → Bytes xs → n ≡ key → FindsVertex count bucket key xs (Some (record { 0 = k }))
   key_found k n h read bytes e =
       finds_record vertex_size count bucket vertex_shape (to_le 4 key) xs k h agrees
     where
@@ -75,10 +75,9 @@ module _ (count bucket key : ℕ) (xs : List ℕ) (rows : count * vertex_size �
 
 -- ---- the row behind the last
 
--- the three numbers written
-pub key_appended : (count bucket key link : ℕ) (w w1 w2 w3 : List ℕ) → link ≡ le (part (bucket * vertex_size + 4) 2 w) → w1 ≡ splice (count * vertex_size) (to_le 4 key) w
-    → w2 ≡ splice (count * vertex_size + 6) (to_le 2 link) w1 → w3 ≡ splice (bucket * vertex_size + 4) (to_le 2 (count + 1)) w2 → w3 ≡ appended vertex_size count bucket (to_le 4 key) w
-unfolding appended
-key_appended count bucket key link w w1 w2 w3 a b c d =
-    let e : count * vertex_size + 6 ≡ count * vertex_size + 4 + 2 = omega arith in
-    rw (d, c, b, a, e)
+-- the four bytes written by the library are those of the number
+pub key_written : (key : ℕ) → ◌≡◌ {A = List ℕ} (key % 256 ∷ key / 256 % 256 ∷ key / 65536 % 256 ∷ key / 16777216 % 256 ∷ []) (to_le 4 key)
+key_written key =
+    let a : key / 65536 ≡ key / 256 / 256 = omega arith in
+    let b : key / 16777216 ≡ key / 256 / 256 / 256 = omega arith in
+    rw (a, b)

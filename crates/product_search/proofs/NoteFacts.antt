@@ -1,5 +1,5 @@
 -- Steps noted one after the other, and the bounds that are kept.
-use Prim.Native.Nat.{ℕ, ◌+◌, ◌≤◌}
+use Prim.Native.Nat.{ℕ, ◌≤◌}
 use mathlib.Core.Path.{◌≡◌, refl, sym, ap, ◌∙◌, subst}
 use mathlib.Core.Logic.{inl, inr}
 use mathlib.Core.Bool.{true}
@@ -17,30 +17,9 @@ use Rattle.automata.proofs.ProductStates.{vertices_decided}
 use Rattle.search_rows.proofs.SearchFacts.{noted_longer}
 use Rattle.product_search.specs.declared.plan.Plan.{Plan}
 use Rattle.product_search.specs.declared.head.Head.{Head}
-use Rattle.product_search.specs.Searching.{VertexSearch, Step, Exceeds, Comes, Notes, Ready, Grows}
+use Rattle.product_search.specs.Searching.{VertexSearch, Step, Exceeds, Comes, Notes}
 
 -- ---- the bounds
-
--- the search may go on, with fewer moves left
-pub ready_on : (p : Plan) (n m k : ℕ) (h r : Head) (v w : List ℕ) → Ready p h k (length v) → Grows p n h v r w → n + m ≤ k → Ready p r m (length w)
-ready_on p n m k h r v w a b l = record {
-  vertices_fit = a.vertices_fit;
-  moves_fit = omega (arith, a.moves_fit, b.same_length);
-  few_states = a.few_states;
-  fits = b.fits;
-  taken_fits = omega (arith, a.taken_fits, b.taken, b.grown);
-  few = omega (arith, a.few, b.few, l);
-}
-
-pub ready_less : (p : Plan) (m k : ℕ) (h : Head) (size : ℕ) → Ready p h k size → m ≤ k → Ready p h m size
-ready_less p m k h size a l = record {
-  vertices_fit = a.vertices_fit;
-  moves_fit = a.moves_fit;
-  few_states = a.few_states;
-  fits = a.fits;
-  taken_fits = a.taken_fits;
-  few = omega (arith, a.few, l);
-}
 
 -- ---- the steps
 

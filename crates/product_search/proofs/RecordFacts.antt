@@ -11,7 +11,7 @@ use Rattle.table.proofs.EndianFacts.{le-to_le}
 use Rattle.search_rows.proofs.KeptFacts.{part-start}
 use Rattle.product_search.specs.declared.vertex.Vertex.{Vertex}
 use Rattle.product_search.specs.declared.vertex.Move.{Move}
-use Rattle.product_search.specs.Vertices.{vertex_bytes, vertex_at}
+use Rattle.product_search.specs.Vertices.{vertex_bytes}
 use Rattle.product_search.specs.Moves.{move_bytes, move_at}
 use Rattle.automata.specs.Layout.{step_size}
 
@@ -21,10 +21,6 @@ use Rattle.automata.specs.Layout.{step_size}
 pub length_vertex : (v : Vertex) → length (vertex_bytes v) ≡ 4
 unfolding vertex_bytes
 length_vertex v = refl
-
--- a state, from its numbers
-pub vertex_read : (at : ℕ) (w : List ℕ) (x y : ℕ) → x ≡ le (part at 2 w) → y ≡ le (part (at + 2) 2 w) → ◌≡◌ {A = Vertex} (record { first = record { 0 = x }; second = record { 0 = y } }) (vertex_at at w)
-vertex_read at w x y a b = λ i. record { first = record { 0 = a i }; second = record { 0 = b i } }
 
 -- ---- a move
 
@@ -44,11 +40,6 @@ move_stored at m w w1 w2 w3 w4 h a b c d =
     splice-behind at (at + 6) ((x ++ y) ++ z) (to_le 2 m.to.0) w w3 w4
     (splice-behind at (at + 4) (x ++ y) z w w2 w3
     (splice-behind at (at + 2) x y w w1 w2 a b (omega arith) (omega arith)) c (omega arith) (omega arith)) d (omega arith) (omega arith)
-
--- a move, from its numbers
-pub move_read : (at : ℕ) (w : List ℕ) (s i j t : ℕ) → s ≡ le (part at 2 w) → i ≡ le (part (at + 2) 2 w) → j ≡ le (part (at + 4) 2 w) → t ≡ le (part (at + 6) 2 w)
-    → ◌≡◌ {A = Move} (record { from = record { 0 = s }; first = i; second = j; to = record { 0 = t } }) (move_at at w)
-move_read at w s i j t a b c d = λ k. record { from = record { 0 = a k }; first = b k; second = c k; to = record { 0 = d k } }
 
 -- the numbers of a move fit into two bytes each
 pub record Fits (m : Move) : Type 0 where

@@ -22,7 +22,7 @@ use Rattle.table_adjacency.proofs.ChainFacts.{first_for_lem, next_for}
 use Rattle.product_search.specs.Reading.{ArcsLent, LinkedArcs, chained_arcs, chained_only}
 use Rattle.product_search.specs.Searching.{progress, Notes, Ready, Grows, Arrives, out_by, on_second, BySecond, TriesSecond, PassesSecond}
 use Rattle.search_rows.proofs.ProgressFacts.{grows_none, grows_then, grows_wider}
-use Rattle.product_search.proofs.NoteFacts.{ready_on, notes_none, notes_same}
+use Rattle.product_search.proofs.NoteFacts.{notes_none, notes_same}
 use Rattle.product_search.proofs.ReadFacts.{source_at_lem, target_at_lem, out_one, out_away, out-all, at_source, turn_start, turn_more, turn_pass, turn_full, turn_all}
 
 -- ---- one arc
@@ -113,20 +113,10 @@ module _ (p : Plan) (h : Head) (c : Vertex) (i to : ℕ) (arcs first next : List
       (subst (FirstIn arcs next c.second.0 p.second.arcs 0) (sym e) (first_for_lem p.second.states p.second.arcs arcs first next linked c.second.0))
 
   module _ (g : Head) (w : List ℕ) (j : ℕ) (t : PassingSecond p h c i to arcs next v g w j) where
-    pub second_requires : j < p.second.arcs → (Ready p g 1 (length w)) × (g.full ≡ false) × (ArcsLent p.second arcs) × (j < p.second.arcs)
-    second_requires b = (ready_on p j 1 8192 h g v w q t.turned.grows (omega (arith, b, lent.few)), t.turned.opened, lent, b)
-
     module _ (b : j < p.second.arcs) where
       -- the next arc of the chain
       following : FirstIn arcs next c.second.0 p.second.arcs (j + 1) (get_or next j 0)
       following = next_for p.second.states p.second.arcs arcs first next linked c.second.0 j b (t.leaves b)
-
-      -- stands behind, and has a small number
-      pub second_goes : j < get_or next j 0
-      second_goes = let f = following.behind in omega (arith, f)
-
-      pub second_bound : get_or next j 0 ≤ 8192
-      second_bound = let f = following.within in omega (arith, f, lent.few)
 
       module _ (r : Head) (u : List ℕ) (z : TriesSecond p g c i to arcs j w r u) where
         next_grows : Grows p (j + 1) h v r u

@@ -35,9 +35,6 @@ use Rattle.product_search.proofs.ReadFacts.{initial_absent, initial_present}
 
 -- ---- states entered one after the other, and the bounds
 
-pub open_on : (p : Plan) (h r : Head) (v w : List ℕ) → Open p h (length v) → Widens p h v r w → Open p r (length w)
-open_on p h r v w a b = record { vertices_fit = a.vertices_fit; moves_fit = omega (arith, a.moves_fit, b.same_length); few_states = a.few_states; fits = b.fits }
-
 module _ (p : Plan) (A B : Automaton ℕ) where
   pub enters_none : (h : Head) (v : List ℕ) → Enters p A B [] h v h v
   enters_none h v s m = m
@@ -179,9 +176,6 @@ module _ (p : Plan) (h : Head) (x : ℕ) (states : List ℕ) (v : List ℕ) (k :
   all_start f = record { within = omega arith; opened = f; widens = widens_none p.states (progress h) v k.fits; meaning = λ A B la b l. enters_none p A B h v }
 
   module _ (g : Head) (w : List ℕ) (q : ℕ) (t : StartingAll p h x states v g w q) where
-    pub all_requires : q < p.second.states → (Open p g (length w)) × (g.full ≡ false) × (StatesLent p.second states) × (q < p.second.states)
-    all_requires b = (open_on p h g v w k t.widens, t.opened, lent, b)
-
     module _ (b : q < p.second.states) (r : Head) (u : List ℕ) (z : StartsOne p g x states q w r u) where
       next_widens : Widens p h v r u
       next_widens = widens_then p.states (progress h) (progress g) (progress r) v w u t.widens z.widens

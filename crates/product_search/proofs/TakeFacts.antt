@@ -22,17 +22,14 @@ use Rattle.product_search.specs.declared.vertex.Vertex.{Vertex}
 use Rattle.product_search.specs.declared.plan.Plan.{Plan}
 use Rattle.product_search.specs.declared.head.Head.{Head}
 use Rattle.product_search.specs.Vertices.{vertex_at, vertex_of, VertexBelow}
-use Rattle.product_search.specs.Reading.{StatesLent, ArcsLent, LinkedArcs, chained_only}
+use Rattle.product_search.specs.Reading.{chained_only}
 use Rattle.product_search.specs.Searching.{progress, VertexSearch, Step, Comes, Ready, Grows, PassesBoth, EndsFirst, EndsSecond, Tables, Indexed, Reads, chained_out, CountsMoves, TakesUp}
 use Rattle.search_rows.proofs.ProgressFacts.{grows_then}
-use Rattle.product_search.proofs.NoteFacts.{ready_less, ready_on, notes_then}
+use Rattle.product_search.proofs.NoteFacts.{notes_then}
 use Rattle.product_search.proofs.FormFacts.{loaded}
 
 module _ (p : Plan) (h : Head) (s1 a1 f1 n1 s2 a2 f2 n2 : List ℕ) (v : List ℕ) (q : Ready p h 67125248 (length v)) (opened : h.full ≡ false) (tables : Tables p s1 a1 s2 a2)
     (indexed : Indexed p a1 f1 n1 a2 f2 n2) where
-  pub take_both : (Ready p h 67108864 (length v)) × (h.full ≡ false) × (ArcsLent p.first a1) × (ArcsLent p.second a2) × (Indexed p a1 f1 n1 a2 f2 n2)
-  take_both = (ready_less p 67108864 67125248 h (length v) q (omega arith), opened, tables.first_arcs, tables.second_arcs, indexed)
-
   module _ (c : Vertex) (c-is : c ≡ vertex_at (vertex_size * h.taken) v) where
     -- the state that was read is the one that is taken up
     vertex_is : (A B : Automaton ℕ) (s : VertexSearch) (b : automata.Vertex) → Reads p s1 a1 s2 a2 A B → Comes p A B h s v → get_elem? s.vertices h.taken ≡ some b
@@ -63,15 +60,9 @@ module _ (p : Plan) (h : Head) (s1 a1 f1 n1 s2 a2 f2 n2 : List ℕ) (v : List �
     }
 
   module _ (c : Vertex) (c-is : c ≡ vertex_at (vertex_size * h.taken) v) (h1 : Head) (w1 : List ℕ) (z1 : PassesBoth p h c a1 n1 a2 n2 v h1 w1) where
-    pub take_first : (Ready p h1 8192 (length w1)) × (StatesLent p.first s1) × (ArcsLent p.second a2) × (LinkedArcs p.second a2 f2 n2)
-    take_first = (ready_on p 67108864 8192 67125248 h h1 v w1 q z1.grows (omega arith), tables.first_states, tables.second_arcs, indexed.second)
-
     module _ (h2 : Head) (w2 : List ℕ) (z2 : EndsFirst p h1 c s1 a2 n2 w1 h2 w2) where
       both_grow : Grows p 67117056 h v h2 w2
       both_grow = grows_then p.states 67108864 8192 67117056 (progress h) (progress h1) (progress h2) v w1 w2 z1.grows z2.grows (omega arith)
-
-      pub take_second : (Ready p h2 8192 (length w2)) × (ArcsLent p.first a1) × (StatesLent p.second s2) × (LinkedArcs p.first a1 f1 n1)
-      take_second = (ready_on p 67117056 8192 67125248 h h2 v w2 q both_grow (omega arith), tables.first_arcs, tables.second_states, indexed.first)
 
       module _ (h3 : Head) (w3 : List ℕ) (z3 : EndsSecond p h2 c a1 n1 s2 w2 h3 w3) where
         all_grow : Grows p 67125248 h v h3 w3
@@ -92,10 +83,6 @@ module _ (p : Plan) (h : Head) (s1 a1 f1 n1 s2 a2 f2 n2 : List ℕ) (v : List �
             notes_then p A B b ps (fs ++ ss) h h1 h3 v w1 w3 z1.grows.taken (z1.meaning A B b k.first_arcs k.second_arcs is)
             (notes_then p A B b fs ss h1 h2 h3 w1 w2 w3 z2.grows.taken (z2.meaning A B b k.first_states k.second_arcs is below)
             (z3.meaning A B b k.first_arcs k.second_states is below)) s m e
-
-        -- its number is small
-        pub take_small : h3.taken < 1024
-        take_small = omega (arith, all_grow.taken, q.taken_fits, q.fits, q.few_states)
 
         -- the states are full
         pub take_full : h3.full ≡ true → TakesUp p h s1 a1 n1 s2 a2 n2 v h3 w3

@@ -7,7 +7,7 @@ use Rattle.automata.specs.Layout.{vertex_size}
 use Rattle.table.specs.Region.{part}
 use Rattle.table.specs.Endian.{le, to_le}
 use Rattle.search_rows.specs.declared.Entered.{Entered}
-use Rattle.search_rows.specs.declared.Found.{Found}
+use Rattle.search_rows.specs.Find.{Found}
 use Rattle.search_chains.specs.Chain.{fronts, Chained, Finds, Enters}
 use Rattle.search_chains.specs.Hash.{bucket_of}
 use Rattle.search_chains.specs.declared.Shape.{Shape}

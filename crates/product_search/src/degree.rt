@@ -17,8 +17,7 @@ fn degree(counts: Counts, heads: &[u16], links: &[u16], x: InputState) -> usize
     ensures { Leaves counts heads.now links.now x.0 result }
 {
     let mut count: usize = 0;
-    let place = x.0;
-    let mut j = first_arc(counts, heads, place);
+    let mut j = first_arc(counts, heads, x.0);
     while j < counts.arcs {
         count += 1;
         j = links[j] as usize;
@@ -30,10 +29,7 @@ fn degree(counts: Counts, heads: &[u16], links: &[u16], x: InputState) -> usize
 fn only_if(holds: bool, n: usize) -> usize
     ensures { (result ≡ if holds n 0) × (result ≤ n) }
 {
-    if holds {
-        return n;
-    }
-    0
+    if holds { n } else { 0 }
 }
 
 // How many moves lead out of the state `c` by the arcs in chains: of both sides, and of each after the other's end.

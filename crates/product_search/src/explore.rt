@@ -23,16 +23,11 @@ impl Head {
         ensures { Admits plan self d work.old result work.new }
     {
         match enter_vertex(work, self.reached, plan.states, d) {
-            Entered::At(_) => self,
-            Entered::New(_) => {
-                self.reached += 1;
-                self
-            }
-            Entered::Full => {
-                self.full = true;
-                self
-            }
+            Entered::At(_) => (),
+            Entered::New(_) => self.reached += 1,
+            Entered::Full => self.full = true,
         }
+        self
     }
 
     // The state with number `q` of the second side, with the state `x` of the first.
@@ -57,14 +52,11 @@ impl Head {
             × (StatesLent plan.second states.now) }
         ensures { StartsAll plan self x.0 states.now work.old result work.new }
     {
-        let counts = plan.second;
-        let mut q: usize = 0;
-        while q < counts.states {
+        for q in 0..plan.second.states {
             self = self.start_one(plan, x, states, q, work);
             if self.full {
                 return self;
             }
-            q += 1;
         }
         self
     }
@@ -97,20 +89,17 @@ fn begin(plan: Plan, first_states: &[u8], second_states: &[u8], work: &mut [u8])
     ensures { Begun plan first_states.now second_states.now work.old result
         work.new }
 {
-    let counts = plan.first;
     let mut head = Head {
         taken: 0,
         reached: 0,
         arcs: 0,
         full: false,
     };
-    let mut q: usize = 0;
-    while q < counts.states {
+    for q in 0..plan.first.states {
         head = head.start_both(plan, first_states, q, second_states, work);
         if head.full {
             return head;
         }
-        q += 1;
     }
     head
 }
@@ -202,15 +191,10 @@ fn search(
 fn states_only(plan: Plan) -> Plan
     ensures { result ≡ states_only plan }
 {
-    let first = plan.first;
-    let second = plan.second;
     Plan {
-        first,
-        second,
-        states: plan.states,
         arcs: 0,
-        base: plan.base,
         limit: 1000000000000,
+        ..plan
     }
 }
 
@@ -239,10 +223,8 @@ fn recount(
     let mut links = [0u16; 8192];
     let mut heads2 = [0u16; 1024];
     let mut links2 = [0u16; 8192];
-    let first = plan.first;
-    let second = plan.second;
     link_distinct(
-        first,
+        plan.first,
         first_arcs,
         first_heads,
         first_links,
@@ -250,16 +232,15 @@ fn recount(
         &mut links,
     );
     link_distinct(
-        second,
+        plan.second,
         second_arcs,
         second_heads,
         second_links,
         &mut heads2,
         &mut links2,
     );
-    let states = states_only(plan);
     let mut head = search(
-        states,
+        states_only(plan),
         first_states,
         first_arcs,
         &heads,

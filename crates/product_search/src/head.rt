@@ -18,7 +18,8 @@ use table::record::InputState;
 use table_adjacency::first_arc;
 
 // How many states were taken up and how many reached, how many arcs there are between them, and whether the search was
-// given up: there were more states than there is room for, or more arcs than are looked for.
+// given up: there were more states than there is room for, or more arcs than are looked for. That is a flag and no
+// `Result`, since the counts are read where it is given up too (`explore_chained`, `product::finish::answer_search`).
 #[derive(Clone, Copy)]
 pub struct Head {
     pub taken: usize,
@@ -33,13 +34,7 @@ pub fn may_end(counts: Counts, states: &[u8], x: InputState) -> bool
     ensures { TellsEnd counts states.now x.0 result }
 {
     let q = x.0 as usize;
-    if counts.states <= q {
-        return true;
-    }
-    if states[STATE_SIZE * q + FINAL_PLACE] == ABSENT {
-        return false;
-    }
-    true
+    counts.states <= q || states[STATE_SIZE * q + FINAL_PLACE] != ABSENT
 }
 
 impl Head {
@@ -51,11 +46,11 @@ impl Head {
     {
         if plan.states < reached {
             self.full = true;
-            return self;
+        } else {
+            self.reached = reached;
+            self.arcs += 1;
+            self.full = plan.limit < self.arcs;
         }
-        self.reached = reached;
-        self.arcs += 1;
-        self.full = plan.limit < self.arcs;
         self
     }
 
@@ -120,7 +115,9 @@ impl Head {
         self.moved(plan, reached)
     }
 
-    // The second side's arcs in the chain of its place, with that move of the first side.
+    // The second side's arcs in the chain of its place, with that move of the first side. `pass_first` and `pass_both`
+    // go along a chain in the same way, with other arguments and promises for each arc: one function of all three would
+    // take the step, its asking and its promise as arguments, and be no plainer.
     fn pass_second(
         mut self,
         plan: Plan,
@@ -137,9 +134,8 @@ impl Head {
         ensures { PassesSecond plan self c i to.0 arcs.now links.now
             work.old result work.new }
     {
-        let counts = plan.second;
-        let mut j = first_arc(counts, heads, c.second.0);
-        while j < counts.arcs {
+        let mut j = first_arc(plan.second, heads, c.second.0);
+        while j < plan.second.arcs {
             self = self.try_second(plan, c, i, to, arcs, j, work);
             if self.full {
                 return self;
@@ -183,9 +179,8 @@ impl Head {
         ensures { PassesFirst plan self c arcs.now links.now work.old result
             work.new }
     {
-        let counts = plan.first;
-        let mut i = first_arc(counts, heads, c.first.0);
-        while i < counts.arcs {
+        let mut i = first_arc(plan.first, heads, c.first.0);
+        while i < plan.first.arcs {
             self = self.try_first(plan, c, arcs, i, work);
             if self.full {
                 return self;
@@ -251,9 +246,8 @@ impl Head {
         ensures { PassesBoth plan self c first_arcs.now first_links.now
             second_arcs.now second_links.now work.old result work.new }
     {
-        let counts = plan.first;
-        let mut i = first_arc(counts, first_heads, c.first.0);
-        while i < counts.arcs {
+        let mut i = first_arc(plan.first, first_heads, c.first.0);
+        while i < plan.first.arcs {
             self = self.try_both(
                 plan,
                 c,
@@ -289,10 +283,7 @@ impl Head {
         ensures { EndsFirst plan self c first_states.now second_arcs.now
             second_links.now work.old result work.new }
     {
-        if self.full {
-            return self;
-        }
-        if !may_end(plan.first, first_states, c.first) {
+        if self.full || !may_end(plan.first, first_states, c.first) {
             return self;
         }
         self.pass_second(
@@ -324,10 +315,7 @@ impl Head {
         ensures { EndsSecond plan self c first_arcs.now first_links.now
             second_states.now work.old result work.new }
     {
-        if self.full {
-            return self;
-        }
-        if !may_end(plan.second, second_states, c.second) {
+        if self.full || !may_end(plan.second, second_states, c.second) {
             return self;
         }
         self.pass_first(plan, c, first_arcs, first_heads, first_links, work)

@@ -3,14 +3,13 @@ ghost use Rattle.std.specs.Prelude.{◌≡◌, ◌+◌, ◌*◌, ◌≤◌, ◌<
 ghost use Rattle.table.specs.Region.{splice};
 ghost use Rattle.table.specs.Endian.{to_le};
 ghost use Rattle.search_rows.specs.Kept.{stored_within};
-ghost use Rattle.search_chains.specs.Chain.{appended};
 ghost use Rattle.product_search.specs.Vertices.{vertex_bytes, vertex_at, FindsVertex, EntersVertex};
 ghost use Rattle.product_search.specs.Moves.{move_bytes, move_at};
 ghost use Rattle.automata.specs.Layout.{step_size, vertex_size};
 
-use search_chains::{bucket_of, link_below};
-use search_rows::{Entered, Found, Reached, store_within};
-use table::bytes::{get16, get32, put16, put32};
+use search_chains::{append, bucket_of, link_below};
+use search_rows::{Entered, Reached, store_within};
+use table::bytes::{get16, get32, put16};
 use table::layout::VERTEX_SIZE;
 use table::record::InputState;
 
@@ -41,34 +40,22 @@ pub fn load_vertex(work: &[u8], at: usize) -> Vertex
     requires { at + 4 ≤ length work.now }
     ensures { result ≡ vertex_at at work.now }
 {
-    let first = InputState(get16(work, at));
-    let second = InputState(get16(work, at + 2));
-    Vertex { first, second }
-}
-
-// A number of 32 bits as a wider one.
-fn wide(n: u32) -> u64
-    ensures { (result ≡ n) × (result < 4294967296) }
-{
-    n as u64
-}
-
-// A number of 16 bits as a wider one.
-fn wide16(n: u16) -> u32
-    ensures { (result ≡ n) × (result < 65536) }
-{
-    n as u32
+    Vertex {
+        first: InputState(get16(work, at)),
+        second: InputState(get16(work, at + 2)),
+    }
 }
 
 // The number whose four bytes are those of a state of the product.
 fn key_of(v: Vertex) -> u32
     ensures { to_le 4 result ≡ vertex_bytes v }
 {
-    wide16(v.first.0) + 65536 * wide16(v.second.0)
+    u32::from(v.first.0) + 65536 * u32::from(v.second.0)
 }
 
-// Which of the `count` states has these four bytes as a number, by the chain of its bucket.
-fn find_vertex(work: &[u8], count: u16, bucket: usize, key: u32) -> Found
+// Which of the `count` states has these four bytes as a number, by the chain of its bucket. `search_chains::find` would
+// tell the same byte by byte; one comparison of numbers is quicker (docs/DECISIONS.md, F15).
+fn find_vertex(work: &[u8], count: u16, bucket: usize, key: u32) -> Option<Reached>
     requires { (count * vertex_size ≤ length work.now) × (bucket * vertex_size + vertex_size ≤ length work.now) }
     ensures { FindsVertex count bucket key work.now result }
 {
@@ -77,25 +64,11 @@ fn find_vertex(work: &[u8], count: u16, bucket: usize, key: u32) -> Found
         let candidate = link - 1;
         let at = candidate as usize * VERTEX_SIZE;
         if get32(work, at) == key {
-            return Found::At(Reached(candidate));
+            return Some(Reached(candidate));
         }
         link = link_below(work, at + 6, candidate);
     }
-    Found::Nothing
-}
-
-// A state by its four bytes as a number, in the row behind the last, and at the head of its chain.
-fn append_vertex(work: &mut [u8], count: u16, bucket: usize, key: u32)
-    requires { (count * vertex_size + vertex_size ≤ length work.old)
-        × (bucket * vertex_size + vertex_size ≤ length work.old) × (count < 65535) }
-    ensures { work.new ≡ appended vertex_size count bucket (to_le 4 key) work.old }
-{
-    let at = count as usize * VERTEX_SIZE;
-    let head = bucket * VERTEX_SIZE + 4;
-    let link = get16(work, head);
-    put32(work, at, key);
-    put16(work, at + 6, link);
-    put16(work, head, count + 1);
+    None
 }
 
 // The number of a state of the product among those reached, entered behind them if it is not there.
@@ -108,14 +81,12 @@ pub fn enter_vertex(work: &mut [u8], reached: usize, room: usize, v: Vertex) -> 
     }
     let count = reached as u16;
     let key = key_of(v);
-    let bucket = bucket_of(wide(key), room);
+    let bucket = bucket_of(u64::from(key), room);
     match find_vertex(work, count, bucket, key) {
-        Found::At(state) => Entered::At(state),
-        Found::Nothing => {
-            if room <= reached {
-                return Entered::Full;
-            }
-            append_vertex(work, count, bucket, key);
+        Some(state) => Entered::At(state),
+        None if room <= reached => Entered::Full,
+        None => {
+            append(work, VERTEX_SIZE, count, bucket, &key.to_le_bytes());
             Entered::New(Reached(count))
         }
     }
@@ -137,15 +108,11 @@ pub fn load_move(work: &[u8], at: usize) -> Move
     requires { at + 8 ≤ length work.now }
     ensures { result ≡ move_at at work.now }
 {
-    let from = get16(work, at);
-    let first = get16(work, at + 2);
-    let second = get16(work, at + 4);
-    let to = get16(work, at + 6);
     Move {
-        from: Reached(from),
-        first,
-        second,
-        to: Reached(to),
+        from: Reached(get16(work, at)),
+        first: get16(work, at + 2),
+        second: get16(work, at + 4),
+        to: Reached(get16(work, at + 6)),
     }
 }
 

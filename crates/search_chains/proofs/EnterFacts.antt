@@ -3,7 +3,7 @@ use Prim.Native.Nat.{ℕ, zero, suc, ◌+◌, ◌*◌, ◌≤◌, ◌<◌}
 use mathlib.Core.Path.{◌≡◌, refl, sym, ap, ap₂, ◌∙◌, subst}
 use mathlib.Core.List.{List, [], ◌∷◌, ◌++◌}
 use native.Mathlib.Omega.{arith}
-use native.Mathlib.Nat.{zero-add, suc-mul}
+use native.Mathlib.Nat.{zero-add}
 use lib.ListN.{length}
 use borrow.Author.Tests.{le-leb, lt-leb}
 use Rattle.table.specs.Region.{part}
@@ -11,9 +11,8 @@ use Rattle.search_rows.specs.declared.Reached.{Reached}
 use Rattle.table.proofs.RowFacts.{mul_step}
 use Rattle.search_rows.specs.declared.Entered.{Entered}
 use Rattle.search_rows.specs.declared.Entered.TheVariants as E
-use Rattle.search_rows.specs.declared.Found.{Found}
-use Rattle.search_rows.specs.declared.Found.TheVariants.{At, Nothing}
-use Rattle.search_rows.specs.Find.{index_from}
+use Rattle.std.specs.Prelude.{Some, None}
+use Rattle.search_rows.specs.Find.{Found, index_from}
 use Rattle.search_chains.specs.declared.Shape.{Shape}
 use Rattle.search_chains.specs.Chain.{fronts, record_at, appended, Chained, Searchable, Finds, enter_of, Enters}
 use Rattle.search_chains.proofs.FrontFacts.{length_fronts, get_d_fronts, fronts_same, fronts_snoc, index_absent}
@@ -37,25 +36,12 @@ pub entered_row : (hash : List ℕ → ℕ) (stride count room bucket : ℕ) (sh
 entered_row hash stride count room bucket shape row w xs ys r e b t =
     subst (λ (z : List ℕ). Enters stride count room (hash z) shape z xs r ys) e (subst (λ (k : ℕ). Enters stride count room k shape row xs r ys) b t)
 
--- what the search asks
-pub find_fits : (stride count room bucket n : ℕ) → room * stride ≤ n → count ≤ room → bucket < room → (count * stride ≤ n) × (bucket * stride + stride ≤ n)
-find_fits stride count room bucket n h c b =
-    let m = mul_step bucket room stride b in
-    (rows_fit, omega (arith, m))
-  where
-    rows_fit : count * stride ≤ n
-    rows_fit = go count c
-      where
-        go : (k : ℕ) → k ≤ room → k * stride ≤ n
-        go zero l = omega arith
-        go (suc k) l = let m = mul_step k room stride (omega arith) in let e : suc k * stride ≡ k * stride + stride = rw suc-mul in omega (arith, m, e)
-
 module _ (stride count room bucket : ℕ) (shape : Shape) (w xs : List ℕ) (f : Found) (g : Finds stride count bucket shape w xs f) (b : bucket < room) (c : count ≤ room) where
   abbrev records : List (List ℕ)
   records = fronts 0 stride (length w) count xs
 
   -- it stood there
-  pub enters_at : (s : Reached) → f ≡ At s → Enters stride count room bucket shape w xs (E.At s) xs
+  pub enters_at : (s : Reached) → f ≡ Some s → Enters stride count room bucket shape w xs (E.At s) xs
   unfolding enter_of
   enters_at s e = record {
     fits = c;
@@ -66,7 +52,7 @@ module _ (stride count room bucket : ℕ) (shape : Shape) (w xs : List ℕ) (f :
   }
 
   -- there is no room
-  pub enters_full : f ≡ Nothing → room ≤ count → Enters stride count room bucket shape w xs E.Full xs
+  pub enters_full : f ≡ None → room ≤ count → Enters stride count room bucket shape w xs E.Full xs
   unfolding enter_of
   enters_full e h = record {
     fits = c;
@@ -77,7 +63,7 @@ module _ (stride count room bucket : ℕ) (shape : Shape) (w xs : List ℕ) (f :
   }
 
   -- it is appended
-  pub enters_new : f ≡ Nothing → count < room → count < 65535 → room * stride ≤ length xs → length w + 4 ≤ stride → (ys : List ℕ)
+  pub enters_new : f ≡ None → count < room → count < 65535 → room * stride ≤ length xs → length w + 4 ≤ stride → (ys : List ℕ)
       → ys ≡ appended stride count bucket w xs → Enters stride count room bucket shape w xs (E.New (record { 0 = count })) ys
   unfolding enter_of
   enters_new e h few l wide ys q =

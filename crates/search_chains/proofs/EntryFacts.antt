@@ -12,7 +12,7 @@ use Rattle.table.specs.Endian.{le, to_le}
 use Rattle.table.proofs.RegionFacts.{length_splice, part-splice_same, part-splice_after}
 use Rattle.table.proofs.EndianFacts.{length_to_le, le-splice}
 use Rattle.table.proofs.RowFacts.{mul_step}
-use Rattle.search_chains.specs.Chain.{record_at, head_at, next_at, appended, Leads, Chained, Clears}
+use Rattle.search_chains.specs.Chain.{record_at, head_at, next_at, appended, Leads, Chained}
 use Rattle.search_chains.proofs.RowFacts.{row_kept, front_kept, back_kept}
 
 -- ---- a record appended
@@ -245,18 +245,7 @@ pub record Clearing (stride size room : ℕ) (xs ys : List ℕ) (b : ℕ) : Type
   pub kept : (a n : ℕ) → room * stride ≤ a → part a n ys ≡ part a n xs
   pub empty : (k : ℕ) → k < b → head_at stride size k ys ≡ 0
 
-pub clear_start : (stride size room : ℕ) (xs : List ℕ) → Clearing stride size room xs xs 0
-clear_start stride size room xs = record {
-  within = omega arith;
-  same_length = refl;
-  kept = λ a n h. refl;
-  empty = λ k h. absurd (omega arith);
-}
-
 module _ (stride size room : ℕ) (xs ys : List ℕ) (b : ℕ) (c : Clearing stride size room xs ys b) (wide : size + 4 ≤ stride) (fits : room * stride ≤ length xs) where
-  pub clear_fits : b < room → b * stride + size + 2 ≤ length ys
-  clear_fits h = let m = mul_step b room stride h in omega (arith, m, c.same_length)
-
   pub clear_next : b < room → (zs : List ℕ) → zs ≡ splice (b * stride + size) (to_le 2 0) ys → Clearing stride size room xs zs (b + 1)
   clear_next h zs e =
       let m = mul_step b room stride h in
@@ -275,10 +264,3 @@ module _ (stride size room : ℕ) (xs ys : List ℕ) (b : ℕ) (c : Clearing str
           ∙ le-splice 2 0 (b * stride + size) ys (omega arith) (omega (arith, m, c.same_length))
       go k i (no d) m l =
           ap le (row_kept stride k size 2 b size (to_le 2 0) ys (omega arith) (omega (arith, l)) (omega (arith, m, l, c.same_length)) d) ∙ c.empty k (omega arith)
-
-  pub clear_end : room ≤ b → Clears stride size room xs ys
-  clear_end h = record {
-    same_length = c.same_length;
-    kept = c.kept;
-    chained = λ hash. chained_none hash stride size room ys (λ k l. c.empty k (omega arith));
-  }

@@ -1,17 +1,16 @@
 -- The search along a chain: what a link that is followed passes, and what the search tells at its end.
 use Prim.Native.Nat.{ℕ, suc, ◌+◌, ◌*◌, ◌≤◌, ◌<◌}
-use mathlib.Core.Path.{◌≡◌, sym, ap, ◌∙◌, subst}
+use mathlib.Core.Path.{◌≡◌, sym, ap, ◌∙◌}
 use mathlib.Core.List.{List, []}
 use native.Mathlib.Decide.{dec_lt, ℕ_discrete}
 use native.Mathlib.Omega.{arith}
 use native.Mathlib.Nat.{zero-add}
 use lib.ListN.{length, get_or}
 use lib.Seq.{ext_get_or}
-use borrow.Author.Tests.{le-leb, lt-leb}
+use borrow.Author.Tests.{le-leb}
 use Rattle.table.specs.Region.{part}
 use Rattle.table.proofs.RegionFacts.{length_part, get_d_part}
-use Rattle.table.proofs.RowFacts.{mul_step}
-use Rattle.search_rows.specs.declared.Found.TheVariants.{At, Nothing}
+use Rattle.std.specs.Prelude.{Some, None}
 use Rattle.search_chains.specs.declared.Shape.{Shape}
 use Rattle.search_chains.specs.Parts.{part_start, part_size, Agrees}
 use Rattle.search_chains.specs.Chain.{fronts, record_at, head_at, next_at, link_below, Leads, Searchable, Finds}
@@ -19,18 +18,9 @@ use Rattle.search_chains.proofs.FrontFacts.{length_fronts, get_d_fronts, index_n
 
 -- ---- links
 
--- a link past the bound is not followed
-pub link_past : (bound l : ℕ) → bound < l → 0 ≡ link_below bound l
-link_past bound l h = rw (lt-leb l bound h)
-
+-- a link within the bound is followed
 pub link_kept : (bound l : ℕ) → l ≤ bound → l ≡ link_below bound l
 link_kept bound l h = rw (le-leb l bound h)
-
--- ---- places
-
--- a record and its links are within the bytes
-pub row_within : (k n stride size : ℕ) → k < n → n * stride ≤ size → k * stride + stride ≤ size
-row_within k n stride size h l = let m = mul_step k n stride h in omega (arith, m)
 
 -- ---- two records
 
@@ -85,7 +75,7 @@ module _ (stride count bucket : ℕ) (shape : Shape) (w xs : List ℕ) where
       go j a b z (no d) (no t) q h g o = o.passed j (omega arith) b z
 
   -- the chain has ended
-  pub finds_nothing : (l : ℕ) → l ≡ 0 → Passes stride count bucket shape w xs l → Finds stride count bucket shape w xs Nothing
+  pub finds_nothing : (l : ℕ) → l ≡ 0 → Passes stride count bucket shape w xs l → Finds stride count bucket shape w xs None
   finds_nothing l e p hash room below s =
       let o = p hash room below s in
       sym (index_none 0 w (fronts 0 stride (length w) count xs) (λ j h f.
@@ -93,37 +83,20 @@ module _ (stride count bucket : ℕ) (shape : Shape) (w xs : List ℕ) where
       o.passed j (omega arith) b (at_front j b ∙ f)))
 
   -- the record is found
-  pub finds_record : (k : ℕ) → k < count → Agrees shape (k * stride) w xs → Finds stride count bucket shape w xs (At (record { 0 = k }))
+  pub finds_record : (k : ℕ) → k < count → Agrees shape (k * stride) w xs → Finds stride count bucket shape w xs (Some (record { 0 = k }))
   finds_record k h f hash room below s =
       let e : record_at stride (length w) k xs ≡ w = s.agreeing k h f in
       sym (index_only 0 w (fronts 0 stride (length w) count xs) k (omega (arith, h, length_fronts 0 stride (length w) count xs)) (sym (at_front k h) ∙ e)
       (λ j b q.
       let c : j < count = omega (arith, b, length_fronts 0 stride (length w) count xs) in
       s.chained.distinct j k c h (at_front j c ∙ q ∙ sym e))
-      ∙ ap (λ (m : ℕ). At (record { 0 = m })) (zero-add k))
+      ∙ ap (λ (m : ℕ). Some (record { 0 = m })) (zero-add k))
 
 -- ---- the parts one after the other
 
 -- the first p parts agree
 abbrev pub AgreesTo : Shape → ℕ → ℕ → List ℕ → List ℕ → Type 0
 AgreesTo s p a w xs = (q : ℕ) → q < p → (i : ℕ) → part_start s q ≤ i → i < part_start s q + part_size s q w → get_or xs (a + i) 0 ≡ get_or w i 0
-
--- one place more
-pub between_more : {P : ℕ → Type 0} (a i : ℕ) → ((k : ℕ) → a ≤ k → k < i → P k) → P i → (k : ℕ) → a ≤ k → k < i + 1 → P k
-between_more {P = P} a i f p k b l = go (ℕ_discrete k i)
-  where
-    go : Dec (k ≡ i) → P k
-    go (yes e) = subst P (sym e) p
-    go (no e) = f k b (omega arith)
-
--- one part more, whose bytes from `from` to `to` agree
-pub agrees-part : (s : Shape) (p a from to i : ℕ) (w xs : List ℕ) → AgreesTo s p a w xs → from ≡ part_start s p → to ≡ part_start s p + part_size s p w → to ≤ i
-    → ((k : ℕ) → from ≤ k → k < i → get_or xs (a + k) 0 ≡ get_or w k 0) → AgreesTo s (p + 1) a w xs
-agrees-part s p a from to i w xs t e g l f q h = go (ℕ_discrete q p)
-  where
-    go : Dec (q ≡ p) → (j : ℕ) → part_start s q ≤ j → j < part_start s q + part_size s q w → get_or xs (a + j) 0 ≡ get_or w j 0
-    go (yes z) j b c = f j (rw (e, ← z) b) (let d : j < part_start s p + part_size s p w = rw (← z) c in omega (arith, g, l, d))
-    go (no z) j b c = t q (omega arith) j b c
 
 -- where records that are as long as the first part agree, they are the same
 pub agrees_whole : (stride k : ℕ) (s : Shape) (w xs : List ℕ) → 0 < s.parts → length w ≡ s.head → k * stride + s.head ≤ length xs → Agrees s (k * stride) w xs

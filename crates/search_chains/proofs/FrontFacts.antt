@@ -10,7 +10,7 @@ use lib.ListN.{length, get_or}
 use Rattle.automata.specs.Lists.{if, same_list}
 use Rattle.automata.proofs.ListFacts.{numbers_decided, lists_decided}
 use Rattle.table.specs.Region.{part}
-use Rattle.search_rows.specs.declared.Found.TheVariants.{At, Nothing}
+use Rattle.std.specs.Prelude.{Some, None}
 use Rattle.search_rows.specs.Find.{index_from}
 use Rattle.search_chains.specs.Chain.{fronts}
 
@@ -59,18 +59,18 @@ same_complete : (w r : List ℕ) → r ≡ w → same_list w r ≡ true
 same_complete w r e = ap (same_list w) e ∙ (lists_decided eqb numbers_decided).complete w
 
 -- a record that stands nowhere
-pub index_none : (i : ℕ) (w : List ℕ) (rs : List (List ℕ)) → ((j : ℕ) → j < length rs → get_or rs j [] ≡ w → ⊥) → index_from i w rs ≡ Nothing
+pub index_none : (i : ℕ) (w : List ℕ) (rs : List (List ℕ)) → ((j : ℕ) → j < length rs → get_or rs j [] ≡ w → ⊥) → index_from i w rs ≡ None
 unfolding index_from
 index_none i w [] f = refl
 index_none i w (r ∷ rs) f = go (same_list w r) refl (index_none (i + 1) w rs (λ j h e. f (suc j) (omega arith) e))
   where
-    go : (b : Bool) → same_list w r ≡ b → index_from (i + 1) w rs ≡ Nothing → if b (At (record { 0 = i })) (index_from (i + 1) w rs) ≡ Nothing
+    go : (b : Bool) → same_list w r ≡ b → index_from (i + 1) w rs ≡ None → if b (Some (record { 0 = i })) (index_from (i + 1) w rs) ≡ None
     go true e ih = absurd (f zero (omega arith) (sym (same_sound w r e)))
     go false e ih = ih
 
 -- one that stands at place k alone
 pub index_only : (i : ℕ) (w : List ℕ) (rs : List (List ℕ)) (k : ℕ) → k < length rs → get_or rs k [] ≡ w
-    → ((j : ℕ) → j < length rs → get_or rs j [] ≡ w → j ≡ k) → index_from i w rs ≡ At (record { 0 = i + k })
+    → ((j : ℕ) → j < length rs → get_or rs j [] ≡ w → j ≡ k) → index_from i w rs ≡ Some (record { 0 = i + k })
 unfolding index_from
 index_only i w [] k h e f = absurd (omega arith)
 index_only i w (r ∷ rs) zero h e f =
@@ -79,18 +79,18 @@ index_only i w (r ∷ rs) zero h e f =
 index_only i w (r ∷ rs) (suc k) h e f =
     go (same_list w r) refl (index_only (i + 1) w rs k (omega arith) e (λ j l q. let z : suc j ≡ suc k = f (suc j) (omega arith) q in omega arith))
   where
-    go : (b : Bool) → same_list w r ≡ b → index_from (i + 1) w rs ≡ At (record { 0 = i + 1 + k }) → if b (At (record { 0 = i })) (index_from (i + 1) w rs) ≡ At (record { 0 = i + suc k })
+    go : (b : Bool) → same_list w r ≡ b → index_from (i + 1) w rs ≡ Some (record { 0 = i + 1 + k }) → if b (Some (record { 0 = i })) (index_from (i + 1) w rs) ≡ Some (record { 0 = i + suc k })
     go true t ih = let z : zero ≡ suc k = f zero (omega arith) (sym (same_sound w r t)) in absurd (omega arith)
-    go false t ih = let z : i + 1 + k ≡ i + suc k = omega arith in ih ∙ ap (λ (n : ℕ). At (record { 0 = n })) z
+    go false t ih = let z : i + 1 + k ≡ i + suc k = omega arith in ih ∙ ap (λ (n : ℕ). Some (record { 0 = n })) z
 
 -- where nothing is found, the record stands nowhere
-pub index_absent : (i : ℕ) (w : List ℕ) (rs : List (List ℕ)) → index_from i w rs ≡ Nothing → (j : ℕ) → j < length rs → get_or rs j [] ≡ w → ⊥
+pub index_absent : (i : ℕ) (w : List ℕ) (rs : List (List ℕ)) → index_from i w rs ≡ None → (j : ℕ) → j < length rs → get_or rs j [] ≡ w → ⊥
 unfolding index_from
 index_absent i w [] e j h q = omega arith
 index_absent i w (r ∷ rs) e j h q = go (same_list w r) refl e j h q (index_absent (i + 1) w rs)
   where
-    go : (b : Bool) → same_list w r ≡ b → if b (At (record { 0 = i })) (index_from (i + 1) w rs) ≡ Nothing → (j : ℕ) → j < suc (length rs) → get_or (r ∷ rs) j [] ≡ w
-        → (index_from (i + 1) w rs ≡ Nothing → (j : ℕ) → j < length rs → get_or rs j [] ≡ w → ⊥) → ⊥
+    go : (b : Bool) → same_list w r ≡ b → if b (Some (record { 0 = i })) (index_from (i + 1) w rs) ≡ None → (j : ℕ) → j < suc (length rs) → get_or (r ∷ rs) j [] ≡ w
+        → (index_from (i + 1) w rs ≡ None → (j : ℕ) → j < length rs → get_or rs j [] ≡ w → ⊥) → ⊥
     go true t f j h q ih = let z : ◌≡◌ {A = ℕ} 0 1 = cc in omega arith
     go false t f zero h q ih = let z : true ≡ false = sym (same_complete w r q) ∙ t in let y : ◌≡◌ {A = ℕ} 0 1 = cc in omega arith
     go false t f (suc j) h q ih = ih f j (omega arith) q

@@ -1,19 +1,11 @@
 -- The fold over the bytes of a record, one word after the other.
-use Prim.Native.Nat.{ℕ, zero, suc, ◌+◌, ◌-◌, ◌/◌, ◌%◌, ◌<◌}
+use Prim.Native.Nat.{ℕ, zero, suc, ◌+◌, ◌-◌, ◌<◌}
 use mathlib.Core.Path.{◌≡◌, refl, ap, ◌∙◌}
 use mathlib.Core.List.{List}
 use native.Mathlib.Omega.{arith}
 use Rattle.table.specs.Region.{part}
 use Rattle.table.specs.Endian.{le}
-use Rattle.search_chains.specs.Hash.{blended, mixed, hash_from}
-
--- both halves of a sum together stay within 33 bits
-pub fold_fits : (s : ℕ) → s < 6000000000000000000 → s % 4294967296 + s / 4294967296 < 8589934592
-fold_fits s h = omega arith
-
--- what a word is added to
-pub blend_fits : (h word : ℕ) → h < 8589934592 → word < 18446744073709551616 → blended h word < 6000000000000000000
-blend_fits h word b c = let q : word / 4294967296 < 4294967296 = omega arith in let r : word % 4294967296 < 4294967296 = omega arith in omega (arith, q, r, b)
+use Rattle.search_chains.specs.Hash.{mixed, hash_from}
 
 -- one word more
 pub hash_step : (n at h x : ℕ) (bs : List ℕ) → 0 < n → x ≡ le (part at 8 bs) → hash_from (n - 1) (at + 8) (mixed h x) bs ≡ hash_from n at h bs

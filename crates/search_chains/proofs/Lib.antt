@@ -2,7 +2,6 @@
 -- they mean.
 pub mod FrontFacts
 pub mod RowFacts
-pub mod PartFacts
 pub mod FindFacts
 pub mod EntryFacts
 pub mod EnterFacts

@@ -16,8 +16,8 @@ use Rattle.table.specs.Region.{part}
 use Rattle.search_rows.specs.declared.Reached.{Reached}
 use Rattle.search_rows.specs.declared.Entered.{Entered}
 use Rattle.search_rows.specs.declared.Entered.TheVariants as E
-use Rattle.search_rows.specs.declared.Found.{Found}
-use Rattle.search_rows.specs.declared.Found.TheVariants.{At, Nothing}
+use Rattle.std.specs.Prelude.{Some, None}
+use Rattle.search_rows.specs.Find.{Found}
 use Rattle.search_rows.specs.Inserted.{Tells}
 use Rattle.search_rows.proofs.Meaning.{index_codes}
 use Rattle.search_chains.specs.declared.Shape.{Shape}
@@ -40,7 +40,7 @@ module _ {C : Type 0} {code : C → List ℕ} {same : C → C → Bool} {hash : 
     (o : Entering code same hash stride size room shape count bucket vs v bytes xs) where
   -- what the search finds
   abbrev found : Bool → Found
-  found b = if b (At (record { 0 = 0 + index_of same v vs })) Nothing
+  found b = if b (Some (record { 0 = 0 + index_of same v vs })) None
 
   module _ (r : Entered) (ys : List ℕ) (e : Enters stride count room bucket shape bytes xs r ys) where
     -- the answer and the records by whether the vertex stands in the list

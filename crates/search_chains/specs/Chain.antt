@@ -1,14 +1,12 @@
 -- Records in hash chains: where they and the links stand, when all stand in the chain of their bucket, and what the
 -- search and an entry come to.
-use Rattle.std.specs.Prelude.{◌≡◌, List, [], ◌∷◌, ◌++◌, ℕ, zero, suc, ◌+◌, ◌*◌, ◌≤◌, ◌<◌, leb, length}
+use Rattle.std.specs.Prelude.{Some, None, ◌≡◌, List, [], ◌∷◌, ◌++◌, ℕ, zero, suc, ◌+◌, ◌*◌, ◌≤◌, ◌<◌, leb, length}
 use Rattle.automata.specs.Lists.{if}
 use Rattle.table.specs.Region.{part, splice}
 use Rattle.table.specs.Endian.{le, to_le}
 use Rattle.search_rows.specs.declared.Entered.{Entered}
 use Rattle.search_rows.specs.declared.Entered.TheVariants as E
-use Rattle.search_rows.specs.declared.Found.{Found}
-use Rattle.search_rows.specs.declared.Found.TheVariants.{At, Nothing}
-use Rattle.search_rows.specs.Find.{index_of}
+use Rattle.search_rows.specs.Find.{Found, index_of}
 use Rattle.search_chains.specs.declared.Shape.{Shape}
 use Rattle.search_chains.specs.Parts.{Agrees}
 
@@ -79,8 +77,8 @@ entry a rs = record { answer = a; records = rs }
 
 -- by what the search found: the record is there, or is appended where there is room
 abbrev pub enter_by : ℕ → List ℕ → List (List ℕ) → Found → Entry
-enter_by room w rs (At s) = entry (E.At s) rs
-enter_by room w rs Nothing = if (leb room (length rs)) (entry E.Full rs) (entry (E.New (record { 0 = length rs })) (rs ++ (w ∷ [])))
+enter_by room w rs (Some s) = entry (E.At s) rs
+enter_by room w rs None = if (leb room (length rs)) (entry E.Full rs) (entry (E.New (record { 0 = length rs })) (rs ++ (w ∷ [])))
 
 -- a record w entered among the records rs, of which there may be room
 unfoldable pub enter_of : ℕ → List ℕ → List (List ℕ) → Entry

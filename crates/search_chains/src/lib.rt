@@ -11,7 +11,7 @@ ghost use Rattle.search_chains.specs.Chain.{link_below, appended, Finds, Enters,
 ghost use Rattle.search_chains.specs.Parts.{part_start, part_size, Shaped};
 ghost use Rattle.search_chains.specs.Hash.{mixed, hash_from, bucket_of};
 
-use search_rows::{Entered, Found, Reached};
+use search_rows::{Entered, Reached};
 use table::bytes::{copy_into, get16, get64, put16};
 
 // How records are compared, part by part: the first `head` bytes are the first part; the others stand `pitch` bytes
@@ -29,17 +29,7 @@ pub fn link_below(work: &[u8], at: usize, bound: u16) -> u16
     ensures { (result ≡ link_below bound (le (part at 2 work.now))) × (result ≤ bound) }
 {
     let link = get16(work, at);
-    if bound < link {
-        return 0;
-    }
-    link
-}
-
-// A byte as a wider number.
-fn wide(b: u8) -> usize
-    ensures { (result ≡ b) × (result < 256) }
-{
-    b as usize
+    if bound < link { 0 } else { link }
 }
 
 // Where part p of a record begins.
@@ -48,9 +38,10 @@ fn part_start(shape: Shape, p: usize) -> usize
     ensures { result ≡ part_start shape p }
 {
     if p == 0 {
-        return 0;
+        0
+    } else {
+        shape.head + shape.pitch * (p - 1)
     }
-    shape.head + shape.pitch * (p - 1)
 }
 
 // Where what counts of part p ends.
@@ -62,7 +53,7 @@ fn part_end(shape: Shape, wanted: &[u8], p: usize) -> usize
         return shape.head;
     }
     let from = part_start(shape, p);
-    from + 2 + wide(wanted[from + 1])
+    from + 2 + usize::from(wanted[from + 1])
 }
 
 // Which of the `count` records equals `wanted`, by the chain of its bucket. Records and `wanted` are compared in what
@@ -74,7 +65,7 @@ pub fn find(
     bucket: usize,
     shape: Shape,
     wanted: &[u8],
-) -> Found
+) -> Option<Reached>
     requires { (count * stride ≤ length work.now) × (bucket * stride + stride ≤ length work.now)
         × (length wanted.now + 4 ≤ stride) × Shaped shape wanted.now }
     ensures { Finds stride count bucket shape wanted.now work.now result }
@@ -83,29 +74,24 @@ pub fn find(
     let mut link = link_below(work, bucket * stride + size, count);
     'records: loop {
         if link == 0 {
-            break Found::Nothing;
+            break None;
         }
         let candidate = link - 1;
         let at = candidate as usize * stride;
         link = link_below(work, at + size + 2, candidate);
-        let mut p: usize = 0;
-        while p < shape.parts {
-            let mut i = part_start(shape, p);
-            let end = part_end(shape, wanted, p);
-            while i < end {
+        for p in 0..shape.parts {
+            for i in part_start(shape, p)..part_end(shape, wanted, p) {
                 if work[at + i] != wanted[i] {
                     continue 'records;
                 }
-                i += 1;
             }
-            p += 1;
         }
-        break Found::At(Reached(candidate));
+        break Some(Reached(candidate));
     }
 }
 
 // The record in the row behind the last, and at the head of its chain.
-fn append(work: &mut [u8], stride: usize, count: u16, bucket: usize, wanted: &[u8])
+pub fn append(work: &mut [u8], stride: usize, count: u16, bucket: usize, wanted: &[u8])
     requires { (count * stride + stride ≤ length work.old) × (bucket * stride + stride ≤ length work.old)
         × (length wanted.now + 4 ≤ stride) × (count < 65535) }
     ensures { work.new ≡ appended stride count bucket wanted.now work.old }
@@ -135,11 +121,9 @@ pub fn enter(
         work.new }
 {
     match find(work, stride, count, bucket, shape, wanted) {
-        Found::At(state) => Entered::At(state),
-        Found::Nothing => {
-            if room <= count {
-                return Entered::Full;
-            }
+        Some(state) => Entered::At(state),
+        None if room <= count => Entered::Full,
+        None => {
             append(work, stride, count, bucket, wanted);
             Entered::New(Reached(count))
         }
@@ -162,12 +146,8 @@ pub fn hash_words(bytes: &[u8], at: usize, n: usize, h: u64) -> u64
     ensures { (result ≡ hash_from n at h bytes.now) × (result < 8589934592) }
 {
     let mut hash = h;
-    let mut from = at;
-    let mut left = n;
-    while 0 < left {
-        hash = mix(hash, get64(bytes, from));
-        from += 8;
-        left -= 1;
+    for i in 0..n {
+        hash = mix(hash, get64(bytes, at + 8 * i));
     }
     hash
 }

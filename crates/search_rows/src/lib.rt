@@ -1,4 +1,4 @@
-// What searching and entering a record answer, and a record kept where there is room for it.
+// What entering a record answers, and a record kept where there is room for it.
 #![tactic(auto)]
 
 ghost use Rattle.std.specs.Prelude.{◌≡◌, ◌+◌, ◌*◌, ◌≤◌, ◌<◌, length};
@@ -20,20 +20,12 @@ pub enum Entered {
     Full,
 }
 
-// What a search came to.
-#[derive(Clone, Copy)]
-pub enum Found {
-    At(Reached),
-    Nothing,
-}
-
 // The record with this number and these bytes, written where there is room for it.
 pub fn store_within(work: &mut [u8], base: usize, room: usize, number: usize, bytes: &[u8])
     requires { (base + step_size * room ≤ length work.old) × (length bytes.now ≤ step_size) }
     ensures { work.new ≡ stored_within base room number bytes.now work.old }
 {
-    if room <= number {
-        return;
+    if number < room {
+        copy_into(work, base + STEP_SIZE * number, bytes);
     }
-    copy_into(work, base + STEP_SIZE * number, bytes);
 }

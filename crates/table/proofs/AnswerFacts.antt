@@ -1,33 +1,61 @@
 -- Judgements: two side by side, and what is known once the value of an answer is forgotten.
 use mathlib.Core.Path.{◌≡◌, refl, ap, ◌∙◌}
 use mathlib.Core.Bool.{Bool, true, false}
-use Prim.Native.Nat.{ℕ, ◌≤◌, ◌<◌}
+use Prim.Native.Nat.{ℕ, min}
 use native.Mathlib.Omega.{arith}
+use mathlib.Core.List.{List, [], ◌∷◌}
+use mathlib.Core.Bool.{cond}
+use lib.Dec.{ltb}
+use lib.IntN.{ℤ, pos}
+use lib.ListN.{get_or}
+use denote.Enum.Declared.{tag_of}
+use Rattle.std.proofs.Common.{Less, Equal, Greater}
+use Rattle.std.proofs.lemmas.Bool.Decides.{nat_tests}
+use Rattle.std.specs.Ordering.{ord_min}
 use Rattle.automata.specs.Answer.{◌>>=◌, Answer, ok, refused, forget, check, require, beside}
 use Rattle.automata.proofs.AnswerFacts.{refused≢ok, forget-beside}
-use Rattle.table.specs.Answers.{refusal_number, judged_as}
+use Rattle.table.specs.Answers.{refusal_number}
 use Rattle.table.specs.declared.answer.Refusal.{Refusal}
-use Rattle.table.specs.declared.answer.Judged.{Judged}
-use Rattle.table.specs.declared.answer.Judged.TheVariants.{Fine, Refused}
+use Rattle.table.specs.declared.answer.Refusal.TheVariants.{Short, Form, Size, State, Tape, Pairs, Limit, StatesFull, ArcsFull, Delay, Weight, Width, Space, Path}
+use Rattle.table.specs.contracts.answer.Refusal.{the_type}
+use Rattle.table.specs.contracts.answer.RefusalOrd.TheImpl as order
+use Rattle.std.specs.Prelude.{Result, Ok, Err, IsErrAnd}
 
--- the second counts where the first is fine
-pub both_fine : (a b : Judged) → a ≡ Fine → judged_as b ≡ forget (beside (judged_as a) (judged_as b))
-both_fine a Fine e = rw e
-both_fine a (Refused n) e = rw e
+-- ---- refusals by their numbers
 
-module _ (a b : Judged) (m : Refusal) (e : a ≡ Refused m) where
-  -- the first counts where the second is fine
-  pub both_first : b ≡ Fine → refused (refusal_number m) ≡ forget (beside (judged_as a) (judged_as b))
-  both_first f = rw (e, f)
+-- the number that stands at each case of the declaration
+abbrev numbers : List ℤ
+numbers = pos 1 ∷ pos 2 ∷ pos 3 ∷ pos 4 ∷ pos 5 ∷ pos 6 ∷ pos 7 ∷ pos 8 ∷ pos 9 ∷ pos 10 ∷ pos 11 ∷ pos 12 ∷ pos 13 ∷ pos 14 ∷ []
 
-  module _ (n : Refusal) (f : b ≡ Refused n) (x y : ℕ) (p : x ≡ refusal_number m) (q : y ≡ refusal_number n) where
-    -- of two refusals the lesser counts
-    pub both-lesser : x < y → refused (refusal_number m) ≡ forget (beside (judged_as a) (judged_as b))
-    both-lesser h = rw (e, f) (ap refused (omega arith))
+-- it is that of the list
+tagged : (r : Refusal) → get_or numbers (tag_of the_type r) (pos 0) ≡ pos (refusal_number r)
+tagged Short = refl
+tagged Form = refl
+tagged Size = refl
+tagged State = refl
+tagged Tape = refl
+tagged Pairs = refl
+tagged Limit = refl
+tagged StatesFull = refl
+tagged ArcsFull = refl
+tagged Delay = refl
+tagged Weight = refl
+tagged Width = refl
+tagged Space = refl
+tagged Path = refl
 
-    -- the second where it is no greater
-    pub both_other : y ≤ x → refused (refusal_number n) ≡ forget (beside (judged_as a) (judged_as b))
-    both_other h = rw (e, f) (ap refused (omega arith))
+-- refusals are in the order of their numbers
+by_number : (m n : Refusal) → (order.cmp-value).it m n ≡ cond (ltb (refusal_number m) (refusal_number n)) Less (cond (ltb (refusal_number n) (refusal_number m)) Greater Equal)
+by_number m n = rw (tagged m, tagged n)
+
+-- the lesser of two refusals has the lesser number
+pub lesser : (m n : Refusal) → refusal_number (ord_min (order.cmp-value).it m n) ≡ min (refusal_number m) (refusal_number n)
+lesser m n = grind (arith, nat_tests, by_number n m)
+
+-- a refusal that is handed on is the same
+pub handed_on : {A : Type 0} (r : Result A Refusal) (e : Refusal) → IsErrAnd r (λ y. y ≡ e) → r ≡ Err e
+handed_on (Ok a) e p = absurd p
+handed_on (Err y) e p = ap Err p
 
 -- ---- answers without their values
 

@@ -23,7 +23,7 @@ use Rattle.table.specs.Region.{part}
 use Rattle.table.specs.Endian.{le}
 use Rattle.table.specs.Answers.{judged_as}
 use Rattle.table.specs.Judging.{read_weight, read_state, read_label, labels_read, read_labels, read_arc}
-use Rattle.table.specs.declared.answer.Judged.{Judged}
+use Rattle.table.specs.Answers.{Judged}
 use Rattle.table.proofs.RegionFacts.{part_suc, length_part, get_d_part}
 use Rattle.table.proofs.AnswerFacts.{forget-check, beside-next, beside_first, beside-last, both_judged}
 

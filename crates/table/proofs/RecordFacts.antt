@@ -8,8 +8,8 @@ use Rattle.automata.specs.Layout.{state_size, weight_size}
 use Rattle.table.specs.Region.{part, splice}
 use Rattle.table.specs.Endian.{le, to_le}
 use Rattle.table.specs.Records.{weight_of, weight_at, state_at, weight_bytes, state_bytes}
-use Rattle.table.specs.declared.record.Weight.{Weight}
-use Rattle.table.specs.declared.record.Weight.TheVariants.{Absent, Present}
+use Rattle.table.specs.Records.{Weight}
+use Rattle.std.specs.Prelude.{Some, None}
 use Rattle.table.specs.declared.record.State.{State}
 use Rattle.table.proofs.RegionFacts.{one_store, splice-behind}
 
@@ -20,20 +20,20 @@ pub flagged_stored : (a f v : ℕ) (xs us : List ℕ) → a + weight_size ≤ le
 flagged_stored a f v xs us h e = splice-behind a (a + 1) (f ∷ []) (to_le 4 v) xs (set xs a f) us (one_store a f xs (omega arith)) e refl (omega arith)
 
 -- a weight that is absent
-pub stored_absent : (a : ℕ) (w : Weight) (xs us : List ℕ) → w ≡ Absent → us ≡ splice a (0 ∷ to_le 4 0) xs → us ≡ splice a (weight_bytes w) xs
+pub stored_absent : (a : ℕ) (w : Weight) (xs us : List ℕ) → w ≡ None → us ≡ splice a (0 ∷ to_le 4 0) xs → us ≡ splice a (weight_bytes w) xs
 unfolding weight_bytes
 stored_absent a w xs us e f = f ∙ rw e
 
 -- a weight that is there
-pub stored_present : (a n : ℕ) (w : Weight) (xs us : List ℕ) → w ≡ Present n → us ≡ splice a (1 ∷ to_le 4 n) xs → us ≡ splice a (weight_bytes w) xs
+pub stored_present : (a n : ℕ) (w : Weight) (xs us : List ℕ) → w ≡ Some n → us ≡ splice a (1 ∷ to_le 4 n) xs → us ≡ splice a (weight_bytes w) xs
 unfolding weight_bytes
 stored_present a n w xs us e f = f ∙ rw e
 
 -- a weight takes up five bytes
 pub length_weight : (w : Weight) → length (weight_bytes w) ≡ weight_size
 unfolding weight_bytes
-length_weight Absent = refl
-length_weight (Present n) = refl
+length_weight None = refl
+length_weight (Some n) = refl
 
 -- a state: its two weights
 pub stored_state : (a : ℕ) (s : State) (xs us vs : List ℕ) → a + state_size ≤ length xs → us ≡ splice a (weight_bytes s.initial) xs → vs ≡ splice (a + weight_size) (weight_bytes s.last) us
@@ -48,16 +48,16 @@ stored_state a s xs us vs h e f =
 
 module _ (at : ℕ) (xs : List ℕ) where
   -- a weight whose flag is 0
-  pub weight-absent : get_or xs at 0 ≡ 0 → Absent ≡ weight_at at xs
+  pub weight-absent : get_or xs at 0 ≡ 0 → None ≡ weight_at at xs
   unfolding weight_at
   weight-absent e = rw e
 
   -- a weight with another flag
-  pub weight_present : (n : ℕ) → (get_or xs at 0 ≡ 0 → ⊥) → n ≡ le (part (at + 1) 4 xs) → Present n ≡ weight_at at xs
+  pub weight_present : (n : ℕ) → (get_or xs at 0 ≡ 0 → ⊥) → n ≡ le (part (at + 1) 4 xs) → Some n ≡ weight_at at xs
   unfolding weight_at
-  weight_present n h e = ap Present e ∙ go (get_or xs at 0) h
+  weight_present n h e = ap Some e ∙ go (get_or xs at 0) h
     where
-      go : (f : ℕ) → (f ≡ 0 → ⊥) → Present (le (part (at + 1) 4 xs)) ≡ weight_of f (le (part (at + 1) 4 xs))
+      go : (f : ℕ) → (f ≡ 0 → ⊥) → Some (le (part (at + 1) 4 xs)) ≡ weight_of f (le (part (at + 1) 4 xs))
       go zero k = absurd (k refl)
       go (suc f) k = refl
 

@@ -1,6 +1,6 @@
 -- The rule of the table of symbol numbers, at all of its entries by one computed test, symbols by ranges, and symbols
 -- as they are compared.
-use mathlib.Core.Path.{◌≡◌, refl, sym, ap, subst, ◌∙◌}
+use mathlib.Core.Path.{◌≡◌, refl, sym, subst, ◌∙◌}
 use mathlib.Core.Bool.{Bool, true, false, not}
 use mathlib.Core.Option.{Option, none, some}
 use mathlib.Core.List.{List, [], ◌∷◌}
@@ -94,14 +94,6 @@ module _ (b x : ℕ) (e : x ≡ symbol_entry b) where
       go : (o : Option ℕ) → entry_of o ≡ 255 → Each (λ n. n < 36) o → none ≡ o
       go none e h = refl
       go (some n) e h = absurd (omega arith)
-
-  -- any other entry is the symbol's number
-  pub some_symbol : (x ≡ 255 → ⊥) → some x ≡ symbol_number b
-  some_symbol f = go (symbol_number b) e
-    where
-      go : (o : Option ℕ) → x ≡ entry_of o → some x ≡ o
-      go none e = absurd (f e)
-      go (some n) e = ap some e
 
   -- the test by the table is the test of a symbol
   pub symbol_test : not (eqb x 255) ≡ is_symbol b

@@ -6,7 +6,7 @@ use Prim.Native.Nat.{ℕ, ◌+◌, ◌-◌, ◌≤◌, ◌<◌}
 use native.Mathlib.Omega.{arith}
 use lib.Dec.{leb}
 use lib.ListN.{length, take, drop}
-use borrow.Author.Tests.{not-true, not-false, le-leb, lt-leb, leb-true}
+use borrow.Author.Tests.{not-true, not-false, leb-true}
 use Rattle.automata.specs.Lists.{and}
 use Rattle.automata.specs.Table.{counts_fit}
 use Rattle.automata.specs.Answer.{◌>>=◌, Answer, ok, refused, forget}
@@ -23,31 +23,11 @@ use Rattle.table.specs.Region.{part}
 use Rattle.table.proofs.AnswerFacts.{forget-ok}
 use Rattle.table.proofs.SequenceFacts.{many_stop, many_none, at_short, at_value, at_next}
 
--- ---- the counts
-module _ (tapes states arcs : ℕ) where
-  -- no tape
-  pub no_tapes : tapes < 1 → false ≡ counts_fit tapes states arcs
-  no_tapes h = rw (lt-leb 1 tapes h)
-
-  module _ (a : 1 ≤ tapes) where
-    -- too many tapes
-    pub many_tapes : 8 < tapes → false ≡ counts_fit tapes states arcs
-    many_tapes h = rw (le-leb 1 tapes a, lt-leb tapes 8 h)
-
-    module _ (b : tapes ≤ 8) where
-      -- too many states
-      pub many_states : 1024 < states → false ≡ counts_fit tapes states arcs
-      many_states h = rw (le-leb 1 tapes a, le-leb tapes 8 b, lt-leb states 1024 h)
-
-      -- the arcs decide
-      pub arcs_decide : states ≤ 1024 → leb arcs 8192 ≡ counts_fit tapes states arcs
-      arcs_decide h = rw (le-leb 1 tapes a, le-leb tapes 8 b, le-leb states 1024 h)
-
-  -- counts in range have at most eight tapes
-  pub tapes_fit : (b : Bool) → b ≡ counts_fit tapes states arcs → not b ≡ false → tapes ≤ 8
-  tapes_fit b e f =
-      let c = and_true (and (leb 1 tapes) (leb tapes 8)) (and (leb states 1024) (leb arcs 8192)) (sym e ∙ not-false b f) in
-      leb-true tapes 8 (and_true (leb 1 tapes) (leb tapes 8) c.0).1
+-- counts in range have at most eight tapes
+pub tapes_fit : (tapes states arcs : ℕ) (b : Bool) → b ≡ counts_fit tapes states arcs → not b ≡ false → tapes ≤ 8
+tapes_fit tapes states arcs b e f =
+    let c = and_true (and (leb 1 tapes) (leb tapes 8)) (and (leb states 1024) (leb arcs 8192)) (sym e ∙ not-false b f) in
+    leb-true tapes 8 (and_true (leb 1 tapes) (leb tapes 8) c.0).1
 
 -- ---- the records of states, one after the other
 module _ (x : List ℕ) (at : ℕ) (h : at ≤ length x) where

@@ -1,16 +1,13 @@
 -- What the answers by value stand for, case by case, with the number of each refusal.
-use Rattle.std.specs.Prelude.{ℕ, List}
+use Rattle.std.specs.Prelude.{ℕ, List, Result, Ok, Err}
 use Rattle.automata.specs.Refusal as refusal
 use Rattle.automata.specs.Answer.{Answer, ok, refused}
 use Rattle.automata.specs.Memory as automata
 use Rattle.automata.specs.Calls.Outcome.{TableCounts}
 use Rattle.table.specs.declared.answer.Refusal.{Refusal}
 use Rattle.table.specs.declared.answer.Refusal.TheVariants.{Short, Form, Size, State, Tape, Pairs, Limit, StatesFull, ArcsFull, Delay, Weight, Width, Space, Path}
-use Rattle.table.specs.declared.answer.Judged.{Judged}
-use Rattle.table.specs.declared.answer.Judged.TheVariants as judged
 use Rattle.table.specs.declared.answer.Counts.{Counts}
-use Rattle.table.specs.declared.answer.TableAnswer.{TableAnswer}
-use Rattle.table.specs.declared.answer.TableAnswer.TheVariants as table
+use Rattle.table.specs.declared.lent.Table.{Table}
 
 -- the number of each refusal
 abbrev pub refusal_number : Refusal → ℕ
@@ -29,20 +26,32 @@ refusal_number Width = refusal.width
 refusal_number Space = refusal.space
 refusal_number Path = refusal.path
 
--- a judgement: nothing, or a refusal
+-- a judgement: nothing but whether there is a refusal, and which
+abbrev pub Judged : Type 0
+Judged = Result (Unit {0}) Refusal
+
+-- what it stands for: nothing, or the number of the refusal
 abbrev pub judged_as : Judged → Answer (Unit {0})
-judged_as judged.Fine = ok tt
-judged_as (judged.Refused r) = refused (refusal_number r)
+judged_as (Ok t) = ok tt
+judged_as (Err r) = refused (refusal_number r)
 
 -- the counts of a table
 abbrev pub counts_as : Counts → TableCounts
 counts_as c = record { tapes = c.tapes; states = c.states; arcs = c.arcs }
 
--- the answer of a call that makes a table
+-- what a call that makes a table answers: its counts, or a refusal
+abbrev pub TableAnswer : Type 0
+TableAnswer = Result Counts Refusal
+
+-- what it stands for
 abbrev pub table_as : TableAnswer → Answer TableCounts
-table_as (table.Table c) = ok (counts_as c)
-table_as (table.Refused r) = refused (refusal_number r)
+table_as (Ok c) = ok (counts_as c)
+table_as (Err r) = refused (refusal_number r)
 
 -- a table lent: its counts and the bytes of its records
 abbrev pub lent : Counts → List ℕ → List ℕ → automata.Memory
 lent c states arcs = automata.memory_of c.tapes c.states c.arcs states arcs
+
+-- the same of a table by value
+abbrev pub memory : Table → automata.Memory
+memory t = lent t.counts t.states.now t.arcs.now

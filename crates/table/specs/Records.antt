@@ -1,5 +1,6 @@
 -- What the records by value stand for, the bytes that they are written to, and what is loaded from bytes.
-use Rattle.std.specs.Prelude.{◌≡◌, List, [], ◌∷◌, map, ℕ, zero, suc, ◌+◌, ◌-◌, ◌≤◌, length, get_or, take, drop, replicate}
+use Rattle.std.specs.Prelude as rust
+use Rattle.std.specs.Prelude.{Some, None, ◌≡◌, List, [], ◌∷◌, map, ℕ, zero, suc, ◌+◌, ◌-◌, ◌≤◌, length, get_or, take, drop, replicate}
 use Rattle.std.proofs.Math.Option.{Option, none, some}
 use Rattle.automata.specs.Automaton as automata
 use Rattle.automata.specs.Lists.{All}
@@ -7,8 +8,6 @@ use Rattle.automata.specs.Memory.{weight_record, state_record}
 use Rattle.automata.specs.Layout.{amount_place, final_place, target_place, content_place, label_size, symbols_place}
 use Rattle.table.specs.Region.{part}
 use Rattle.table.specs.Endian.{le}
-use Rattle.table.specs.declared.record.Weight.{Weight}
-use Rattle.table.specs.declared.record.Weight.TheVariants.{Absent, Present}
 use Rattle.table.specs.declared.record.State.{State}
 use Rattle.table.specs.declared.record.Label.{Label}
 use Rattle.table.specs.declared.record.InputState.{InputState}
@@ -28,10 +27,14 @@ pub record InputArc : Type 0 where
 
 -- ---- what a record by value stands for
 
--- a weight, absent or there
-abbrev pub option_of : Weight → Option ℕ
-option_of Absent = none
-option_of (Present n) = some n
+-- a value of code that may be absent
+abbrev pub option_of : {A : Type 0} → rust.Option A → Option A
+option_of None = none
+option_of (Some n) = some n
+
+-- an initial or a final weight
+abbrev pub Weight : Type 0
+Weight = rust.Option ℕ
 
 -- a state
 abbrev pub state_as : State → automata.State ℕ
@@ -67,8 +70,8 @@ state_bytes s = state_record.write (state_as s)
 
 -- a flag and the number behind it: absent where the flag is 0
 abbrev pub weight_of : ℕ → ℕ → Weight
-weight_of zero n = Absent
-weight_of (suc f) n = Present n
+weight_of zero n = None
+weight_of (suc f) n = Some n
 
 -- the weight at a place
 unfoldable pub weight_at : ℕ → List ℕ → Weight

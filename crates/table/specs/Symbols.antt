@@ -2,13 +2,6 @@
 use Rattle.std.proofs.Math.Option.{Option, none, some}
 use Rattle.std.specs.Prelude.{ℕ}
 use Rattle.automata.specs.Symbols.{symbol_number}
-use Rattle.table.specs.declared.symbol.SymbolNumber.{SymbolNumber}
-use Rattle.table.specs.declared.symbol.SymbolNumber.TheVariants.{Symbol, NoSymbol}
-
--- a symbol's number, or none
-abbrev pub symbol_as : SymbolNumber → Option ℕ
-symbol_as (Symbol n) = some n
-symbol_as NoSymbol = none
 
 -- the entry of the table for a symbol number, 255 for none
 abbrev pub entry_of : Option ℕ → ℕ

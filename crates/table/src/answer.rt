@@ -1,70 +1,44 @@
-// What a call answers: the fourteen refusals, a judgement, and the counts of a table.
+// What a call answers: the fourteen refusals, two judgements side by side, and the counts of a table.
 ghost use Rattle.std.specs.Prelude.{◌≡◌};
 ghost use Rattle.automata.specs.Answer.{forget, beside};
 ghost use Rattle.table.specs.Answers.{refusal_number, judged_as};
 
 // The refusals of document 01's list, in its order, numbers 1 to 13, and 14 of document 02 (request 2.3).
-#[derive(Clone, Copy)]
+#[derive(Clone, Copy, PartialEq, Eq, PartialOrd, Ord)]
 pub enum Refusal {
-    Short,
-    Form,
-    Size,
-    State,
-    Tape,
-    Pairs,
-    Limit,
-    StatesFull,
-    ArcsFull,
-    Delay,
-    Weight,
-    Width,
-    Space,
-    Path,
+    Short = 1,
+    Form = 2,
+    Size = 3,
+    State = 4,
+    Tape = 5,
+    Pairs = 6,
+    Limit = 7,
+    StatesFull = 8,
+    ArcsFull = 9,
+    Delay = 10,
+    Weight = 11,
+    Width = 12,
+    Space = 13,
+    Path = 14,
 }
 
 // The number of a refusal.
-pub fn refusal_number(r: Refusal) -> u8
-    ensures { result ≡ refusal_number r }
-{
-    match r {
-        Refusal::Short => 1,
-        Refusal::Form => 2,
-        Refusal::Size => 3,
-        Refusal::State => 4,
-        Refusal::Tape => 5,
-        Refusal::Pairs => 6,
-        Refusal::Limit => 7,
-        Refusal::StatesFull => 8,
-        Refusal::ArcsFull => 9,
-        Refusal::Delay => 10,
-        Refusal::Weight => 11,
-        Refusal::Width => 12,
-        Refusal::Space => 13,
-        Refusal::Path => 14,
+impl From<Refusal> for u8 {
+    ghost from_gives = { λ r n. n ≡ refusal_number r };
+
+    fn from(r: Refusal) -> u8 {
+        r as u8
     }
 }
 
-// Nothing but whether there is a refusal, and which.
-#[derive(Clone, Copy)]
-pub enum Judged {
-    Fine,
-    Refused(Refusal),
-}
-
 // Two parts side by side: the lesser refusal counts.
-pub fn both(a: Judged, b: Judged) -> Judged
+pub fn both(a: Result<(), Refusal>, b: Result<(), Refusal>) -> Result<(), Refusal>
     ensures { judged_as result ≡ forget (beside (judged_as a) (judged_as b)) }
 {
-    let Judged::Refused(m) = a else {
-        return b;
-    };
-    let Judged::Refused(n) = b else {
-        return a;
-    };
-    if refusal_number(m) < refusal_number(n) {
-        a
-    } else {
-        b
+    match (a, b) {
+        (Err(m), Err(n)) => Err(m.min(n)),
+        (Err(m), Ok(())) => Err(m),
+        (Ok(()), b) => b,
     }
 }
 
@@ -74,11 +48,4 @@ pub struct Counts {
     pub tapes: usize,
     pub states: usize,
     pub arcs: usize,
-}
-
-// What a call that makes a table answers: its counts, or a refusal.
-#[derive(Clone, Copy)]
-pub enum TableAnswer {
-    Table(Counts),
-    Refused(Refusal),
 }

@@ -65,14 +65,10 @@ fn good_labels(labels: &[u8], tapes: usize) -> bool
     requires { length labels.now ≡ tapes * label_size }
     ensures { result ≡ true → forget (labels_read tapes labels.now) ≡ ok tt }
 {
-    let mut left = tapes;
-    let mut at = 0;
-    while 0 < left {
-        if !good_label(labels, at) {
+    for tape in 0..tapes {
+        if !good_label(labels, LABEL_SIZE * tape) {
             return false;
         }
-        left -= 1;
-        at += LABEL_SIZE;
     }
     true
 }
@@ -82,17 +78,11 @@ fn blank_labels(labels: &[u8], tapes: usize) -> bool
     requires { length labels.now ≡ tapes * label_size }
     ensures { result ≡ true → all is_zero labels.now ≡ true }
 {
-    let mut left = tapes;
-    let mut at = 0;
-    while 0 < left {
-        if labels[at] != 0 {
+    for tape in 0..tapes {
+        let at = LABEL_SIZE * tape;
+        if labels[at] != 0 || get64(labels, at + SYMBOLS_PLACE) != 0 {
             return false;
         }
-        if get64(labels, at + SYMBOLS_PLACE) != 0 {
-            return false;
-        }
-        left -= 1;
-        at += LABEL_SIZE;
     }
     true
 }

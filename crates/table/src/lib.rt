@@ -9,6 +9,7 @@ pub mod bytes;
 pub mod good;
 pub mod judge;
 pub mod layout;
+pub mod lent;
 pub mod pair;
 pub mod record;
 pub mod symbol;

@@ -16,18 +16,11 @@ pub struct InputState(pub u16);
 #[derive(Clone, Copy)]
 pub struct ResultState(pub u16);
 
-// An initial or a final weight.
-#[derive(Clone, Copy)]
-pub enum Weight {
-    Absent,
-    Present(u32),
-}
-
-// A state: its initial and its final weight.
+// A state: its initial and its final weight, where it has them.
 #[derive(Clone, Copy)]
 pub struct State {
-    pub initial: Weight,
-    pub last: Weight,
+    pub initial: Option<u32>,
+    pub last: Option<u32>,
 }
 
 // A label on one tape: its length, and its symbols as text bytes, 0 past the length.
@@ -47,13 +40,13 @@ fn put_flagged(bytes: &mut [u8], at: usize, flag: u8, v: u32)
 }
 
 // The record of a weight.
-fn store_weight(bytes: &mut [u8], at: usize, w: Weight)
+fn store_weight(bytes: &mut [u8], at: usize, w: Option<u32>)
     requires { at + weight_size ≤ length bytes.old }
     ensures { bytes.new ≡ splice at (weight_bytes w) bytes.old }
 {
     match w {
-        Weight::Absent => put_flagged(bytes, at, ABSENT, 0),
-        Weight::Present(n) => put_flagged(bytes, at, PRESENT, n),
+        None => put_flagged(bytes, at, ABSENT, 0),
+        Some(n) => put_flagged(bytes, at, PRESENT, n),
     }
 }
 
@@ -62,21 +55,20 @@ pub fn store_state(bytes: &mut [u8], at: usize, s: State)
     requires { at + state_size ≤ length bytes.old }
     ensures { bytes.new ≡ splice at (state_bytes s) bytes.old }
 {
-    let initial = s.initial;
-    store_weight(bytes, at, initial);
-    let last = s.last;
-    store_weight(bytes, at + FINAL_PLACE, last);
+    store_weight(bytes, at, s.initial);
+    store_weight(bytes, at + FINAL_PLACE, s.last);
 }
 
 // The weight at a place.
-fn load_weight(bytes: &[u8], at: usize) -> Weight
+fn load_weight(bytes: &[u8], at: usize) -> Option<u32>
     requires { at + weight_size ≤ length bytes.now }
     ensures { result ≡ weight_at at bytes.now }
 {
     if bytes[at] == ABSENT {
-        return Weight::Absent;
+        None
+    } else {
+        Some(get32(bytes, at + AMOUNT_PLACE))
     }
-    Weight::Present(get32(bytes, at + AMOUNT_PLACE))
 }
 
 // The state whose record stands at a place.
@@ -84,7 +76,8 @@ pub fn load_state(bytes: &[u8], at: usize) -> State
     requires { at + state_size ≤ length bytes.now }
     ensures { result ≡ state_at at bytes.now }
 {
-    let initial = load_weight(bytes, at);
-    let last = load_weight(bytes, at + FINAL_PLACE);
-    State { initial, last }
+    State {
+        initial: load_weight(bytes, at),
+        last: load_weight(bytes, at + FINAL_PLACE),
+    }
 }

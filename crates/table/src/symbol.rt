@@ -2,9 +2,11 @@
 ghost use Rattle.std.specs.Prelude.{◌≡◌};
 ghost use Rattle.automata.specs.Symbols.{is_symbol, symbol_number};
 ghost use Rattle.automata.specs.TapePair.{reading};
-ghost use Rattle.table.specs.Symbols.{symbol_as, symbol_entry};
+ghost use Rattle.table.specs.Records.{option_of};
+ghost use Rattle.table.specs.Symbols.{symbol_entry};
 
-// The symbol number of each byte, 255 where it is no symbol.
+// The symbol number of each byte, 255 where it is no symbol: an entry is one byte, since a literal of 256 values of
+// `Option<u8>` is longer to read and to look up.
 const SYMBOL_NUMBERS: [u8; 256] = [
     255, 255, 255, 255, 255, 255, 255, 255, 255, 255, 255, 255, 255, 255, 255, 255, 255, 255, 255,
     255, 255, 255, 255, 255, 255, 255, 255, 255, 255, 255, 255, 255, 255, 255, 255, 255, 255, 255,
@@ -21,13 +23,6 @@ const SYMBOL_NUMBERS: [u8; 256] = [
     255, 255, 255, 255, 255, 255, 255, 255, 255, 255, 255, 255, 255, 255, 255, 255, 255, 255, 255,
 ];
 
-// The number of a byte's symbol, if it is one.
-#[derive(Clone, Copy)]
-pub enum SymbolNumber {
-    Symbol(u8),
-    NoSymbol,
-}
-
 // The entry of the table for a byte.
 fn entry(b: u8) -> u8
     ensures { result ≡ symbol_entry b }
@@ -35,15 +30,14 @@ fn entry(b: u8) -> u8
     SYMBOL_NUMBERS[b as usize]
 }
 
-// The symbol number of a byte.
-pub fn symbol_number(b: u8) -> SymbolNumber
-    ensures { symbol_as result ≡ symbol_number b }
+// The number of a byte's symbol, if it is one.
+pub fn symbol_number(b: u8) -> Option<u8>
+    ensures { option_of result ≡ symbol_number b }
 {
-    let number = entry(b);
-    if number == 255 {
-        return SymbolNumber::NoSymbol;
+    match entry(b) {
+        255 => None,
+        number => Some(number),
     }
-    SymbolNumber::Symbol(number)
 }
 
 // Whether a byte is a symbol, by the table.
@@ -64,11 +58,9 @@ pub fn is_symbol(b: u8) -> bool
 pub fn read_symbol(b: u8) -> u8
     ensures { result ≡ reading b }
 {
-    if b == b'I' {
-        return b'1';
+    match b {
+        b'I' => b'1',
+        b'O' => b'0',
+        _ => b,
     }
-    if b == b'O' {
-        return b'0';
-    }
-    b
 }

@@ -52,19 +52,6 @@ module _ (m n : ℕ) (arcs : List ℕ) (for_states for_arcs : ℕ) (c : Chainabl
   pub source_fits : (j x : ℕ) → j < n → x ≡ source_of arcs j → x < length filled
   source_fits j x h f = let s = c.sources j h in omega (arith, s, f, filled_long, c.states_fit)
 
-  -- all arcs, of the states alone
-  pub chained_all : (j : ℕ) (heads nexts : List ℕ) → j ≤ 0 → ChainedFrom j (length filled) n arcs heads nexts → Chained m n arcs heads nexts
-  chained_all j heads nexts z d =
-      let o : j ≡ 0 = omega arith in
-      let t = subst (λ (k : ℕ). ChainedFrom k (length filled) n arcs heads nexts) o d in
-      let l : m ≤ length filled = omega (arith, filled_long, c.states_fit) in
-      record {
-        states_fit = let b = t.states_fit in omega (arith, b, l);
-        arcs_fit = t.arcs_fit;
-        firsts = λ q h. t.firsts q (omega (arith, l));
-        nexts = t.nexts;
-      }
-
 -- with the arc before them
 chained_more : (k m n : ℕ) (arcs first next : List ℕ) → k < n → ChainedFrom (k + 1) m n arcs first next → (q : ℕ) → q ≡ source_of arcs k → q < m
     → ChainedFrom k m n arcs (set first q k) (set next k (get_or first q 0))

@@ -15,11 +15,10 @@ fn mark_arc(q: u16, t: usize, j: usize, seen: &mut [u16], marks: &mut [u16])
     requires { (q < 1024) × (t < length seen.old) × (j < length marks.old) }
     ensures { MarksArc q t j seen.old marks.old seen.new marks.new }
 {
-    if seen[t] == q + 1 {
-        return;
+    if seen[t] != q + 1 {
+        seen[t] = q + 1;
+        marks[j] = 1;
     }
-    seen[t] = q + 1;
-    marks[j] = 1;
 }
 
 // The arcs that leave the state `q`.
@@ -59,10 +58,8 @@ fn mark_states(
         × (Marked counts.states counts.arcs arcs.now seen.old marks.old) }
     ensures { MarksAll counts.arcs arcs.now marks.old marks.new }
 {
-    let mut q: usize = 0;
-    while q < counts.states {
+    for q in 0..counts.states {
         mark_state(counts, arcs, first, next, q as u16, seen, marks);
-        q += 1;
     }
 }
 
@@ -73,12 +70,11 @@ fn link_arc(arcs: &[u8], j: usize, first: &mut [u16], next: &mut [u16])
     ensures { LinksArc arcs.now j first.old next.old first.new
         next.new }
 {
-    if next[j] == 0 {
-        return;
+    if next[j] != 0 {
+        let q = source_at(arcs, ARC_SIZE * j).0 as usize;
+        next[j] = first[q];
+        first[q] = j as u16;
     }
-    let q = source_at(arcs, ARC_SIZE * j).0 as usize;
-    next[j] = first[q];
-    first[q] = j as u16;
 }
 
 // All marked arcs, from the last on, so that each chain has its arcs in the order of the records.
@@ -88,9 +84,7 @@ fn link_arcs(counts: Counts, arcs: &[u8], first: &mut [u16], next: &mut [u16])
         first.new next.new }
 {
     fill(first, counts.arcs as u16);
-    let mut j = counts.arcs;
-    while 0 < j {
-        j -= 1;
+    for j in (0..counts.arcs).rev() {
         link_arc(arcs, j, first, next);
     }
 }

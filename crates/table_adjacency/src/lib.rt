@@ -15,9 +15,7 @@ use table::layout::ARC_SIZE;
 pub fn fill(places: &mut [u16], v: u16)
     ensures { places.new ≡ replicate (length places.old) v }
 {
-    for i in 0..places.len() {
-        places[i] = v;
-    }
+    places.fill(v);
 }
 
 // The chains of all states. They are made from the last arc on, so that each has its arcs in the order of the records.
@@ -27,9 +25,7 @@ pub fn chain_arcs(counts: Counts, arcs: &[u8], first: &mut [u16], next: &mut [u1
         next.new }
 {
     fill(first, counts.arcs as u16);
-    let mut j = counts.arcs;
-    while 0 < j {
-        j -= 1;
+    for j in (0..counts.arcs).rev() {
         let q = source_at(arcs, ARC_SIZE * j).0 as usize;
         next[j] = first[q];
         first[q] = j as u16;
@@ -43,7 +39,8 @@ pub fn first_arc(counts: Counts, first: &[u16], x: u16) -> usize
 {
     let q = x as usize;
     if q < counts.states {
-        return first[q] as usize;
+        first[q] as usize
+    } else {
+        counts.arcs
     }
-    counts.arcs
 }

@@ -1,12 +1,11 @@
 -- The call that drops tapes, by its steps.
 use Prim.Native.Nat.{ℕ, ◌*◌, ◌/◌, ◌^◌, ◌≤◌, ◌<◌}
 use mathlib.Core.Path.{◌≡◌, refl, sym, ap, ap₂, ◌∙◌}
-use mathlib.Core.Bool.{Bool, true, false, not}
+use mathlib.Core.Bool.{Bool, true, false}
 use mathlib.Core.List.{List}
 use native.Mathlib.Nat.{one-mul, div-eq_of_lt, div-lt_iff_lt-mul}
 use native.Mathlib.Omega.{arith}
 use lib.Dec.{ltb}
-use borrow.Author.Tests.{not-true, not-false}
 use lib.Count.{ones}
 use lib.Pow.{pow_pos}
 use lib.ListN.{length, length-map}
@@ -30,10 +29,6 @@ use Rattle.automata.proofs.TapeTables.{fitted-ok}
 use Rattle.automata.proofs.SoundFacts.{sound, table_of_is, sound_decoded, sound_well_formed, sound_holds}
 use Rattle.automata.proofs.MemoryFacts.{decode_reads}
 use Rattle.automata.specs.Layout.{arc_size, state_size}
-use Rattle.table.specs.Answers.{judged_as, refusal_number}
-use Rattle.table.specs.declared.answer.Refusal.{Refusal}
-use Rattle.table.specs.declared.answer.Judged.{Judged}
-use Rattle.table.specs.declared.answer.Judged.TheVariants.{Fine, Refused}
 use Rattle.table.proofs.AnswerFacts.{forget-ok}
 use Rattle.table.proofs.TableFacts.{judged_sound}
 use Rattle.tapes_records.specs.Choice.{tapes_left, Droppable}
@@ -65,33 +60,33 @@ marks_within n mask few byte h =
     sym (droppable_mask n mask few byte ∙ ap (λ b. and b (ltb (ones mask) n)) (ltb_of_lt (rw one-mul at k)))
 
 -- ---- the judgement
-module _ (m : Memory) (mask : ℕ) (space : Space) (j : Judged) (e : judged_as j ≡ forget (decode_table m)) where
+module _ (m : Memory) (mask : ℕ) (space : Space) where
   -- the table is refused
-  pub drop_table_judged : (why : Refusal) → j ≡ Refused why → judged_as j ≡ forget (drop_answer m mask space)
+  pub drop_table_judged : (n : ℕ) → refused n ≡ forget (decode_table m) → refused n ≡ forget (drop_answer m mask space)
   unfolding drop_answer
-  drop_table_judged why h = next-refused (decode_table m) (λ A. drop_tapes space (in_mask mask) A) j why e h
+  drop_table_judged n e = next-refused (decode_table m) (λ A. drop_tapes space (in_mask mask) A) n e
 
-  module _ (h : j ≡ Fine) where
+  module _ (e : ok tt ≡ forget (decode_table m)) where
     pub drop_sound : Sound m
-    drop_sound = judged_sound m (sym e ∙ ap judged_as h)
+    drop_sound = judged_sound m (sym e)
 
     drop_is : drop_answer m mask space ≡ drop_tapes space (in_mask mask) (table_of m)
     unfolding drop_answer
     drop_is = ap (λ (a : Answer (Automaton ℕ)). a >>= λ A. drop_tapes space (in_mask mask) A) (sound_decoded m drop_sound)
 
     -- the mask is refused
-    pub drop_marks_judged : (b : Bool) → b ≡ droppable (in_mask mask) m.tapes → not b ≡ true → refused refusal.tape ≡ forget (drop_answer m mask space)
-    drop_marks_judged b f g =
-        let d : droppable (in_mask mask) (table_of m).tapes ≡ false = ap (droppable (in_mask mask)) (sym (sound_holds m drop_sound).tapes) ∙ sym f ∙ not-true b g in
+    pub drop_marks_judged : false ≡ droppable (in_mask mask) m.tapes → refused refusal.tape ≡ forget (drop_answer m mask space)
+    drop_marks_judged f =
+        let d : droppable (in_mask mask) (table_of m).tapes ≡ false = ap (droppable (in_mask mask)) (sym (sound_holds m drop_sound).tapes) ∙ sym f in
         sym (ap forget (drop_is ∙ drop_tape space (table_of m) (in_mask mask) d))
 
     -- the space decides
-    pub drop_space_judged : (b : Bool) → b ≡ droppable (in_mask mask) m.tapes → not b ≡ false → (r : Answer (Unit {0})) → r ≡ fitting m.states m.arcs space
+    pub drop_space_judged : true ≡ droppable (in_mask mask) m.tapes → (r : Answer (Unit {0})) → r ≡ fitting m.states m.arcs space
         → r ≡ forget (drop_answer m mask space)
-    drop_space_judged b f g r z =
+    drop_space_judged f r z =
         let t = sound_holds m drop_sound in
         let A = without (in_mask mask) (table_of m) in
-        let d : droppable (in_mask mask) (table_of m).tapes ≡ true = ap (droppable (in_mask mask)) (sym t.tapes) ∙ sym f ∙ not-false b g in
+        let d : droppable (in_mask mask) (table_of m).tapes ≡ true = ap (droppable (in_mask mask)) (sym t.tapes) ∙ sym f in
         z ∙ ap₂ (λ (i k : ℕ). fitting i k space) t.states (t.arcs ∙ sym (length-map (table_of m).arcs (relabelled_arc (drop_at (in_mask mask)))))
         ∙ fitted_counts space A ∙ sym (ap forget (drop_is ∙ drop_passed space (table_of m) (in_mask mask) d))
 
@@ -131,24 +126,23 @@ module _ (m : Memory) (mask : ℕ) (d : Droppable m mask) (old_states old_arcs n
 
 -- ---- the whole call
 
-module _ (m : Memory) (mask : ℕ) (old_states old_arcs : List ℕ) (j : Judged)
-    (e : judged_as j ≡ forget (drop_answer m mask (lent_space (length old_states / state_size) (length old_arcs / arc_size)))) where
+module _ (m : Memory) (mask : ℕ) (old_states old_arcs : List ℕ) where
   -- a refusal
-  pub drop_refused : (why : Refusal) → j ≡ Refused why → made_of (refused (refusal_number why)) old_states old_arcs ≡ drop_outcome m mask (slices_of old_states old_arcs)
+  pub drop_refused : (n : ℕ) → refused n ≡ forget (drop_answer m mask (lent_space (length old_states / state_size) (length old_arcs / arc_size)))
+      → made_of (refused n) old_states old_arcs ≡ drop_outcome m mask (slices_of old_states old_arcs)
   unfolding drop_outcome
-  drop_refused why h =
+  drop_refused n e =
       let s = slices_of old_states old_arcs in
-      sym (put_refused s (refusal_number why))
-      ∙ ap (λ (a : Answer (Automaton ℕ)). put a s) (sym (forget-refused (drop_answer m mask (space_of s)) (refusal_number why) (sym e ∙ ap judged_as h)))
+      sym (put_refused s n) ∙ ap (λ (a : Answer (Automaton ℕ)). put a s) (sym (forget-refused (drop_answer m mask (space_of s)) n (sym e)))
 
-  module _ (h : j ≡ Fine) where
+  module _ (e : ok tt ≡ forget (drop_answer m mask (lent_space (length old_states / state_size) (length old_arcs / arc_size)))) where
     -- what the judgement told
     drop_told : Droppable m mask × (state_size * m.states ≤ length old_states) × (arc_size * m.arcs ≤ length old_arcs)
         × (drop_answer m mask (lent_space (length old_states / state_size) (length old_arcs / arc_size)) ≡ ok (without (in_mask mask) (table_of m)))
     unfolding drop_answer drop_tapes
     drop_told =
         let space = lent_space (length old_states / state_size) (length old_arcs / arc_size) in
-        let a = forget-ok (drop_answer m mask space) (sym e ∙ ap judged_as h) in
+        let a = forget-ok (drop_answer m mask space) (sym e) in
         let p = bind_ok (decode_table m) (λ A. drop_tapes space (in_mask mask) A) a.0 a.1 in
         let A = p.0 in
         let q = judge-ok (droppable (in_mask mask) A.tapes) _ _ a.0 p.2 in

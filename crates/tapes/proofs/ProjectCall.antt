@@ -1,10 +1,10 @@
 -- The call that chooses tapes, by its steps.
 use Prim.Native.Nat.{ℕ, zero, ◌*◌, ◌/◌, ◌≤◌, ◌<◌}
 use mathlib.Core.Path.{◌≡◌, refl, sym, ap, ap₂, ◌∙◌}
-use mathlib.Core.Bool.{Bool, true, false, not}
+use mathlib.Core.Bool.{true, false}
 use mathlib.Core.List.{List, [], ◌∷◌}
 use native.Mathlib.Omega.{arith}
-use borrow.Author.Tests.{not-true, not-false, le-leb, lt-leb, lt-ltb, le-ltb}
+use borrow.Author.Tests.{le-leb, lt-leb}
 use lib.Dec.{T, leb, leb→le, ltb}
 use lib.ListN.{length, take, length-map}
 use lib.Seq.{take_all}
@@ -27,10 +27,6 @@ use Rattle.automata.proofs.TapeTables.{fitted-ok}
 use Rattle.automata.proofs.SoundFacts.{sound, table_of_is, sound_decoded, sound_well_formed, sound_holds}
 use Rattle.automata.specs.Layout.{arc_size, state_size}
 use Rattle.table.specs.Region.{splice}
-use Rattle.table.specs.Answers.{judged_as, refusal_number}
-use Rattle.table.specs.declared.answer.Refusal.{Refusal}
-use Rattle.table.specs.declared.answer.Judged.{Judged}
-use Rattle.table.specs.declared.answer.Judged.TheVariants.{Fine, Refused}
 use Rattle.table.proofs.AnswerFacts.{forget-ok}
 use Rattle.table.proofs.TableFacts.{judged_sound}
 use Rattle.table.proofs.SoundFacts.{few_tapes}
@@ -42,13 +38,6 @@ use Rattle.tapes.proofs.TapesFacts.{Named, length_projected, chosen_in_place}
 use Rattle.tapes_records.proofs.RoomFacts.{forget-refused, next-refused, fitted_counts, copied_holds, copied_put}
 
 -- ---- the choice
-
--- no tape at all, and some
-pub choice_empty : (js : List ℕ) (n : ℕ) → length js < 1 → false ≡ choosable js n
-choice_empty js n h = rw (le-ltb zero (length js) (omega arith))
-
-pub choice_some : (js : List ℕ) (n : ℕ) (b : Bool) → 1 ≤ length js → b ≡ all (is_tape n) js → b ≡ choosable js n
-choice_some js n b h e = e ∙ rw (lt-ltb zero (length js) (omega arith))
 
 -- each is one of the tapes
 all_named : (n : ℕ) (js : List ℕ) → T (all (is_tape n) js) → Named n js
@@ -88,15 +77,15 @@ module _ (m : Memory) (js : List ℕ) (c : Choosable m js) (old_states old_arcs 
       ∙ copied_put m A w h old_states old_arcs new_states new_arcs k (projected js A) refl (length_projected m A w h js c.few n) s a
 
 -- ---- the judgement
-module _ (m : Memory) (js : List ℕ) (space : Space) (j : Judged) (e : judged_as j ≡ forget (decode_table m)) where
+module _ (m : Memory) (js : List ℕ) (space : Space) where
   -- the table is refused
-  pub project-table_judged : (why : Refusal) → j ≡ Refused why → judged_as j ≡ forget (project_answer m js space)
+  pub project-table_judged : (n : ℕ) → refused n ≡ forget (decode_table m) → refused n ≡ forget (project_answer m js space)
   unfolding project_answer
-  project-table_judged why h = next-refused (decode_table m) (λ A. project space js A) j why e h
+  project-table_judged n e = next-refused (decode_table m) (λ A. project space js A) n e
 
-  module _ (h : j ≡ Fine) where
+  module _ (e : ok tt ≡ forget (decode_table m)) where
     project_sound : Sound m
-    project_sound = judged_sound m (sym e ∙ ap judged_as h)
+    project_sound = judged_sound m (sym e)
 
     project_is : project_answer m js space ≡ project space js (table_of m)
     unfolding project_answer
@@ -106,41 +95,40 @@ module _ (m : Memory) (js : List ℕ) (space : Space) (j : Judged) (e : judged_a
     pub project-width_judged : 8 < length js → refused refusal.width ≡ forget (project_answer m js space)
     project-width_judged l = sym (ap forget (project_is ∙ project-width space (table_of m) js (lt-leb (length js) 8 l)))
 
-    module _ (l : length js ≤ 8) (b : Bool) (f : b ≡ choosable js m.tapes) where
+    module _ (l : length js ≤ 8) where
       -- the choice is refused
-      pub project_choice_judged : not b ≡ true → refused refusal.tape ≡ forget (project_answer m js space)
-      project_choice_judged g =
-          let d : choosable js (table_of m).tapes ≡ false = ap (choosable js) (sym (sound_holds m project_sound).tapes) ∙ sym f ∙ not-true b g in
+      pub project_choice_judged : false ≡ choosable js m.tapes → refused refusal.tape ≡ forget (project_answer m js space)
+      project_choice_judged f =
+          let d : choosable js (table_of m).tapes ≡ false = ap (choosable js) (sym (sound_holds m project_sound).tapes) ∙ sym f in
           sym (ap forget (project_is ∙ project-tape space (table_of m) js (le-leb (length js) 8 l) d))
 
       -- the space decides
-      pub project-space_judged : not b ≡ false → (r : Answer (Unit {0})) → r ≡ fitting m.states m.arcs space → r ≡ forget (project_answer m js space)
-      project-space_judged g r z =
+      pub project-space_judged : true ≡ choosable js m.tapes → (r : Answer (Unit {0})) → r ≡ fitting m.states m.arcs space → r ≡ forget (project_answer m js space)
+      project-space_judged f r z =
           let t = sound_holds m project_sound in
-          let d : choosable js (table_of m).tapes ≡ true = ap (choosable js) (sym t.tapes) ∙ sym f ∙ not-false b g in
+          let d : choosable js (table_of m).tapes ≡ true = ap (choosable js) (sym t.tapes) ∙ sym f in
           z ∙ ap₂ (λ (i k : ℕ). fitting i k space) t.states (t.arcs ∙ sym (length-map (table_of m).arcs (relabelled_arc (chosen js))))
           ∙ fitted_counts space (projected js (table_of m)) ∙ sym (ap forget (project_is ∙ project-passed space (table_of m) js (le-leb (length js) 8 l) d))
 
 -- ---- the whole call
 
-module _ (m : Memory) (js : List ℕ) (old_states old_arcs : List ℕ) (j : Judged)
-    (e : judged_as j ≡ forget (project_answer m js (lent_space (length old_states / state_size) (length old_arcs / arc_size)))) where
+module _ (m : Memory) (js : List ℕ) (old_states old_arcs : List ℕ) where
   -- a refusal
-  pub project-refused : (why : Refusal) → j ≡ Refused why → made_of (refused (refusal_number why)) old_states old_arcs ≡ project_outcome m js (slices_of old_states old_arcs)
+  pub project-refused : (n : ℕ) → refused n ≡ forget (project_answer m js (lent_space (length old_states / state_size) (length old_arcs / arc_size)))
+      → made_of (refused n) old_states old_arcs ≡ project_outcome m js (slices_of old_states old_arcs)
   unfolding project_outcome
-  project-refused why h =
+  project-refused n e =
       let s = slices_of old_states old_arcs in
-      sym (put_refused s (refusal_number why))
-      ∙ ap (λ (a : Answer (Automaton ℕ)). put a s) (sym (forget-refused (project_answer m js (space_of s)) (refusal_number why) (sym e ∙ ap judged_as h)))
+      sym (put_refused s n) ∙ ap (λ (a : Answer (Automaton ℕ)). put a s) (sym (forget-refused (project_answer m js (space_of s)) n (sym e)))
 
-  module _ (h : j ≡ Fine) where
+  module _ (e : ok tt ≡ forget (project_answer m js (lent_space (length old_states / state_size) (length old_arcs / arc_size)))) where
     -- what the judgement told
     project-told : Choosable m js × (state_size * m.states ≤ length old_states) × (arc_size * m.arcs ≤ length old_arcs)
         × (project_answer m js (lent_space (length old_states / state_size) (length old_arcs / arc_size)) ≡ ok (projected js (table_of m)))
     unfolding project_answer project
     project-told =
         let space = lent_space (length old_states / state_size) (length old_arcs / arc_size) in
-        let a = forget-ok (project_answer m js space) (sym e ∙ ap judged_as h) in
+        let a = forget-ok (project_answer m js space) (sym e) in
         let p = bind_ok (decode_table m) (λ A. project space js A) a.0 a.1 in
         let A = p.0 in
         let o = judge-ok (leb (length js) 8) _ _ a.0 p.2 in

@@ -27,10 +27,6 @@ use Rattle.automata.proofs.TapeTables.{fitted-ok}
 use Rattle.automata.proofs.SoundFacts.{sound, table_of_is, sound_decoded, sound_well_formed, sound_holds}
 use Rattle.automata.specs.Layout.{arc_size, state_size}
 use Rattle.table.specs.Region.{splice}
-use Rattle.table.specs.Answers.{judged_as, refusal_number}
-use Rattle.table.specs.declared.answer.Refusal.{Refusal}
-use Rattle.table.specs.declared.answer.Judged.{Judged}
-use Rattle.table.specs.declared.answer.Judged.TheVariants.{Fine, Refused}
 use Rattle.table.proofs.RegionFacts.{length_splice, splice_front, splice-twice, splice-behind}
 use Rattle.table.proofs.AnswerFacts.{forget-ok}
 use Rattle.table.proofs.TableFacts.{judged_sound}
@@ -181,27 +177,27 @@ module _ (one two : Memory) (old_states old_arcs : List ℕ) (p : Appends one tw
 
 -- ---- the judgement
 
-module _ (one two : Memory) (space : Space) (j : Judged) (e : judged_as j ≡ forget (decode_table one)) where
+module _ (one two : Memory) (space : Space) where
   -- the first table is refused
-  pub union-first_judged : (why : Refusal) → j ≡ Refused why → judged_as j ≡ forget (union_answer one two space)
+  pub union-first_judged : (n : ℕ) → refused n ≡ forget (decode_table one) → refused n ≡ forget (union_answer one two space)
   unfolding union_answer
-  union-first_judged why h = next-refused (decode_table one) (λ A. decode_table two >>= λ B. union space A B) j why e h
+  union-first_judged n e = next-refused (decode_table one) (λ A. decode_table two >>= λ B. union space A B) n e
 
-  module _ (h : j ≡ Fine) (k : Judged) (f : judged_as k ≡ forget (decode_table two)) where
+  module _ (e : ok tt ≡ forget (decode_table one)) where
     one_sound : Sound one
-    one_sound = judged_sound one (sym e ∙ ap judged_as h)
+    one_sound = judged_sound one (sym e)
 
     one_is : union_answer one two space ≡ (decode_table two >>= λ B. union space (table_of one) B)
     unfolding union_answer
     one_is = ap (λ (a : Answer (Automaton ℕ)). a >>= λ A. decode_table two >>= λ B. union space A B) (sound_decoded one one_sound)
 
     -- the second is
-    pub union_second_judged : (why : Refusal) → k ≡ Refused why → judged_as k ≡ forget (union_answer one two space)
-    union_second_judged why g = next-refused (decode_table two) (λ B. union space (table_of one) B) k why f g ∙ ap forget (sym one_is)
+    pub union_second_judged : (n : ℕ) → refused n ≡ forget (decode_table two) → refused n ≡ forget (union_answer one two space)
+    union_second_judged n f = next-refused (decode_table two) (λ B. union space (table_of one) B) n f ∙ ap forget (sym one_is)
 
-    module _ (g : k ≡ Fine) where
+    module _ (f : ok tt ≡ forget (decode_table two)) where
       two_sound : Sound two
-      two_sound = judged_sound two (sym f ∙ ap judged_as g)
+      two_sound = judged_sound two (sym f)
 
       two_is : union_answer one two space ≡ union space (table_of one) (table_of two)
       two_is = one_is ∙ ap (λ (a : Answer (Automaton ℕ)). a >>= λ B. union space (table_of one) B) (sound_decoded two two_sound)
@@ -279,22 +275,21 @@ union-answered one two states arcs U a =
 
 -- ---- the whole call
 
-module _ (one two : Memory) (old_states old_arcs : List ℕ) (j : Judged)
-    (e : judged_as j ≡ forget (union_answer one two (lent_space (length old_states / state_size) (length old_arcs / arc_size)))) where
+module _ (one two : Memory) (old_states old_arcs : List ℕ) where
   -- a refusal
-  pub union-refused : (why : Refusal) → j ≡ Refused why → made_of (refused (refusal_number why)) old_states old_arcs ≡ union_outcome one two (slices_of old_states old_arcs)
+  pub union-refused : (n : ℕ) → refused n ≡ forget (union_answer one two (lent_space (length old_states / state_size) (length old_arcs / arc_size)))
+      → made_of (refused n) old_states old_arcs ≡ union_outcome one two (slices_of old_states old_arcs)
   unfolding union_outcome
-  union-refused why h =
+  union-refused n e =
       let s = slices_of old_states old_arcs in
-      sym (put_refused s (refusal_number why))
-      ∙ ap (λ (a : Answer (Automaton ℕ)). put a s) (sym (forget-refused (union_answer one two (space_of s)) (refusal_number why) (sym e ∙ ap judged_as h)))
+      sym (put_refused s n) ∙ ap (λ (a : Answer (Automaton ℕ)). put a s) (sym (forget-refused (union_answer one two (space_of s)) n (sym e)))
 
-  module _ (h : j ≡ Fine) where
+  module _ (e : ok tt ≡ forget (union_answer one two (lent_space (length old_states / state_size) (length old_arcs / arc_size)))) where
     -- what the judgement told
     union-told : Appends one two (length old_states) (length old_arcs)
         × (union_answer one two (lent_space (length old_states / state_size) (length old_arcs / arc_size)) ≡ ok (appended (table_of one) (table_of two)))
     union-told =
-        let (U, a) = forget-ok (union_answer one two (lent_space (length old_states / state_size) (length old_arcs / arc_size))) (sym e ∙ ap judged_as h) in
+        let (U, a) = forget-ok (union_answer one two (lent_space (length old_states / state_size) (length old_arcs / arc_size))) (sym e) in
         let t = union-answered one two (length old_states) (length old_arcs) U a in
         (t.0, a ∙ ap ok t.1)
 

@@ -7,14 +7,15 @@ ghost use Rattle.automata.specs.Projection.{is_tape, choosable, projected};
 ghost use Rattle.automata.specs.Calls.Project.{project_answer, project_outcome};
 ghost use Rattle.automata.specs.Calls.Outcome.{put, made_of, slices_of};
 ghost use Rattle.automata.specs.Layout.{arc_size, state_size};
-ghost use Rattle.table.specs.Answers.{lent, counts_as, judged_as, table_as};
+ghost use Rattle.table.specs.Answers.{counts_as, judged_as, memory, table_as};
 ghost use Rattle.intersect_room.specs.Room.{lent_space};
 ghost use Rattle.tapes_records.specs.Results.{Choosable};
 
 use pairs::is_tape;
-use table::answer::{Counts, Judged, Refusal, TableAnswer};
+use table::answer::{Counts, Refusal};
 use table::judge::judge;
 use table::layout::{ARC_SIZE, STATE_SIZE};
+use table::lent::Table;
 use tapes_records::choose::choose_arcs;
 use tapes_records::room::{copy_table, fits};
 
@@ -22,8 +23,8 @@ use tapes_records::room::{copy_table, fits};
 fn all_tapes(tapes: &[u8], count: usize) -> bool
     ensures { result ≡ all (is_tape count) tapes.now }
 {
-    for i in 0..tapes.len() {
-        if !is_tape(count, tapes[i]) {
+    for tape in tapes {
+        if !is_tape(count, *tape) {
             return false;
         }
     }
@@ -34,88 +35,66 @@ fn all_tapes(tapes: &[u8], count: usize) -> bool
 fn may_choose(tapes: &[u8], count: usize) -> bool
     ensures { result ≡ choosable tapes.now count }
 {
-    if tapes.len() < 1 {
-        return false;
-    }
-    all_tapes(tapes, count)
+    !tapes.is_empty() && all_tapes(tapes, count)
 }
 
 // The first refusal of the call: the table, how many tapes are chosen and which, the space lent to the result.
 fn judge_choice(
-    counts: Counts,
-    states: &[u8],
-    arcs: &[u8],
+    table: &Table,
     tapes: &[u8],
     lent_states: usize,
     lent_arcs: usize,
-) -> Judged
-    ensures { judged_as result ≡ forget (project_answer (lent counts states.now arcs.now)
+) -> Result<(), Refusal>
+    ensures { judged_as result ≡ forget (project_answer (memory table.now)
         tapes.now (lent_space lent_states lent_arcs)) }
 {
-    let judged = judge(counts, states, arcs);
-    let Judged::Fine = judged else {
-        return judged;
-    };
+    judge(table)?;
     if 8 < tapes.len() {
-        return Judged::Refused(Refusal::Width);
+        return Err(Refusal::Width);
     }
-    if !may_choose(tapes, counts.tapes) {
-        return Judged::Refused(Refusal::Tape);
+    if !may_choose(tapes, table.counts.tapes) {
+        return Err(Refusal::Tape);
     }
-    fits(counts.states, counts.arcs, lent_states, lent_arcs)
+    fits(
+        table.counts.states,
+        table.counts.arcs,
+        lent_states,
+        lent_arcs,
+    )
 }
 
 // The table copied into the result, and the tapes chosen there.
-fn choose_copy(
-    counts: Counts,
-    states: &[u8],
-    arcs: &[u8],
-    tapes: &[u8],
-    out_states: &mut [u8],
-    out_arcs: &mut [u8],
-) -> Counts
-    requires { Choosable (lent counts states.now arcs.now) tapes.now
-        × (state_size * counts.states ≤ length out_states.old)
-        × (arc_size * counts.arcs ≤ length out_arcs.old) }
+fn choose_copy(table: &Table, tapes: &[u8], out_states: &mut [u8], out_arcs: &mut [u8]) -> Counts
+    requires { Choosable (memory table.now) tapes.now
+        × (state_size * table.now.counts.states ≤ length out_states.old)
+        × (arc_size * table.now.counts.arcs ≤ length out_arcs.old) }
     ensures { made_of (ok (counts_as result)) out_states.new out_arcs.new
-        ≡ put (ok (projected tapes.now (table_of (lent counts states.now arcs.now))))
+        ≡ put (ok (projected tapes.now (table_of (memory table.now))))
         (slices_of out_states.old out_arcs.old) }
 {
-    copy_table(counts, states, arcs, out_states, 0, out_arcs, 0);
-    choose_arcs(counts.arcs, tapes, tapes.len(), out_arcs);
+    copy_table(table, out_states, 0, out_arcs, 0);
+    choose_arcs(table.counts.arcs, tapes, tapes.len(), out_arcs);
     Counts {
         tapes: tapes.len(),
-        states: counts.states,
-        arcs: counts.arcs,
+        ..table.counts
     }
 }
 
-// Choosing: the table in `states` and `arcs` on the tapes of a list, in its order and as often as listed, into
-// `out_states` and `out_arcs`.
+// Choosing: the table on the tapes of a list, in its order and as often as listed, into `out_states` and `out_arcs`.
 pub fn project(
-    counts: Counts,
-    states: &[u8],
-    arcs: &[u8],
+    table: &Table,
     tapes: &[u8],
     out_states: &mut [u8],
     out_arcs: &mut [u8],
-) -> TableAnswer
+) -> Result<Counts, Refusal>
     ensures { made_of (table_as result) out_states.new out_arcs.new
-        ≡ project_outcome (lent counts states.now arcs.now) tapes.now
-        (slices_of out_states.old out_arcs.old) }
+        ≡ project_outcome (memory table.now) tapes.now (slices_of out_states.old out_arcs.old) }
 {
-    let judged = judge_choice(
-        counts,
-        states,
-        arcs,
+    judge_choice(
+        table,
         tapes,
         out_states.len() / STATE_SIZE,
         out_arcs.len() / ARC_SIZE,
-    );
-    match judged {
-        Judged::Refused(why) => TableAnswer::Refused(why),
-        Judged::Fine => TableAnswer::Table(choose_copy(
-            counts, states, arcs, tapes, out_states, out_arcs,
-        )),
-    }
+    )?;
+    Ok(choose_copy(table, tapes, out_states, out_arcs))
 }

@@ -1,5 +1,5 @@
 -- The space of a result: what fits it, and the records of a table copied into it.
-use Prim.Native.Nat.{ℕ, ◌-◌, ◌*◌, ◌≤◌, ◌<◌}
+use Prim.Native.Nat.{ℕ, ◌*◌, ◌≤◌, ◌<◌}
 use mathlib.Core.Path.{◌≡◌, refl, sym, ap, ◌∙◌}
 use mathlib.Core.Bool.{Bool, true, false}
 use mathlib.Core.List.{List}
@@ -21,10 +21,6 @@ use Rattle.automata.proofs.MemoryFacts.{length_encode_states, length_encode_arcs
 use Rattle.automata.proofs.CallFacts.{put-ok}
 use Rattle.automata.specs.Layout.{arc_size, state_size}
 use Rattle.table.specs.Region.{splice}
-use Rattle.table.specs.Answers.{judged_as, refusal_number}
-use Rattle.table.specs.declared.answer.Refusal.{Refusal}
-use Rattle.table.specs.declared.answer.Judged.{Judged}
-use Rattle.table.specs.declared.answer.Judged.TheVariants.{Refused}
 use Rattle.table.proofs.SoundFacts.{states_lent, arcs_lent}
 use Rattle.table.proofs.RegionFacts.{splice_front, splice-twice}
 use Rattle.tapes_records.specs.Results.{fitting, Copies, Copied}
@@ -37,11 +33,8 @@ forget-refused (ok v) n e = absurd (refused≢ok (sym e))
 forget-refused (refused k) n e = let i : k ≡ n = cc in ap refused i
 
 -- what is refused is refused whatever would come next
-pub next-refused : {A B : Type 0} (a : Answer A) (f : A → Answer B) (j : Judged) (why : Refusal) → judged_as j ≡ forget a → j ≡ Refused why → judged_as j ≡ forget (a >>= f)
-next-refused a f j why e h =
-    let n = refusal_number why in
-    let r : a ≡ refused n = forget-refused a n (sym e ∙ ap judged_as h) in
-    ap judged_as h ∙ ap (λ x. forget (x >>= f)) (sym r)
+pub next-refused : {A B : Type 0} (a : Answer A) (f : A → Answer B) (n : ℕ) → refused n ≡ forget a → refused n ≡ forget (a >>= f)
+next-refused a f n e = let r = forget-refused a n (sym e) in ap (λ x. forget (x >>= f)) (sym r)
 
 -- ---- the space lent
 
@@ -76,17 +69,6 @@ fitted_counts space A = go (leb (length A.states) (state_cap space)) (leb (lengt
 -- a table that was judged may be copied to where it fits
 pub copy_ready : (m : Memory) → Sound m → (states arcs : ℕ) → state_size * m.states ≤ states → arc_size * m.arcs ≤ arcs → Copies m 0 0 states arcs
 copy_ready m s states arcs e f = record { states_lent = states_lent m s; arcs_lent = arcs_lent m s; states_fit = omega (arith, e); arcs_fit = omega (arith, f) }
-
--- what the copying calls leave
-pub table_copied : (m : Memory) (state_at arc_at : ℕ) (old_states old_arcs new_states new_arcs : List ℕ) → new_states ≡ splice state_at (take (state_size * m.states - 0) (drop 0 m.state_bytes)) old_states
-    → new_arcs ≡ splice arc_at (take (arc_size * m.arcs - 0) (drop 0 m.arc_bytes)) old_arcs → Copied m state_at arc_at old_states old_arcs new_states new_arcs
-table_copied m state_at arc_at old_states old_arcs new_states new_arcs e f =
-    let s : state_size * m.states - 0 ≡ m.states * state_size = omega arith in
-    let a : arc_size * m.arcs - 0 ≡ m.arcs * arc_size = omega arith in
-    record {
-      states = e ∙ ap (λ (n : ℕ). splice state_at (take n m.state_bytes) old_states) s;
-      arcs = f ∙ ap (λ (n : ℕ). splice arc_at (take n m.arc_bytes) old_arcs) a;
-    }
 
 -- bytes over the front of bytes of the same length
 over-twice : (x y old : List ℕ) → length x ≡ length y → length y ≤ length old → overwrite x (splice 0 y old) ≡ overwrite x old

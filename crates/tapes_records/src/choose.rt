@@ -16,7 +16,7 @@ fn label_place(tape: u8) -> usize
     requires { (1 ≤ tape) × (tape ≤ 8) }
     ensures { (result ≡ label_size * (tape - 1)) × (result ≤ 63) }
 {
-    LABEL_SIZE * (tape as usize - 1)
+    LABEL_SIZE * (usize::from(tape) - 1)
 }
 
 // The labels on the first `used` tapes of a list, one after the other over the front of `out`.
@@ -25,15 +25,9 @@ fn copy_labels(labels: &[u8], tapes: &[u8], used: usize, out: &mut [u8])
     ensures { out.new ≡ splice 0 (chosen_labels (take used tapes.now) labels.now)
         out.old }
 {
-    let mut left = used;
-    let mut k: usize = 0;
-    let mut to: usize = 0;
-    while 0 < left {
-        let from = label_place(tapes[k]);
-        copy_into(out, to, &labels[from..from + LABEL_SIZE]);
-        k += 1;
-        to += LABEL_SIZE;
-        left -= 1;
+    for (k, tape) in tapes[..used].iter().enumerate() {
+        let from = label_place(*tape);
+        copy_into(out, LABEL_SIZE * k, &labels[from..from + LABEL_SIZE]);
     }
 }
 
@@ -43,7 +37,7 @@ fn labels_at(arcs: &[u8], at: usize, tapes: &[u8], used: usize) -> [u8; LABELS_S
     ensures { result ≡ splice 0 (chosen_labels (take used tapes.now)
         (part (labels_start at) labels_size arcs.now)) (zeros labels_size) }
 {
-    let mut labels = [0u8; LABELS_SIZE];
+    let mut labels = [0; LABELS_SIZE];
     let from = labels_start(at);
     copy_labels(&arcs[from..from + LABELS_SIZE], tapes, used, &mut labels);
     labels
@@ -65,11 +59,7 @@ pub fn choose_arcs(count: usize, tapes: &[u8], used: usize, arcs: &mut [u8])
     ensures { arcs.new ≡ splice 0 (rewritten (chosen_arc (take used tapes.now)) count
         arcs.old) arcs.old }
 {
-    let mut left = count;
-    let mut at: usize = 0;
-    while 0 < left {
-        choose_arc(arcs, at, tapes, used);
-        at += ARC_SIZE;
-        left -= 1;
+    for i in 0..count {
+        choose_arc(arcs, ARC_SIZE * i, tapes, used);
     }
 }

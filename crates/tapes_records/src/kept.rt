@@ -11,10 +11,11 @@ fn keep_place(mask: u8, place: usize, kept: &mut [u8], used: usize) -> usize
         × (result ≡ used + length (tape_left (in_mask mask place) place)) × (result ≤ used + 1) }
 {
     if (mask >> place) % 2 == 1 {
-        return used;
+        used
+    } else {
+        kept[used] = place as u8 + 1;
+        used + 1
     }
-    kept[used] = place as u8 + 1;
-    used + 1
 }
 
 // The tapes of so many that the mask does not mark, over the front of `kept`. Answers how many they are.
@@ -23,13 +24,9 @@ pub fn tapes_left(mask: u8, tapes: usize, kept: &mut [u8]) -> usize
     ensures { (kept.new ≡ splice 0 (tapes_left (in_mask mask) 0 tapes) kept.old)
         × (result ≡ length (tapes_left (in_mask mask) 0 tapes)) }
 {
-    let mut left = tapes;
-    let mut place: usize = 0;
-    let mut used: usize = 0;
-    while 0 < left {
+    let mut used = 0;
+    for place in 0..tapes {
         used = keep_place(mask, place, kept, used);
-        place += 1;
-        left -= 1;
     }
     used
 }

@@ -26,11 +26,7 @@ pub fn raise_arcs(arcs: &mut [u8], from: usize, count: usize, by: u16)
     ensures { arcs.new ≡ splice from (rewritten (raised_arc by) count (drop from arcs.old))
         arcs.old }
 {
-    let mut left = count;
-    let mut at = from;
-    while 0 < left {
-        raise_arc(arcs, at, by);
-        at += ARC_SIZE;
-        left -= 1;
+    for i in 0..count {
+        raise_arc(arcs, from + ARC_SIZE * i, by);
     }
 }

@@ -25,19 +25,14 @@ use Rattle.automata.proofs.CallFacts.{put-ok, put_refused}
 use Rattle.automata.specs.Layout.{arc_size, state_size, amount_width, arc_width, header_width, label_width, labels_column, newline, number_width, state_end, state_width, weight_column}
 use Rattle.table.specs.Region.{splice}
 use Rattle.table.specs.Endian.{to_le}
-use Rattle.table.specs.Answers.{refusal_number, table_as}
 use Rattle.table.proofs.RegionFacts.{splice_front}
+use Rattle.table.specs.Answers.{counts_as}
 use Rattle.table.specs.declared.answer.Counts.{Counts}
-use Rattle.table.specs.declared.answer.Refusal.{Refusal}
-use Rattle.table.specs.declared.answer.TableAnswer.{TableAnswer}
-use Rattle.text_lines.specs.Lines.{header_as, read_counts, read_state_line, read_arc_line}
-use Rattle.text_lines.specs.declared.header.HeaderLine.{HeaderLine}
-use Rattle.text_lines.specs.declared.header.HeaderLine.TheVariants as header
+use Rattle.text_lines.specs.Lines.{read_counts, read_state_line, read_arc_line}
 use Rattle.text_columns.specs.Columns.{columns_value, read_state_number, read_present, read_weight, labels_read}
 use Rattle.text_columns.proofs.ValueFacts.{state_value, present_value, weight_value}
 use Rattle.text_lines.proofs.LineFacts.{state_of, state_parts, state-line_is}
 use Rattle.text_lines.proofs.ArcFacts.{arc_of, arc_fields, line_is}
-use Rattle.text.specs.Answers.{counts_answer}
 use Rattle.text_store.specs.Recode.{recoded}
 use Rattle.text_store.specs.Stored.{state_of_line, label_of_columns, number_bytes, arc_of_line}
 use Rattle.text_store.proofs.RecodeFacts.{recoded_take, recoded_many, recoded-copies}
@@ -208,20 +203,19 @@ made_stored x xs ys us vs A r p q =
     let v : vs ≡ overwrite (encode_arcs A) ys = q ∙ ap (λ (z : List ℕ). splice 0 z ys) w.1 ∙ splice_front (encode_arcs A) ys in
     ap₂ (λ (y z : List ℕ). made_of (ok (counts_of A)) y z) u v ∙ sym (put-ok (slices_of xs ys) A) ∙ ap (λ (z : Answer (Automaton ℕ)). put z (slices_of xs ys)) (sym r)
 
-module _ (x xs ys : List ℕ) (h : HeaderLine) (e : header_as h ≡ read_counts (length xs / state_size) (length ys / arc_size) x)
-    (a : TableAnswer) (b : table_as a ≡ counts_answer (header_as h)) where
-  pub read_refused : (k : Refusal) → h ≡ header.Refused k → made_of (table_as a) xs ys ≡ read_outcome x (slices_of xs ys)
+module _ (x xs ys : List ℕ) where
+  pub read_refused : (k : ℕ) → refused k ≡ read_counts (length xs / state_size) (length ys / arc_size) x → made_of (refused k) xs ys ≡ read_outcome x (slices_of xs ys)
   unfolding read_outcome read_answer read_counts
-  read_refused k f =
-      let r = counts_refused (read_table (length xs / state_size) (length ys / arc_size) x) (refusal_number k) (sym e ∙ ap header_as f) in
-      rw (b, f, r) (sym (put_refused (slices_of xs ys) (refusal_number k)))
+  read_refused k e =
+      let r = counts_refused (read_table (length xs / state_size) (length ys / arc_size) x) k (sym e) in
+      rw r (sym (put_refused (slices_of xs ys) k))
 
-  module _ (c : Counts) (f : h ≡ header.Counts c) where
+  module _ (c : Counts) (e : ok (c.tapes, (c.states, c.arcs)) ≡ read_counts (length xs / state_size) (length ys / arc_size) x) where
     -- the table, by its counts
     table_read : (A : Automaton ℕ) × (read_table (length xs / state_size) (length ys / arc_size) x ≡ ok A) × (A.tapes ≡ c.tapes) × (length A.states ≡ c.states) × (length A.arcs ≡ c.arcs)
     unfolding read_counts
     table_read =
-        let r = bind_ok (read_table (length xs / state_size) (length ys / arc_size) x) counts_at (c.tapes, (c.states, c.arcs)) (sym e ∙ ap header_as f) in
+        let r = bind_ok (read_table (length xs / state_size) (length ys / arc_size) x) counts_at (c.tapes, (c.states, c.arcs)) (sym e) in
         let q : ◌≡◌ {A = ℕ × (ℕ × ℕ)} (r.0.tapes, (length r.0.states, length r.0.arcs)) (c.tapes, (c.states, c.arcs)) = cc r.2 in
         (r.0, r.1, ap (λ (p : ℕ × (ℕ × ℕ)). p.0) q, ap (λ (p : ℕ × (ℕ × ℕ)). p.1.0) q, ap (λ (p : ℕ × (ℕ × ℕ)). p.1.1) q)
 
@@ -246,13 +240,12 @@ module _ (x xs ys : List ℕ) (h : HeaderLine) (e : header_as h ≡ read_counts 
 
     pub read_stored : (us vs : List ℕ) → us ≡ splice 0 (recoded state_of_line state_width c.states (drop header_width x)) xs
         → vs ≡ splice 0 (recoded (arc_of_line c.tapes) (arc_width + c.tapes * label_width) c.arcs (drop (header_width + c.states * state_width) x)) ys
-        → made_of (table_as a) us vs ≡ read_outcome x (slices_of xs ys)
+        → made_of (ok (counts_as c)) us vs ≡ read_outcome x (slices_of xs ys)
     read_stored us vs p q =
         let t = table_read in
         let F : ℕ → ℕ → ℕ → List ℕ = λ k j i. splice 0 (recoded (arc_of_line k) (arc_width + k * label_width) i (drop (header_width + j * state_width) x)) ys in
-        let e : table_as a ≡ ok (record { tapes = c.tapes; states = c.states; arcs = c.arcs }) = b ∙ ap (λ (z : HeaderLine). counts_answer (header_as z)) f in
         let g : ◌≡◌ {A = Answer TableCounts} (ok (record { tapes = c.tapes; states = c.states; arcs = c.arcs })) (ok (counts_of t.0)) =
         sym (ap₂ (λ (k : ℕ) (l : ℕ × ℕ). ok (record { tapes = k; states = l.0; arcs = l.1 })) t.2 (ap₂ {C = ℕ × ℕ} (λ (k j : ℕ). (k, j)) t.3 t.4)) in
-        ap (λ (z : Answer TableCounts). made_of z us vs) (e ∙ g)
+        ap (λ (z : Answer TableCounts). made_of z us vs) g
         ∙ made_stored x xs ys us vs t.0 t.1 (p ∙ ap (λ (k : ℕ). splice 0 (recoded state_of_line state_width k (drop header_width x)) xs) (sym t.3))
         (q ∙ ap₂ (λ (k j : ℕ). F k j c.arcs) (sym t.2) (sym t.3) ∙ ap (λ (i : ℕ). F t.0.tapes (length t.0.states) i) (sym t.4))

@@ -15,13 +15,8 @@ use Rattle.automata.proofs.AnswerFacts.{refused≢ok}
 use Rattle.automata.proofs.SoundFacts.{sound, sound_decoded, sound_holds, sound_well_formed}
 use Rattle.automata.proofs.TextFacts.{length_write_table}
 use Rattle.automata.specs.Layout.{arc_width, header_width, label_width, state_width}
-use Rattle.table.specs.Answers.{refusal_number, judged_as}
-use Rattle.table.specs.declared.answer.Refusal.{Refusal}
-use Rattle.table.specs.declared.answer.Judged.{Judged}
-use Rattle.table.specs.declared.answer.Judged.TheVariants as judged
 use Rattle.table.proofs.AnswerFacts.{forget-ok}
-use Rattle.text.specs.declared.WriteAnswer.{WriteAnswer}
-use Rattle.text.specs.Answers.{written_as, refused_by, written_of}
+use Rattle.text.specs.Answers.{written_of}
 
 -- the length of n states and m arcs, of t tapes, in range
 pub text_fits : (t n m : ℕ) → t ≤ 8 → n ≤ 1024 → m ≤ 8192 → m * (arc_width + t * label_width) ≤ 8192 * (arc_width + 8 * label_width)
@@ -32,8 +27,8 @@ refused_same (ok a) k e = absurd (refused≢ok (sym e))
 refused_same (refused j) k e = let q : j ≡ k = cc in ap refused q
 
 -- a table that was judged and is fine
-pub judged_sound : (m : Memory) (j : Judged) → judged_as j ≡ forget (decode_table m) → j ≡ judged.Fine → Sound m
-judged_sound m j e f = let a = forget-ok (decode_table m) (sym e ∙ ap judged_as f) in sound m a.0 a.1
+pub judged_sound : (m : Memory) → ok tt ≡ forget (decode_table m) → Sound m
+judged_sound m e = let a = forget-ok (decode_table m) (sym e) in sound m a.0 a.1
 
 -- its text has the length that its counts say
 pub text_length : (m : Memory) → Sound m → length (write_table (table_of m)) ≡ header_width + m.states * state_width + m.arcs * (arc_width + m.tapes * label_width)
@@ -42,12 +37,9 @@ text_length m s =
     length_write_table (table_of m) (sound_well_formed m s) ∙ rw (← h.tapes, ← h.states, ← h.arcs)
 
 module _ (m : Memory) (out : List ℕ) where
-  pub write_refused : (j : Judged) (k : Refusal) (a : WriteAnswer) → judged_as j ≡ forget (decode_table m) → j ≡ judged.Refused k → written_as a ≡ refused_by (judged_as j)
-      → written_of (written_as a) out ≡ write_outcome m out
+  pub write_refused : (k : ℕ) → refused k ≡ forget (decode_table m) → written_of (refused k) out ≡ write_outcome m out
   unfolding write_outcome write_answer print
-  write_refused j k a e f g =
-      let d : decode_table m ≡ refused (refusal_number k) = refused_same (decode_table m) (refusal_number k) (sym e ∙ ap judged_as f) in
-      rw (g, f, d)
+  write_refused k e = let d : decode_table m ≡ refused k = refused_same (decode_table m) k (sym e) in rw d
 
   module _ (s : Sound m) where
     pub write_short : length out < header_width + m.states * state_width + m.arcs * (arc_width + m.tapes * label_width) → written_of (refused 13) out ≡ write_outcome m out

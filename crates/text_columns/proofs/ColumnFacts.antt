@@ -1,52 +1,17 @@
 -- Facts of the columns of a decimal number, read from the left.
 use mathlib.Core.Path.{◌≡◌, refl, sym, ap, ◌∙◌}
-use mathlib.Core.Bool.{Bool, true, false}
 use mathlib.Core.List.{List, [], ◌∷◌, ◌++◌}
 use Prim.Native.Nat.{ℕ, zero, suc, ◌+◌, ◌-◌, ◌*◌, ◌%◌, ◌^◌, ◌≤◌, ◌<◌}
 use native.Mathlib.Omega.{arith}
 use native.Mathlib.Numerals.{add-one}
 use native.Mathlib.Nat.{pow-suc, pow-le-pow_right}
-use lib.Dec.{leb, eqb, lit<}
+use lib.Dec.{lit<}
 use lib.ListN.{length, take, drop, get_or, drop_of_length-le}
 use lib.Seq.{drop-cons, take-suc, take_all, length-take-le}
-use borrow.Author.Tests.{ne_eqb, le-leb, leb-true}
-use Rattle.automata.specs.Lists.{and, if}
-use Rattle.automata.specs.Answer.{◌>>=◌, Answer, ok, refused, check, beside}
-use Rattle.automata.specs.Refusal.{form}
-use Rattle.automata.specs.Symbols.{is_digit}
-use Rattle.automata.specs.Decimal.{with_digit, leading_column, leading, decimal}
-use Rattle.automata.proofs.TestFacts.{and_true}
+use Rattle.automata.specs.Answer.{◌>>=◌, Answer, ok, refused, beside}
+use Rattle.automata.specs.Decimal.{leading_column, leading, decimal}
 use Rattle.automata.proofs.NumberFacts.{leading_column-only}
-use Rattle.table.specs.declared.answer.Refusal.{Refusal}
-use Rattle.text_columns.specs.declared.decimal.Number.{Number}
-use Rattle.text_columns.specs.declared.decimal.Number.TheVariants.{Refused}
-use Rattle.text_columns.specs.Columns.{number_as, last_column, read_decimal, columns_value}
-
--- ---- one column
-
-pub digit-from : (c : ℕ) → is_digit c ≡ true → 48 ≤ c
-digit-from c e = leb-true 48 c (and_true (leb 48 c) (leb c 57) e).0
-
-not_blank : (c : ℕ) → is_digit c ≡ true → eqb c 32 ≡ false
-not_blank c e = ne_eqb c 32 (λ f. omega (arith, digit-from c e))
-
-module _ (n c m : ℕ) (t : is_digit c ≡ true) (v : m ≡ with_digit n c) where
-  pub column_digit : (m ≡ 0 → ⊥) → ok m ≡ leading_column (n, c)
-  column_digit z = rw (not_blank c t, t, ← v, le-leb 1 m (omega arith))
-
-  pub column_zero : m ≡ 0 → refused form ≡ leading_column (n, c)
-  column_zero z = rw (not_blank c t, t, ← v, z)
-
-module _ (n c : ℕ) (f : is_digit c ≡ false) where
-  pub column_other : (c ≡ 32 → ⊥) → refused form ≡ leading_column (n, c)
-  column_other h = rw (ne_eqb c 32 h, f)
-
-  pub column_late : (n ≡ 0 → ⊥) → refused form ≡ leading_column (n, c)
-  column_late h = rw (ne_eqb n 0 h, f) (go (eqb c 32))
-    where
-      go : (b : Bool) → refused form ≡ if (and b false) (ok 0) (check false form (with_digit n c))
-      go true = refl
-      go false = refl
+use Rattle.text_columns.specs.Columns.{last_column, read_decimal, columns_value}
 
 -- ---- the columns before the last, read from the left
 
@@ -134,8 +99,8 @@ module _ (x : List ℕ) (i n : ℕ) where
   pub number-next : (m : ℕ) → i + 1 < length x → ok m ≡ leading_column (n, get_or x i 0) → scan_number m (drop (i + 1) x) ≡ scan_number n (drop i x)
   number-next m h e = sym (number_turn h ∙ rw (← e))
 
-  pub number-refused : (r : Number) (k : Refusal) → i + 1 < length x → number_as r ≡ leading_column (n, get_or x i 0) → r ≡ Refused k → number_as r ≡ scan_number n (drop i x)
-  number-refused r k h e f = sym (number_turn h ∙ rw (← e, f))
+  pub number-refused : (k : ℕ) → i + 1 < length x → refused k ≡ leading_column (n, get_or x i 0) → refused k ≡ scan_number n (drop i x)
+  number-refused k h e = sym (number_turn h ∙ rw (← e))
 
 -- the last column, where the loop ends
 pub number-last_at : (x : List ℕ) (i last n : ℕ) → i ≡ last → last + 1 ≡ length x → last_column n (get_or x last 0) ≡ scan_number n (drop i x)
@@ -143,9 +108,6 @@ number-last_at x i last n e h = rw e (number-last x last n h)
 
 pub column_bound : (i n c m : ℕ) → n < 10 ^ i → ok m ≡ leading_column (n, c) → m < 10 ^ (i + 1)
 column_bound i n c m h e = rw (add-one i) (leading_column-only i (n, c) m h (sym e)).0
-
-pub nine_digits : (i n : ℕ) → n < 10 ^ i → i ≤ 9 → n < 1000000000
-nine_digits i n h k = let p : 10 ^ i ≤ 10 ^ 9 = pow-le-pow_right (lit< tt) k in omega arith
 
 -- ---- columns that were judged, in a loop
 module _ (x : List ℕ) (i n : ℕ) where

@@ -16,13 +16,9 @@ use Rattle.automata.specs.Decimal.{decimal}
 use Rattle.automata.specs.Symbols.{is_symbol}
 use Rattle.automata.specs.TableText.{after_blanks}
 use Rattle.automata.specs.Layout.{label_width}
-use Rattle.table.specs.Answers.{judged_as}
+use Rattle.table.specs.Answers.{Judged, judged_as}
 use Rattle.table.proofs.AnswerFacts.{beside-next, beside_first, beside-last}
-use Rattle.table.specs.declared.answer.Refusal.{Refusal}
-use Rattle.text_columns.specs.declared.decimal.Number.{Number}
-use Rattle.text_columns.specs.declared.decimal.Number.TheVariants.{Value, Refused}
-use Rattle.table.specs.declared.answer.Judged.{Judged}
-use Rattle.text_columns.specs.Columns.{number_as, read_decimal, read_state_number, blank_count, may_follow, follow_from, label_fits, read_label, labels_read}
+use Rattle.text_columns.specs.Columns.{read_decimal, read_state_number, blank_count, may_follow, follow_from, label_fits, read_label, labels_read}
 
 -- ---- the number of a state
 module _ (states : ℕ) (x : List ℕ) (l : length x ≡ 6) where
@@ -30,14 +26,14 @@ module _ (states : ℕ) (x : List ℕ) (l : length x ≡ 6) where
   unfolding read_state_number read_decimal
   number_is = sym (ap (λ (k : ℕ). (decimal k).read x >>= λ q. check (ltb q states) 4 q) l)
 
-  pub number-refused : (r : Number) (k : Refusal) → number_as r ≡ read_decimal x → r ≡ Refused k → number_as r ≡ read_state_number states x
-  number-refused r k e f = sym (number_is ∙ rw (← e, f))
+  pub number-refused : (k : ℕ) → refused k ≡ read_decimal x → refused k ≡ read_state_number states x
+  number-refused k e = sym (number_is ∙ rw (← e))
 
-  pub number_beyond : (r : Number) (n : ℕ) → number_as r ≡ read_decimal x → r ≡ Value n → states ≤ n → refused 4 ≡ read_state_number states x
-  number_beyond r n e f h = sym (number_is ∙ rw (← e, f, le-ltb n states h))
+  pub number_beyond : (n : ℕ) → ok n ≡ read_decimal x → states ≤ n → refused 4 ≡ read_state_number states x
+  number_beyond n e h = sym (number_is ∙ rw (← e, le-ltb n states h))
 
-  pub number-within : (r : Number) (n : ℕ) → number_as r ≡ read_decimal x → r ≡ Value n → n < states → ok n ≡ read_state_number states x
-  number-within r n e f h = sym (number_is ∙ rw (← e, f, lt-ltb n states h))
+  pub number-within : (n : ℕ) → ok n ≡ read_decimal x → n < states → ok n ≡ read_state_number states x
+  number-within n e h = sym (number_is ∙ rw (← e, lt-ltb n states h))
 
 -- ---- a label
 

@@ -11,19 +11,25 @@ use lib.ListN.{length, take, drop, get_or, replicate, drop_of_length-le}
 use lib.Seq.{drop-cons}
 use borrow.Author.Tests.{le-leb, lt-leb, eqb-true}
 use Rattle.automata.specs.Lists.{if, and, same_list}
-use Rattle.automata.specs.Answer.{◌>>=◌, Answer, ok, refused, check, forget}
+use Rattle.automata.specs.Answer.{◌>>=◌, ok, refused, check, forget}
 use Rattle.automata.specs.Decimal.{decimal}
 use Rattle.automata.specs.TableText.{absent}
 use Rattle.automata.proofs.TestFacts.{T_false, same_list→eq}
 use Rattle.automata.proofs.AnswerFacts.{forget_map}
 use Rattle.automata.specs.Layout.{amount_width}
-use Rattle.table.specs.declared.answer.Refusal.{Refusal}
-use Rattle.text_columns.specs.declared.decimal.Number.{Number}
-use Rattle.text_columns.specs.declared.decimal.Number.TheVariants.{Value, Refused}
-use Rattle.text_columns.specs.Columns.{number_as, read_decimal, one_if, blank_count, absent_mark, read_present, read_weight}
+use Rattle.std.specs.Prelude.{Ok, Err}
+use Rattle.std.specs.Result.{result_and}
+use Rattle.table.specs.Answers.{judged_as}
+use Rattle.std.specs.Int.{from_bool}
+use Rattle.text_columns.specs.Columns.{Number, number_as, read_decimal, blank_count, absent_mark, read_present, read_weight}
 use Rattle.text_columns.proofs.ColumnFacts.{snoc_of}
 
 -- ---- blanks, counted from the left
+
+-- a test counts as one, or not
+pub flag_bound : (b : Bool) (n : ℕ) → n ≡ from_bool b → n ≤ 1
+flag_bound true n e = omega arith
+flag_bound false n e = omega arith
 
 -- the blanks from place i on, where there were only blanks before
 abbrev pub blanks_from : Bool → ℕ → List ℕ → ℕ
@@ -31,11 +37,11 @@ blanks_from blank i x = if blank (blank_count (drop i x)) 0
 
 module _ (x : List ℕ) (i n : ℕ) where
   -- one column more
-  pub blanks_turn : (b : Bool) (m : ℕ) → i < length x → m ≡ one_if (and b (eqb (get_or x i 0) 32)) → n + m + blanks_from (and b (eqb (get_or x i 0) 32)) (i + 1) x ≡ n + blanks_from b i x
+  pub blanks_turn : (b : Bool) (m : ℕ) → i < length x → m ≡ from_bool (and b (eqb (get_or x i 0) 32)) → n + m + blanks_from (and b (eqb (get_or x i 0) 32)) (i + 1) x ≡ n + blanks_from b i x
   unfolding blank_count
   blanks_turn b m h f = rw (f, drop-cons x i 0 h, add-one i) (go b (eqb (get_or x i 0) 32))
     where
-      go : (b e : Bool) → n + one_if (and b e) + if (and b e) (blank_count (drop (suc i) x)) 0 ≡ n + if b (if e (suc (blank_count (drop (suc i) x))) 0) 0
+      go : (b e : Bool) → n + from_bool (and b e) + if (and b e) (blank_count (drop (suc i) x)) 0 ≡ n + if b (if e (suc (blank_count (drop (suc i) x))) 0) 0
       go true true = omega arith
       go true false = omega arith
       go false e = omega arith
@@ -81,16 +87,22 @@ module _ (x : List ℕ) (l : length x ≡ amount_width) where
   unfolding read_present read_decimal
   present_is = sym (ap (λ (k : ℕ). (decimal k).read x >>= λ a. check (leb a 999999999) 3 a) l)
 
-  pub present_refused : (r : Number) (k : Refusal) → number_as r ≡ read_decimal x → r ≡ Refused k → number_as r ≡ read_present x
-  present_refused r k e f = sym (present_is ∙ rw (← e, f))
+  pub present_refused : (k : ℕ) → refused k ≡ read_decimal x → refused k ≡ read_present x
+  present_refused k e = sym (present_is ∙ rw (← e))
 
-  pub present_size : (r : Number) (n : ℕ) → number_as r ≡ read_decimal x → r ≡ Value n → 999999999 < n → refused 3 ≡ read_present x
-  present_size r n e f h = sym (present_is ∙ rw (← e, f, lt-leb n 999999999 h))
+  pub present_size : (n : ℕ) → ok n ≡ read_decimal x → 999999999 < n → refused 3 ≡ read_present x
+  present_size n e h = sym (present_is ∙ rw (← e, lt-leb n 999999999 h))
 
-  pub present_value : (r : Number) (n : ℕ) → number_as r ≡ read_decimal x → r ≡ Value n → n ≤ 999999999 → ok n ≡ read_present x
-  present_value r n e f h = sym (present_is ∙ rw (← e, f, le-leb n 999999999 h))
+  pub present_value : (n : ℕ) → ok n ≡ read_decimal x → n ≤ 999999999 → ok n ≡ read_present x
+  present_value n e h = sym (present_is ∙ rw (← e, le-leb n 999999999 h))
 
 -- ---- a weight that may be absent
+
+-- a number that is forgotten leaves its refusal
+pub judged_and : (r : Number) → judged_as (result_and r (Ok tt)) ≡ forget (number_as r)
+judged_and (Ok n) = refl
+judged_and (Err k) = refl
+
 module _ (x : List ℕ) where
   pub weight_is : read_weight x ≡ if (absent_mark x) (ok none) (read_present x >>= λ a. ok (some a))
   unfolding read_weight absent_mark read_present
@@ -99,5 +111,5 @@ module _ (x : List ℕ) where
   pub weight-absent : absent_mark x ≡ true → ok tt ≡ forget (read_weight x)
   weight-absent e = sym (ap forget weight_is ∙ rw e)
 
-  pub weight_judged : (r : Number) (j : Answer (Unit {0})) → absent_mark x ≡ false → number_as r ≡ read_present x → j ≡ forget (number_as r) → j ≡ forget (read_weight x)
-  weight_judged r j e f g = g ∙ rw f (sym (ap forget weight_is ∙ rw e (forget_map (read_present x) some)))
+  pub weight_judged : (r : Number) → absent_mark x ≡ false → number_as r ≡ read_present x → judged_as (result_and r (Ok tt)) ≡ forget (read_weight x)
+  weight_judged r e f = judged_and r ∙ rw f (sym (ap forget weight_is ∙ rw e (forget_map (read_present x) some)))

@@ -1,5 +1,5 @@
 -- What the answers of a column stand for, and what a list holds that is a column.
-use Rattle.std.specs.Prelude.{Bool, true, List, [], ◌∷◌, ℕ, suc, ◌+◌, ◌*◌, ◌%◌, eqb, length, drop, get_or}
+use Rattle.std.specs.Prelude.{Result, Ok, Err, Bool, true, List, [], ◌∷◌, ℕ, suc, ◌+◌, ◌*◌, ◌%◌, eqb, length, drop, get_or}
 use Rattle.std.proofs.Math.Option.{Option, none, some}
 use Rattle.automata.specs.Lists.{if, and, or, same_list}
 use Rattle.automata.specs.Answer.{Answer, ok, refused, check}
@@ -11,20 +11,18 @@ use Rattle.automata.specs.TableFormat.{weight_number, state_number}
 use Rattle.automata.specs.TableText.{absent, weight_columns, label_columns}
 use Rattle.automata.specs.Layout.{amount_width, number_width}
 use Rattle.table.specs.Answers.{refusal_number}
-use Rattle.text_columns.specs.declared.decimal.Number.{Number}
-use Rattle.text_columns.specs.declared.decimal.Number.TheVariants.{Value, Refused}
+use Rattle.table.specs.declared.answer.Refusal.{Refusal}
 
 -- ---- decimal numbers
 
--- a number, or a refusal
-abbrev pub number_as : Number → Answer ℕ
-number_as (Value n) = ok n
-number_as (Refused r) = refused (refusal_number r)
+-- a number read from its columns, or a refusal
+abbrev pub Number : Type 0
+Number = Result ℕ Refusal
 
--- the number alone, 0 where it is refused
-abbrev pub number_of : Number → ℕ
-number_of (Value n) = n
-number_of (Refused r) = 0
+-- what it stands for: the number, or the number of the refusal
+abbrev pub number_as : Number → Answer ℕ
+number_as (Ok n) = ok n
+number_as (Err r) = refused (refusal_number r)
 
 -- the last column of a decimal number
 abbrev pub last_column : ℕ → ℕ → Answer ℕ
@@ -56,10 +54,6 @@ abbrev pub leading_byte : ℕ → ℕ
 leading_byte n = if (eqb n 0) blank (48 + n % 10)
 
 -- ---- weights
-
--- a test as a number
-abbrev pub one_if : Bool → ℕ
-one_if b = if b 1 0
 
 -- how many blanks a list starts with
 unfoldable pub blank_count : List ℕ → ℕ

@@ -6,7 +6,7 @@ ghost use Rattle.automata.specs.Layout.{label_width, newline};
 ghost use Rattle.table.specs.Answers.{judged_as};
 ghost use Rattle.text_columns.specs.Columns.{may_follow, label_fits, read_label, labels_read};
 
-use table::answer::{Judged, Refusal, both};
+use table::answer::{Refusal, both};
 use table::layout::{LABEL_WIDTH, NEWLINE};
 use table::symbol::is_symbol;
 
@@ -24,44 +24,43 @@ fn label_fits(column: &[u8]) -> bool
 {
     let mut fits = column[0] == 32;
     for i in 1..LABEL_WIDTH {
-        fits = fits & may_follow(column[i - 1], column[i]);
+        fits &= may_follow(column[i - 1], column[i]);
     }
     fits
 }
 
 // The columns of a label, judged.
-fn judge_label_column(column: &[u8]) -> Judged
+fn judge_label_column(column: &[u8]) -> Result<(), Refusal>
     requires { length column.now ≡ label_width }
     ensures { judged_as result ≡ forget (read_label column.now) }
 {
     if label_fits(column) {
-        return Judged::Fine;
+        Ok(())
+    } else {
+        Err(Refusal::Form)
     }
-    Judged::Refused(Refusal::Form)
 }
 
 // The labels of an arc on so many tapes.
-pub fn judge_label_columns(labels: &[u8], tapes: usize) -> Judged
+pub fn judge_label_columns(labels: &[u8], tapes: usize) -> Result<(), Refusal>
     requires { length labels.now ≡ tapes * label_width }
     ensures { judged_as result ≡ forget (labels_read tapes labels.now) }
 {
-    let mut judged = Judged::Fine;
-    let mut left = tapes;
-    let mut at = 0;
-    while 0 < left {
+    let mut judged = Ok(());
+    for tape in 0..tapes {
+        let at = LABEL_WIDTH * tape;
         judged = both(judged, judge_label_column(&labels[at..at + LABEL_WIDTH]));
-        left -= 1;
-        at += LABEL_WIDTH;
     }
     judged
 }
 
 // The byte that ends a line.
-pub fn line_end(c: u8) -> Judged
+pub fn line_end(c: u8) -> Result<(), Refusal>
     ensures { judged_as result ≡ require (eqb c newline) form }
 {
     if c == NEWLINE {
-        return Judged::Fine;
+        Ok(())
+    } else {
+        Err(Refusal::Form)
     }
-    Judged::Refused(Refusal::Form)
 }

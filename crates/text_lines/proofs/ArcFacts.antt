@@ -11,10 +11,8 @@ use Rattle.automata.specs.Answer.{◌>>=◌, Answer, ok, refused, require, besid
 use Rattle.automata.specs.Refusal.{form}
 use Rattle.automata.proofs.AnswerFacts.{forget-beside, forget_unit, forget_map}
 use Rattle.automata.specs.Layout.{amount_width, arc_width, label_width, labels_column, newline, number_width, weight_column}
-use Rattle.text_columns.specs.declared.decimal.Number.{Number}
-use Rattle.table.specs.declared.answer.Judged.{Judged}
-use Rattle.table.specs.Answers.{judged_as}
-use Rattle.text_columns.specs.Columns.{number_as, read_state_number, read_present, labels_read}
+use Rattle.table.specs.Answers.{Judged, judged_as}
+use Rattle.text_columns.specs.Columns.{Number, number_as, read_state_number, read_present, labels_read}
 use Rattle.text_lines.specs.Lines.{arc_parts, read_arc_line}
 use Rattle.text_lines.proofs.LineFacts.{drop_take, line_end_is}
 

@@ -14,11 +14,7 @@ use Rattle.automata.specs.Sequence.{read_first, read_many}
 use Rattle.automata.specs.TableText.{is_empty, state_line, arc_line}
 use Rattle.automata.proofs.AnswerFacts.{refused≢ok}
 use Rattle.automata.specs.Layout.{arc_width, header_width, label_width, state_width}
-use Rattle.table.specs.Answers.{refusal_number, judged_as}
 use Rattle.text_lines.specs.Lines.{states_judged, arcs_judged, body_judged}
-use Rattle.table.specs.declared.answer.Refusal.{Refusal}
-use Rattle.table.specs.declared.answer.Judged.{Judged}
-use Rattle.table.specs.declared.answer.Judged.TheVariants.{Fine, Refused}
 use Rattle.table.proofs.SequenceFacts.{first_fits, many_next}
 use Rattle.text_lines.proofs.SequenceFacts.{first_rest}
 
@@ -52,19 +48,19 @@ empty-none k z h = let d : drop k z ≡ [] = drop_of_length-le z h in rw d
 empty_some : (k : ℕ) (z : List ℕ) → k < length z → is_empty (drop k z) ≡ false
 empty_some k z h = rw (drop-cons z k 0 h)
 
-module _ (tapes n m : ℕ) (text : List ℕ) (h : header_width ≤ length text) (js : Judged) (es : judged_as js ≡ states_judged n (drop header_width text)) where
-  pub body_states : (k : Refusal) → js ≡ Refused k → judged_as js ≡ body_judged tapes n m (drop header_width text)
+module _ (tapes n m : ℕ) (text : List ℕ) (h : header_width ≤ length text) where
+  pub body_states : (k : ℕ) → refused k ≡ states_judged n (drop header_width text) → refused k ≡ body_judged tapes n m (drop header_width text)
   unfolding states_judged body_judged
-  body_states k f = ap judged_as f ∙ go (read_many state_line n (drop header_width text)) (sym es ∙ ap judged_as f)
+  body_states k es = go (read_many state_line n (drop header_width text)) (sym es)
     where
-      go : {A : Type 0} (a : Answer (A × List ℕ)) → forget a ≡ refused (refusal_number k) → refused (refusal_number k) ≡ (a >>= λ states. read_many (arc_line tapes n) m states.1 >>= λ arcs. require (is_empty arcs.1) form)
+      go : {A : Type 0} (a : Answer (A × List ℕ)) → forget a ≡ refused k → refused k ≡ (a >>= λ states. read_many (arc_line tapes n) m states.1 >>= λ arcs. require (is_empty arcs.1) form)
       go (ok p) e = absurd (refused≢ok (sym e))
       go (refused j) e = sym e
 
-  module _ (fs : js ≡ Fine) where
+  module _ (es : ok tt ≡ states_judged n (drop header_width text)) where
     rest_of : Rest state_line n (drop header_width text)
     unfolding states_judged
-    rest_of = many_rest state_line n (drop header_width text) (sym es ∙ ap judged_as fs)
+    rest_of = many_rest state_line n (drop header_width text) (sym es)
 
     pub body_room : header_width + n * state_width ≤ length text
     body_room = omega (arith, rest_of.2, length-drop header_width text)
@@ -73,31 +69,30 @@ module _ (tapes n m : ℕ) (text : List ℕ) (h : header_width ≤ length text) 
     unfolding body_judged
     behind = rw (rest_of.1, drop-drop (n * state_width) header_width text)
 
-    module _ (ja : Judged) (ea : judged_as ja ≡ arcs_judged tapes n m (drop (header_width + n * state_width) text)) where
-      pub body_arcs : (k : Refusal) → ja ≡ Refused k → judged_as ja ≡ body_judged tapes n m (drop header_width text)
+    pub body_arcs : (k : ℕ) → refused k ≡ arcs_judged tapes n m (drop (header_width + n * state_width) text) → refused k ≡ body_judged tapes n m (drop header_width text)
+    unfolding arcs_judged
+    body_arcs k ea = go (read_many (arc_line tapes n) m (drop (header_width + n * state_width) text)) (sym ea) ∙ sym behind
+      where
+        go : {A : Type 0} (a : Answer (A × List ℕ)) → forget a ≡ refused k → refused k ≡ (a >>= λ arcs. require (is_empty arcs.1) form)
+        go (ok p) e = absurd (refused≢ok (sym e))
+        go (refused j) e = sym e
+
+    module _ (ea : ok tt ≡ arcs_judged tapes n m (drop (header_width + n * state_width) text)) where
+      width_is : m * (arc_line tapes n).width ≡ m * (arc_width + tapes * label_width)
+      width_is = let w : (arc_line tapes n).width ≡ arc_width + tapes * label_width = omega arith in ap (λ (k : ℕ). m * k) w
+
+      arcs_rest : Rest (arc_line tapes n) m (drop (header_width + n * state_width) text)
       unfolding arcs_judged
-      body_arcs k f = ap judged_as f ∙ go (read_many (arc_line tapes n) m (drop (header_width + n * state_width) text)) (sym ea ∙ ap judged_as f) ∙ sym behind
-        where
-          go : {A : Type 0} (a : Answer (A × List ℕ)) → forget a ≡ refused (refusal_number k) → refused (refusal_number k) ≡ (a >>= λ arcs. require (is_empty arcs.1) form)
-          go (ok p) e = absurd (refused≢ok (sym e))
-          go (refused j) e = sym e
+      arcs_rest = many_rest (arc_line tapes n) m (drop (header_width + n * state_width) text) (sym ea)
 
-      module _ (fa : ja ≡ Fine) where
-        width_is : m * (arc_line tapes n).width ≡ m * (arc_width + tapes * label_width)
-        width_is = let w : (arc_line tapes n).width ≡ arc_width + tapes * label_width = omega arith in ap (λ (k : ℕ). m * k) w
+      pub body_size : m * (arc_width + tapes * label_width) ≤ length text - (header_width + n * state_width)
+      body_size = omega (arith, arcs_rest.2, width_is, length-drop (header_width + n * state_width) text)
 
-        arcs_rest : Rest (arc_line tapes n) m (drop (header_width + n * state_width) text)
-        unfolding arcs_judged
-        arcs_rest = many_rest (arc_line tapes n) m (drop (header_width + n * state_width) text) (sym ea ∙ ap judged_as fa)
+      at_end : body_judged tapes n m (drop header_width text) ≡ require (is_empty (drop (m * (arc_width + tapes * label_width)) (drop (header_width + n * state_width) text))) form
+      at_end = behind ∙ rw arcs_rest.1 (ap (λ (k : ℕ). require (is_empty (drop k (drop (header_width + n * state_width) text))) form) width_is)
 
-        pub body_size : m * (arc_width + tapes * label_width) ≤ length text - (header_width + n * state_width)
-        body_size = omega (arith, arcs_rest.2, width_is, length-drop (header_width + n * state_width) text)
+      pub body_more : m * (arc_width + tapes * label_width) < length text - (header_width + n * state_width) → refused 2 ≡ body_judged tapes n m (drop header_width text)
+      body_more l = sym (at_end ∙ rw (empty_some (m * (arc_width + tapes * label_width)) (drop (header_width + n * state_width) text) (rw (length-drop (header_width + n * state_width) text) l)))
 
-        at_end : body_judged tapes n m (drop header_width text) ≡ require (is_empty (drop (m * (arc_width + tapes * label_width)) (drop (header_width + n * state_width) text))) form
-        at_end = behind ∙ rw arcs_rest.1 (ap (λ (k : ℕ). require (is_empty (drop k (drop (header_width + n * state_width) text))) form) width_is)
-
-        pub body_more : m * (arc_width + tapes * label_width) < length text - (header_width + n * state_width) → refused 2 ≡ body_judged tapes n m (drop header_width text)
-        body_more l = sym (at_end ∙ rw (empty_some (m * (arc_width + tapes * label_width)) (drop (header_width + n * state_width) text) (rw (length-drop (header_width + n * state_width) text) l)))
-
-        pub body_done : length text - (header_width + n * state_width) ≤ m * (arc_width + tapes * label_width) → ok tt ≡ body_judged tapes n m (drop header_width text)
-        body_done l = sym (at_end ∙ rw (empty-none (m * (arc_width + tapes * label_width)) (drop (header_width + n * state_width) text) (rw (length-drop (header_width + n * state_width) text) l)))
+      pub body_done : length text - (header_width + n * state_width) ≤ m * (arc_width + tapes * label_width) → ok tt ≡ body_judged tapes n m (drop header_width text)
+      body_done l = sym (at_end ∙ rw (empty-none (m * (arc_width + tapes * label_width)) (drop (header_width + n * state_width) text) (rw (length-drop (header_width + n * state_width) text) l)))

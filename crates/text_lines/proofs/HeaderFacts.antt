@@ -2,47 +2,26 @@
 use mathlib.Core.Path.{◌≡◌, refl, sym, ap, ◌∙◌}
 use mathlib.Core.Bool.{Bool, true, false}
 use mathlib.Core.List.{List}
-use Prim.Native.Nat.{ℕ, ◌≤◌, ◌<◌}
+use Prim.Native.Nat.{ℕ}
 use native.Mathlib.Omega.{arith}
 use lib.Dec.{eqb}
 use lib.ListN.{length, take, drop, get_or, length-drop}
 use lib.Seq.{drop-drop, take-take, length-take-le}
-use borrow.Author.Tests.{le-leb, lt-leb}
-use Rattle.automata.specs.Answer.{◌>>=◌, Answer, ok, refused, check, require, beside, forget}
+use Rattle.automata.specs.Answer.{◌>>=◌, Answer, ok, check, require, beside, forget}
 use Rattle.automata.specs.Refusal.{form, size}
 use Rattle.automata.specs.Decimal.{decimal}
 use Rattle.automata.specs.Table.{counts_fit}
 use Rattle.automata.proofs.AnswerFacts.{refused≢ok, beside-ok, bind_ok, check-ok, forget-beside, refused_map}
 use Rattle.automata.specs.Layout.{header_end, header_width, newline, number_width, tapes_width, arcs_column}
-use Rattle.text_columns.specs.declared.decimal.Number.{Number}
-use Rattle.text_columns.specs.declared.decimal.Number.TheVariants.{Value, Refused}
-use Rattle.table.specs.declared.answer.Refusal.{Refusal}
-use Rattle.table.specs.declared.answer.Judged.{Judged}
-use Rattle.table.specs.declared.answer.Judged.TheVariants as judged
-use Rattle.table.specs.Answers.{refusal_number, judged_as}
+use Rattle.std.specs.Prelude.{Ok, Err}
+use Rattle.std.specs.Result.{result_and, result_unwrap_or}
+use Rattle.table.specs.Answers.{Judged, judged_as, refusal_number}
+use Rattle.table.specs.declared.answer.Counts.{Counts}
 use Rattle.table.proofs.AnswerFacts.{forget-ok}
-use Rattle.text_columns.specs.Columns.{number_as, number_of, read_decimal}
-use Rattle.text_lines.specs.Lines.{read_header, counts_judged}
+use Rattle.text_columns.specs.Columns.{Number, number_as, read_decimal}
+use Rattle.text_lines.specs.Lines.{header_as, read_header, counts_judged}
 use Rattle.text_lines.proofs.LineFacts.{drop_take, line_end_is}
 use Rattle.text_lines.proofs.ArcFacts.{forget-left}
-
--- ---- the test of the counts
-module _ (j : Judged) (t s a : ℕ) where
-  module _ (e : j ≡ judged.Fine) where
-    pub counts_none : t < 1 → refused 3 ≡ counts_judged (judged_as j) t s a
-    counts_none h = rw (e, lt-leb 1 t h)
-
-    pub counts_tapes : 1 ≤ t → 8 < t → refused 3 ≡ counts_judged (judged_as j) t s a
-    counts_tapes g h = rw (e, le-leb 1 t g, lt-leb t 8 h)
-
-    pub counts_states : 1 ≤ t → t ≤ 8 → 1024 < s → refused 3 ≡ counts_judged (judged_as j) t s a
-    counts_states g f h = rw (e, le-leb 1 t g, le-leb t 8 f, lt-leb s 1024 h)
-
-    pub counts_arcs : 1 ≤ t → t ≤ 8 → s ≤ 1024 → 8192 < a → refused 3 ≡ counts_judged (judged_as j) t s a
-    counts_arcs g f d h = rw (e, le-leb 1 t g, le-leb t 8 f, le-leb s 1024 d, lt-leb a 8192 h)
-
-    pub counts_fit_lem : 1 ≤ t → t ≤ 8 → s ≤ 1024 → a ≤ 8192 → ok tt ≡ counts_judged (judged_as j) t s a
-    counts_fit_lem g f d h = rw (e, le-leb 1 t g, le-leb t 8 f, le-leb s 1024 d, le-leb a 8192 h)
 
 -- ---- the line
 abbrev fits : ℕ × (ℕ × ℕ) → Answer (ℕ × (ℕ × ℕ))
@@ -68,27 +47,31 @@ header_is x l =
       line_end_is header_end x l,
     )
 
-counts_forgot : (T S A : Number) → (forget (beside (number_as T) (beside (number_as S) (number_as A))) >>= λ t. require (counts_fit (number_of T) (number_of S) (number_of A)) size)
+-- the number alone, 0 where it is refused
+abbrev pub value_of : Number → ℕ
+value_of n = result_unwrap_or n 0
+
+counts_forgot : (T S A : Number) → (forget (beside (number_as T) (beside (number_as S) (number_as A))) >>= λ t. require (counts_fit (value_of T) (value_of S) (value_of A)) size)
     ≡ forget (beside (number_as T) (beside (number_as S) (number_as A)) >>= fits)
-counts_forgot (Value t) (Value s) (Value a) = go (counts_fit t s a)
+counts_forgot (Ok t) (Ok s) (Ok a) = go (counts_fit t s a)
   where
     go : (b : Bool) → require b size ≡ forget {A = ℕ × (ℕ × ℕ)} (check b size (t, (s, a)))
     go true = refl
     go false = refl
-counts_forgot (Value t) (Value s) (Refused k) = refl
-counts_forgot (Value t) (Refused j) (Value a) = refl
-counts_forgot (Value t) (Refused j) (Refused k) = refl
-counts_forgot (Refused i) (Value s) (Value a) = refl
-counts_forgot (Refused i) (Value s) (Refused k) = refl
-counts_forgot (Refused i) (Refused j) (Value a) = refl
-counts_forgot (Refused i) (Refused j) (Refused k) = refl
+counts_forgot (Ok t) (Ok s) (Err k) = refl
+counts_forgot (Ok t) (Err j) (Ok a) = refl
+counts_forgot (Ok t) (Err j) (Err k) = refl
+counts_forgot (Err i) (Ok s) (Ok a) = refl
+counts_forgot (Err i) (Ok s) (Err k) = refl
+counts_forgot (Err i) (Err j) (Ok a) = refl
+counts_forgot (Err i) (Err j) (Err k) = refl
 
-known : (n : Number) (v : ℕ) → number_as n ≡ ok v → number_of n ≡ v
-known (Value n) v e = cc
-known (Refused k) v e = absurd (refused≢ok e)
+known : (n : Number) (v : ℕ) → number_as n ≡ ok v → value_of n ≡ v
+known (Ok n) v e = cc
+known (Err k) v e = absurd (refused≢ok e)
 
 header_read : (T S A : Number) (e : Answer (Unit {0})) → forget (header_parts (number_as T) (number_as S) (number_as A) e) ≡ ok tt
-    → ok (number_of T, (number_of S, number_of A)) ≡ (header_parts (number_as T) (number_as S) (number_as A) e >>= λ p. ok p.0)
+    → ok (value_of T, (value_of S, value_of A)) ≡ (header_parts (number_as T) (number_as S) (number_as A) e >>= λ p. ok p.0)
 header_read T S A e h =
     let z = forget-ok (header_parts (number_as T) (number_as S) (number_as A) e) h in
     let b = beside-ok (beside (number_as T) (beside (number_as S) (number_as A)) >>= fits) e z.0 z.1 in
@@ -102,7 +85,7 @@ module _ (x : List ℕ) (l : length x ≡ header_width) (T S A : Number) (jt js 
     (pt : number_as T ≡ read_decimal (take tapes_width x)) (ps : number_as S ≡ read_decimal (take number_width (drop tapes_width x))) (pa : number_as A ≡ read_decimal (take number_width (drop arcs_column x)))
     (qt : judged_as jt ≡ forget (number_as T)) (qs : judged_as js ≡ forget (number_as S)) (qa : judged_as ja ≡ forget (number_as A))
     (qsa : judged_as jsa ≡ forget (beside (judged_as js) (judged_as ja))) (qc : judged_as jc ≡ forget (beside (judged_as jt) (judged_as jsa)))
-    (vt : nt ≡ number_of T) (vs : ns ≡ number_of S) (va : na ≡ number_of A)
+    (vt : nt ≡ value_of T) (vs : ns ≡ value_of S) (va : na ≡ value_of A)
     (qf : judged_as jf ≡ counts_judged (judged_as jc) nt ns na) (qe : judged_as je ≡ require (eqb (get_or x header_end 0) newline) form)
     (qj : judged_as j ≡ forget (beside (judged_as jf) (judged_as je))) where
   header_parts_lem : read_header x ≡ (header_parts (number_as T) (number_as S) (number_as A) (judged_as je) >>= λ p. ok p.0)
@@ -119,8 +102,9 @@ module _ (x : List ℕ) (l : length x ≡ header_width) (T S A : Number) (jt js 
       let f : judged_as jf ≡ forget (beside (number_as T) (beside (number_as S) (number_as A)) >>= fits) = qf ∙ rw (c, vt, vs, va) (counts_forgot T S A) in
       qj ∙ rw f (forget-left (beside (number_as T) (beside (number_as S) (number_as A)) >>= fits) (judged_as je))
 
-  pub header_refused : (k : Refusal) → j ≡ judged.Refused k → refused (refusal_number k) ≡ read_header x
-  header_refused k f = refused_map (header_parts (number_as T) (number_as S) (number_as A) (judged_as je)) (λ p. p.0) (refusal_number k) (sym judged_parts ∙ ap judged_as f) ∙ sym header_parts_lem
-
-  pub header_fine : j ≡ judged.Fine → ok (nt, (ns, na)) ≡ read_header x
-  header_fine f = rw (vt, vs, va) (header_read T S A (judged_as je) (sym judged_parts ∙ ap judged_as f) ∙ sym header_parts_lem)
+  pub header_judged : (c : Counts) → c.tapes ≡ nt → c.states ≡ ns → c.arcs ≡ na → header_as (result_and j (Ok c)) ≡ read_header x
+  header_judged c et es ea = go j judged_parts
+    where
+      go : (k : Judged) → judged_as k ≡ forget (header_parts (number_as T) (number_as S) (number_as A) (judged_as je)) → header_as (result_and k (Ok c)) ≡ read_header x
+      go (Ok u) f = rw (et, es, ea, vt, vs, va) (header_read T S A (judged_as je) (sym f) ∙ sym header_parts_lem)
+      go (Err k) f = refused_map (header_parts (number_as T) (number_as S) (number_as A) (judged_as je)) (λ p. p.0) (refusal_number k) (sym f) ∙ sym header_parts_lem

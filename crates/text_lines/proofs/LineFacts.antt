@@ -15,8 +15,7 @@ use Rattle.automata.specs.Answer.{◌>>=◌, Answer, ok, beside, require, forget
 use Rattle.automata.specs.Refusal.{form}
 use Rattle.automata.proofs.AnswerFacts.{forget-beside, forget_map, forget_unit}
 use Rattle.automata.specs.Layout.{amount_width, newline, state_end, state_width}
-use Rattle.table.specs.declared.answer.Judged.{Judged}
-use Rattle.table.specs.Answers.{judged_as}
+use Rattle.table.specs.Answers.{Judged, judged_as}
 use Rattle.text_columns.specs.Columns.{read_weight}
 use Rattle.text_lines.specs.Lines.{read_state_line}
 

@@ -13,12 +13,9 @@ use Rattle.automata.specs.Sequence.{read_first}
 use Rattle.automata.specs.TableText.{state_line, arc_line}
 use Rattle.automata.proofs.AnswerFacts.{refused≢ok}
 use Rattle.automata.specs.Layout.{arc_width, label_width, state_width}
-use Rattle.table.specs.Answers.{refusal_number, judged_as}
+use Rattle.table.specs.Answers.{Judged, judged_as}
 use Rattle.table.proofs.SequenceFacts.{many_stop, many_none, at_short, at_value, at_next}
 use Rattle.text_lines.specs.Lines.{read_state_line, read_arc_line, first_state, states_judged, first_arc, arcs_judged}
-use Rattle.table.specs.declared.answer.Refusal.{Refusal}
-use Rattle.table.specs.declared.answer.Judged.{Judged}
-use Rattle.table.specs.declared.answer.Judged.TheVariants.{Fine, Refused}
 
 -- a line that is not refused, and what follows it
 module _ {A : Type 0} (f : Format ℕ A) (x : List ℕ) where
@@ -44,14 +41,14 @@ module _ (text : List ℕ) (at : ℕ) (h : at ≤ length text) where
       e ∙ ap (λ (m : ℕ). forget (read_state_line (take m (drop at text)))) n ∙ at_value state_line state_width refl text at h k
 
   module _ (left : ℕ) (p : 0 < left) where
-    pub states_refused : (j : Judged) (k : Refusal) → judged_as j ≡ first_state (drop at text) → j ≡ Refused k → judged_as j ≡ states_judged left (drop at text)
+    pub states_refused : (k : ℕ) → refused k ≡ first_state (drop at text) → refused k ≡ states_judged left (drop at text)
     unfolding first_state states_judged
-    states_refused j k e f = ap judged_as f ∙ many_stop state_line (drop at text) left (refusal_number k) p (sym e ∙ ap judged_as f)
+    states_refused k e = many_stop state_line (drop at text) left k p (sym e)
 
-    pub states_turn : (j : Judged) → judged_as j ≡ first_state (drop at text) → j ≡ Fine
+    pub states_turn : ok tt ≡ first_state (drop at text)
         → (at + state_width ≤ length text) × (states_judged (left - 1) (drop (at + state_width) text) ≡ states_judged left (drop at text))
     unfolding first_state states_judged
-    states_turn j e f = at_next state_line state_width refl text at h left p (sym e ∙ ap judged_as f)
+    states_turn e = at_next state_line state_width refl text at h left p (sym e)
 
 pub states_done : (n : ℕ) (x : List ℕ) → n ≡ 0 → ok tt ≡ states_judged n x
 unfolding states_judged
@@ -74,14 +71,14 @@ module _ (tapes states : ℕ) (text : List ℕ) (at : ℕ) (h : at ≤ length te
       e ∙ ap (λ (m : ℕ). forget ((arc_line tapes states).read (take m (drop at text)))) n ∙ at_value (arc_line tapes states) (arc_width + tapes * label_width) width_is text at h k
 
   module _ (left : ℕ) (p : 0 < left) where
-    pub arcs_refused : (j : Judged) (k : Refusal) → judged_as j ≡ first_arc tapes states (drop at text) → j ≡ Refused k → judged_as j ≡ arcs_judged tapes states left (drop at text)
+    pub arcs_refused : (k : ℕ) → refused k ≡ first_arc tapes states (drop at text) → refused k ≡ arcs_judged tapes states left (drop at text)
     unfolding first_arc arcs_judged
-    arcs_refused j k e f = ap judged_as f ∙ many_stop (arc_line tapes states) (drop at text) left (refusal_number k) p (sym e ∙ ap judged_as f)
+    arcs_refused k e = many_stop (arc_line tapes states) (drop at text) left k p (sym e)
 
-    pub arcs_turn : (j : Judged) → judged_as j ≡ first_arc tapes states (drop at text) → j ≡ Fine
+    pub arcs_turn : ok tt ≡ first_arc tapes states (drop at text)
         → (at + (arc_width + tapes * label_width) ≤ length text) × (arcs_judged tapes states (left - 1) (drop (at + (arc_width + tapes * label_width)) text) ≡ arcs_judged tapes states left (drop at text))
     unfolding first_arc arcs_judged
-    arcs_turn j e f = at_next (arc_line tapes states) (arc_width + tapes * label_width) width_is text at h left p (sym e ∙ ap judged_as f)
+    arcs_turn e = at_next (arc_line tapes states) (arc_width + tapes * label_width) width_is text at h left p (sym e)
 
 pub arcs_done : (tapes states n : ℕ) (x : List ℕ) → n ≡ 0 → ok tt ≡ arcs_judged tapes states n x
 unfolding arcs_judged

@@ -1,5 +1,5 @@
 -- Facts of a text that is judged as a whole.
-use mathlib.Core.Path.{◌≡◌, refl, sym, ap, ◌∙◌}
+use mathlib.Core.Path.{◌≡◌, refl, sym, ◌∙◌}
 use mathlib.Core.Bool.{Bool, true, false}
 use mathlib.Core.List.{List}
 use Prim.Native.Nat.{ℕ, ◌≤◌, ◌<◌}
@@ -15,14 +15,8 @@ use Rattle.automata.specs.TableText.{is_empty, header_line, state_line, arc_line
 use Rattle.automata.proofs.SequenceFacts.{first-enough, many_only}
 use Rattle.automata.proofs.TextFacts.{header_line_lawful, state_line_lawful, arc_line_lawful}
 use Rattle.automata.specs.Layout.{header_width}
-use Rattle.table.specs.Answers.{refusal_number, judged_as}
 use Rattle.table.specs.declared.answer.Counts as CountsD
-use Rattle.table.specs.declared.answer.Refusal.{Refusal}
-use Rattle.table.specs.declared.answer.Judged.{Judged}
-use Rattle.table.specs.declared.answer.Judged.TheVariants as judged
-use Rattle.text_lines.specs.declared.header.HeaderLine.{HeaderLine}
-use Rattle.text_lines.specs.declared.header.HeaderLine.TheVariants as header
-use Rattle.text_lines.specs.Lines.{header_as, read_header, body_judged, read_counts}
+use Rattle.text_lines.specs.Lines.{read_header, body_judged, read_counts}
 
 -- the counts of an automaton
 abbrev counts_of : Automaton ℕ → Answer (ℕ × (ℕ × ℕ))
@@ -57,33 +51,32 @@ module _ (S A : ℕ) (x : List ℕ) where
   unfolding read_counts read_table
   text-short h = rw (lt-leb header_width (length x) h)
 
-  module _ (r : HeaderLine) (l : header_width ≤ length x) (e : header_as r ≡ read_header (take header_width x)) where
-    pub text_header : (k : Refusal) → r ≡ header.Refused k → header_as r ≡ read_counts S A x
+  module _ (l : header_width ≤ length x) where
+    pub text_header : (k : ℕ) → refused k ≡ read_header (take header_width x) → refused k ≡ read_counts S A x
     unfolding read_counts read_table read_header
-    text_header k f = sym (rw (first-enough header_line x l, ← e, f))
+    text_header k e = sym (rw (first-enough header_line x l, ← e))
 
-    module _ (c : CountsD.Counts) (f : r ≡ header.Counts c) where
+    module _ (c : CountsD.Counts) (e : ok (c.tapes, (c.states, c.arcs)) ≡ read_header (take header_width x)) where
       -- the counts of a header that is not refused are in range
       pub header_bounds : Counts c.tapes c.states c.arcs
       unfolding read_header
-      header_bounds = (header_line_lawful.only (take header_width x) (c.tapes, (c.states, c.arcs)) (length-take-le header_width x l) (sym e ∙ ap header_as f)).0
+      header_bounds = (header_line_lawful.only (take header_width x) (c.tapes, (c.states, c.arcs)) (length-take-le header_width x l) (sym e)).0
 
       pub text_states : S < c.states → refused 8 ≡ read_counts S A x
       unfolding read_counts read_table read_header
-      text_states h = sym (rw (first-enough header_line x l, ← e, f, lt-leb c.states S h))
+      text_states h = sym (rw (first-enough header_line x l, ← e, lt-leb c.states S h))
 
       pub text_arcs : c.states ≤ S → A < c.arcs → refused 9 ≡ read_counts S A x
       unfolding read_counts read_table read_header
-      text_arcs g h = sym (rw (first-enough header_line x l, ← e, f, le-leb c.states S g, lt-leb c.arcs A h))
+      text_arcs g h = sym (rw (first-enough header_line x l, ← e, le-leb c.states S g, lt-leb c.arcs A h))
 
       module _ (g : c.states ≤ S) (h : c.arcs ≤ A) where
         text_body : read_counts S A x ≡ (body_judged c.tapes c.states c.arcs (drop header_width x) >>= λ t. ok (c.tapes, (c.states, c.arcs)))
         unfolding read_counts read_table read_header
-        text_body = rw (first-enough header_line x l, ← e, f, le-leb c.states S g, le-leb c.arcs A h) (body_counted c.tapes c.states c.arcs (drop header_width x) header_bounds.states_fit)
+        text_body = rw (first-enough header_line x l, ← e, le-leb c.states S g, le-leb c.arcs A h) (body_counted c.tapes c.states c.arcs (drop header_width x) header_bounds.states_fit)
 
-        module _ (j : Judged) (p : judged_as j ≡ body_judged c.tapes c.states c.arcs (drop header_width x)) where
-          pub text-refused : (k : Refusal) → j ≡ judged.Refused k → refused (refusal_number k) ≡ read_counts S A x
-          text-refused k q = sym (text_body ∙ rw (← p, q))
+        pub text-refused : (k : ℕ) → refused k ≡ body_judged c.tapes c.states c.arcs (drop header_width x) → refused k ≡ read_counts S A x
+        text-refused k p = sym (text_body ∙ rw (← p))
 
-          pub text_fine : j ≡ judged.Fine → ok (c.tapes, (c.states, c.arcs)) ≡ read_counts S A x
-          text_fine q = sym (text_body ∙ rw (← p, q))
+        pub text_fine : ok tt ≡ body_judged c.tapes c.states c.arcs (drop header_width x) → ok (c.tapes, (c.states, c.arcs)) ≡ read_counts S A x
+        text_fine p = sym (text_body ∙ rw (← p))

@@ -1,5 +1,5 @@
 -- What the answers of a line stand for, and what a text is judged by, line by line.
-use Rattle.std.specs.Prelude.{List, ℕ, length}
+use Rattle.std.specs.Prelude.{Result, Ok, Err, List, ℕ, length}
 use Rattle.automata.specs.Automaton.{State, Arc}
 use Rattle.automata.specs.Answer.{◌>>=◌, Answer, ok, refused, require, beside, forget}
 use Rattle.automata.specs.Refusal.{size, form}
@@ -7,8 +7,8 @@ use Rattle.automata.specs.Table.{counts_fit}
 use Rattle.automata.specs.Sequence.{read_first, read_many}
 use Rattle.automata.specs.TableText.{is_empty, header_line, state_line, arc_line, read_table}
 use Rattle.table.specs.Answers.{refusal_number}
-use Rattle.text_lines.specs.declared.header.HeaderLine.{HeaderLine}
-use Rattle.text_lines.specs.declared.header.HeaderLine.TheVariants as header
+use Rattle.table.specs.declared.answer.Counts.{Counts}
+use Rattle.table.specs.declared.answer.Refusal.{Refusal}
 
 -- ---- the line of a state
 
@@ -28,10 +28,14 @@ read_arc_line tapes states x = (arc_line tapes states).read x
 
 -- ---- the header
 
--- the counts of a header, or its refusal
+-- the counts read from a header, or its refusal
+abbrev pub HeaderLine : Type 0
+HeaderLine = Result Counts Refusal
+
+-- what it stands for: the counts, or the number of the refusal
 abbrev pub header_as : HeaderLine → Answer (ℕ × (ℕ × ℕ))
-header_as (header.Counts c) = ok (c.tapes, (c.states, c.arcs))
-header_as (header.Refused r) = refused (refusal_number r)
+header_as (Ok c) = ok (c.tapes, (c.states, c.arcs))
+header_as (Err r) = refused (refusal_number r)
 
 -- the counts in the 16 places of a list
 unfoldable pub read_header : List ℕ → Answer (ℕ × (ℕ × ℕ))

@@ -5,13 +5,13 @@ ghost use Rattle.automata.specs.Layout.{state_width};
 ghost use Rattle.table.specs.Answers.{judged_as};
 ghost use Rattle.text_lines.specs.Lines.{read_state_line, first_state, states_judged};
 
-use table::answer::{Judged, Refusal, both};
+use table::answer::{Refusal, both};
 use table::layout::{AMOUNT_WIDTH, STATE_END, STATE_WIDTH};
 use text_columns::label::line_end;
 use text_columns::weight::judge_weight;
 
 // A line of a state, judged: its initial and its final weight.
-fn judge_state_line(line: &[u8]) -> Judged
+fn judge_state_line(line: &[u8]) -> Result<(), Refusal>
     requires { length line.now ≡ state_width }
     ensures { judged_as result ≡ forget (read_state_line line.now) }
 {
@@ -22,30 +22,23 @@ fn judge_state_line(line: &[u8]) -> Judged
 }
 
 // The state line at a place of a text.
-fn judge_state(text: &[u8], at: usize) -> Judged
+fn judge_state(text: &[u8], at: usize) -> Result<(), Refusal>
     requires { at ≤ length text.now }
     ensures { judged_as result ≡ first_state (drop at text.now) }
 {
     if text.len() - at < STATE_WIDTH {
-        return Judged::Refused(Refusal::Short);
+        return Err(Refusal::Short);
     }
     judge_state_line(&text[at..at + STATE_WIDTH])
 }
 
 // So many state lines from a place of a text. The first refusal counts.
-pub fn judge_states(text: &[u8], start: usize, count: usize) -> Judged
+pub fn judge_states(text: &[u8], start: usize, count: usize) -> Result<(), Refusal>
     requires { start ≤ length text.now }
     ensures { judged_as result ≡ states_judged count (drop start text.now) }
 {
-    let mut left = count;
-    let mut at = start;
-    while 0 < left {
-        let judged = judge_state(text, at);
-        let Judged::Fine = judged else {
-            return judged;
-        };
-        left -= 1;
-        at += STATE_WIDTH;
+    for i in 0..count {
+        judge_state(text, start + STATE_WIDTH * i)?;
     }
-    Judged::Fine
+    Ok(())
 }

@@ -4,7 +4,7 @@ ghost use Rattle.automata.specs.Memory.{Sound, table_of};
 ghost use Rattle.automata.specs.TableText.{write_table};
 ghost use Rattle.automata.specs.Calls.Outcome.{overwrite};
 ghost use Rattle.automata.specs.Layout.{arc_size, state_size, amount_width, arc_width, header_width, label_size, label_width, labels_column, state_width, weight_size};
-ghost use Rattle.table.specs.Answers.{lent};
+ghost use Rattle.table.specs.Answers.{memory};
 ghost use Rattle.table.specs.Region.{splice};
 ghost use Rattle.text_store.specs.Recode.{recoded};
 ghost use Rattle.text_print.specs.Printed.{weight_of_record, line_of_state, columns_of_label, numbers_of_record, line_of_arc, header_of};
@@ -17,7 +17,9 @@ use table::layout::{
     HEADER_WIDTH, LABEL_SIZE, LABEL_WIDTH, LABELS_COLUMN, LABELS_END, LABELS_PLACE, NEWLINE,
     NUMBER_WIDTH, STATE_END, STATE_SIZE, STATE_WIDTH, SYMBOLS_PLACE, TAPES_WIDTH, WEIGHT_COLUMN,
 };
+use table::lent::Table;
 use text_columns::decimal::write_decimal;
+use text_store::recode::write_parts;
 
 // The columns of the weight in a record.
 fn print_weight(weight: &[u8], out: &mut [u8], at: usize)
@@ -27,9 +29,9 @@ fn print_weight(weight: &[u8], out: &mut [u8], at: usize)
     if weight[0] == ABSENT {
         let absent = [32u8, 32, 32, 32, 32, 32, 32, 32, 32, 45];
         copy_into(out, at, &absent);
-        return;
+    } else {
+        write_decimal(out, at, AMOUNT_WIDTH, get32(weight, AMOUNT_PLACE) as usize);
     }
-    write_decimal(out, at, AMOUNT_WIDTH, get32(weight, AMOUNT_PLACE) as usize);
 }
 
 // The line of the state in a record.
@@ -48,25 +50,22 @@ pub fn print_states(states: &[u8], count: usize, out: &mut [u8], start: usize)
     ensures { out.new ≡ splice start (recoded line_of_state state_size count states.now)
         out.old }
 {
-    let mut left = count;
-    let mut at = 0;
-    let mut to = start;
-    while 0 < left {
-        print_state(&states[at..at + STATE_SIZE], out, to);
-        left -= 1;
-        at += STATE_SIZE;
-        to += STATE_WIDTH;
-    }
+    write_parts(
+        states,
+        STATE_SIZE,
+        count,
+        out,
+        start,
+        STATE_WIDTH,
+        print_state,
+    );
 }
 
 // The length of a label, at most 8.
 fn label_length(length: u8) -> usize
     ensures { (result ≡ min length 8) × (result ≤ 8) }
 {
-    if 8 < length {
-        return 8;
-    }
-    length as usize
+    usize::from(length.min(8))
 }
 
 // The columns of the label in a record: all eight bytes are copied, and those past its length fall behind the nine
@@ -91,15 +90,15 @@ fn print_labels(records: &[u8], tapes: usize, out: &mut [u8], start: usize)
     ensures { out.new ≡ splice start (recoded columns_of_label label_size tapes records.now)
         out.old }
 {
-    let mut left = tapes;
-    let mut at = 0;
-    let mut to = start;
-    while 0 < left {
-        print_label(&records[at..at + LABEL_SIZE], out, to);
-        left -= 1;
-        at += LABEL_SIZE;
-        to += LABEL_WIDTH;
-    }
+    write_parts(
+        records,
+        LABEL_SIZE,
+        tapes,
+        out,
+        start,
+        LABEL_WIDTH,
+        print_label,
+    );
 }
 
 // Source, target and weight of the arc in a record.
@@ -146,15 +145,12 @@ pub fn print_arcs(arcs: &[u8], count: usize, tapes: usize, out: &mut [u8], start
         out.old }
 {
     let width = ARC_WIDTH + tapes * LABEL_WIDTH;
-    let mut left = count;
-    let mut at = 0;
-    let mut to = start;
-    while 0 < left {
-        print_arc(&arcs[at..at + ARC_SIZE], tapes, out, to);
-        left -= 1;
-        at += ARC_SIZE;
-        to += width;
-    }
+    let print = |record: &[u8], out: &mut [u8], at: usize|
+        requires { ((length record.now ≡ arc_size) × (tapes ≤ 8))
+            × (at + (arc_width + tapes * label_width) ≤ length out.old) }
+        ensures { out.new ≡ splice at (line_of_arc tapes record.now) out.old }
+    { print_arc(record, tapes, out, at) };
+    write_parts(arcs, ARC_SIZE, count, out, start, width, print);
 }
 
 // The header of a table.
@@ -169,17 +165,18 @@ pub fn print_header(counts: Counts, out: &mut [u8])
 }
 
 // The text of a table that was judged, over the front of the output.
-pub fn write_table(counts: Counts, states: &[u8], arcs: &[u8], output: &mut [u8])
-    requires { Sound (lent counts states.now arcs.now)
-        × (header_width + counts.states * state_width + counts.arcs * (arc_width + counts.tapes * label_width)
-        ≤ length output.old) }
+pub fn write_table(table: &Table, output: &mut [u8])
+    requires { Sound (memory table.now)
+        × (header_width + table.now.counts.states * state_width
+        + table.now.counts.arcs * (arc_width + table.now.counts.tapes * label_width) ≤ length output.old) }
     ensures { output.new ≡ overwrite
-        (write_table (table_of (lent counts states.now arcs.now))) output.old }
+        (write_table (table_of (memory table.now))) output.old }
 {
+    let counts = table.counts;
     print_header(counts, output);
-    print_states(states, counts.states, output, HEADER_WIDTH);
+    print_states(table.states, counts.states, output, HEADER_WIDTH);
     print_arcs(
-        arcs,
+        table.arcs,
         counts.arcs,
         counts.tapes,
         output,

@@ -3,9 +3,9 @@ use mathlib.Core.Path.{◌≡◌, refl, sym, ap, ap₂, ◌∙◌}
 use mathlib.Core.List.{List, [], ◌∷◌, ◌++◌}
 use Prim.Native.Nat.{ℕ, zero, suc, ◌+◌, ◌-◌, ◌*◌, ◌≤◌, ◌<◌}
 use native.Mathlib.Omega.{arith}
-use native.Mathlib.Nat.{zero-mul, suc-mul, add_comm}
+use native.Mathlib.Nat.{zero-mul, suc-mul, add_comm, mul-le-mul_left}
 use lib.ListN.{length, take, drop, length-append, length-drop}
-use lib.Seq.{drop-drop, length-take-le, take-take}
+use lib.Seq.{drop-drop, length-take-le, take-take, take_all}
 use Rattle.automata.specs.Answer.{◌>>=◌, ok, beside}
 use Rattle.automata.specs.Records.{write_all}
 use Rattle.automata.specs.Format.{Format, read_copies}
@@ -17,10 +17,12 @@ use Rattle.table.proofs.RegionFacts.{splice-none, splice_append}
 use Rattle.text_lines.proofs.LineFacts.{drop_take}
 use Rattle.text_store.specs.Recode.{recoded}
 
--- a product of which one factor falls by one
-pub product_turn : (left w : ℕ) → 0 < left → left * w ≡ (left - 1) * w + w
-product_turn zero w h = absurd (omega arith)
-product_turn (suc n) w h = let e : suc n - 1 ≡ n = omega arith in rw e (suc-mul n w)
+-- of n parts of one width the part i, and those from it on, fit
+pub part_within : (w i n : ℕ) → i < n → w * i + w ≤ n * w
+part_within w i n h = let k : suc i ≤ n = omega arith in omega (arith, mul-le-mul_left w k)
+
+pub parts_from : (w i n : ℕ) → i ≤ n → w * i + (n - i) * w ≡ n * w
+parts_from w i n h = let e : n - i + i ≡ n = omega arith in omega (arith, ap (λ (k : ℕ). k * w) e)
 
 module _ (recode : List ℕ → List ℕ) (w sz : ℕ) (sized : (y : List ℕ) → length y ≡ w → length (recode y) ≡ sz) where
   -- the length of n parts in their other form
@@ -56,6 +58,10 @@ module _ (recode : List ℕ → List ℕ) (w sz : ℕ) (sized : (y : List ℕ) �
 pub recode_done : (recode : List ℕ → List ℕ) (w : ℕ) (x out : List ℕ) (to left : ℕ) → left ≡ 0 → splice to (recoded recode w left x) out ≡ out
 unfolding recoded
 recode_done recode w x out to left e = rw e (splice-none to out)
+
+-- what is left of a list from a place on
+pub from_place : (s : ℕ) (x : List ℕ) → take (length x - s) (drop s x) ≡ drop s x
+from_place s x = take_all (length x - s) (drop s x) (rw (length-drop s x) (omega arith))
 
 -- what stands past the parts does not matter
 pub recoded_take : (recode : List ℕ → List ℕ) (w n : ℕ) (x : List ℕ) → recoded recode w n (take (n * w) x) ≡ recoded recode w n x

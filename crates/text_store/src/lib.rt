@@ -1,4 +1,5 @@
 // The records of a table stored from its text.
 #![tactic(auto)]
 
+pub mod recode;
 pub mod store;

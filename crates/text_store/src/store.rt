@@ -5,6 +5,7 @@ ghost use Rattle.text_store.specs.Recode.{recoded};
 ghost use Rattle.text_store.specs.Stored.{state_of_line, label_of_columns, number_bytes, no_labels, arc_of_line};
 ghost use Rattle.automata.specs.Layout.{arc_size, state_size, arc_width, label_size, label_width, labels_column, labels_size, state_width};
 
+use crate::recode::write_parts;
 use table::arc::{labels_start, store_arc_weight, store_ends};
 use table::bytes::copy_into;
 use table::layout::{
@@ -31,15 +32,16 @@ pub fn store_states(text: &[u8], start: usize, count: usize, states: &mut [u8])
     ensures { states.new ≡ splice 0
         (recoded state_of_line state_width count (drop start text.now)) states.old }
 {
-    let mut left = count;
-    let mut at = start;
-    let mut to = 0;
-    while 0 < left {
-        store_state_line(&text[at..at + STATE_WIDTH], states, to);
-        left -= 1;
-        at += STATE_WIDTH;
-        to += STATE_SIZE;
-    }
+    let lines = &text[start..];
+    write_parts(
+        lines,
+        STATE_WIDTH,
+        count,
+        states,
+        0,
+        STATE_SIZE,
+        store_state_line,
+    );
 }
 
 // The record of the label in nine columns: what follows the blanks of the last eight, and zeros up to eight bytes.
@@ -60,15 +62,15 @@ fn store_labels(labels: &[u8], tapes: usize, arcs: &mut [u8], start: usize)
     ensures { arcs.new ≡ splice start (recoded label_of_columns label_width tapes labels.now)
         arcs.old }
 {
-    let mut left = tapes;
-    let mut at = 0;
-    let mut to = start;
-    while 0 < left {
-        store_label(&labels[at..at + LABEL_WIDTH], arcs, to);
-        left -= 1;
-        at += LABEL_WIDTH;
-        to += LABEL_SIZE;
-    }
+    write_parts(
+        labels,
+        LABEL_WIDTH,
+        tapes,
+        arcs,
+        start,
+        LABEL_SIZE,
+        store_label,
+    );
 }
 
 // Source, target and weight of the arc in a line that was judged.
@@ -114,13 +116,10 @@ pub fn store_arcs(text: &[u8], start: usize, count: usize, tapes: usize, arcs: &
         (drop start text.now)) arcs.old }
 {
     let width = ARC_WIDTH + tapes * LABEL_WIDTH;
-    let mut left = count;
-    let mut at = start;
-    let mut to = 0;
-    while 0 < left {
-        store_arc_line(&text[at..at + width], tapes, arcs, to);
-        left -= 1;
-        at += width;
-        to += ARC_SIZE;
-    }
+    let store = |line: &[u8], out: &mut [u8], at: usize|
+        requires { (length line.now ≡ arc_width + tapes * label_width)
+            × ((tapes ≤ 8) × (at + arc_size ≤ length out.old)) }
+        ensures { out.new ≡ splice at (arc_of_line tapes line.now) out.old }
+    { store_arc_line(line, tapes, out, at) };
+    write_parts(&text[start..], width, count, arcs, 0, ARC_SIZE, store);
 }

@@ -14,12 +14,36 @@ ghost use Rattle.automata.specs.Calls.Drop.{drop_outcome};
 ghost use Rattle.automata.specs.Calls.Lookup.{lookup_outcome};
 ghost use Rattle.automata.specs.Calls.LeastPath.{path_recorded};
 ghost use Rattle.automata.specs.Calls.Forecast.{forecast_recorded};
+ghost use Rattle.table.specs.Answers.{memory};
 ghost use Rattle.pairs.specs.PairBytes.{pairs_of};
 ghost use Rattle.c_answers.specs.Words.{tells_made, told_made, tells_built, told_built, tells_joined, told_joined, tells_written, told_written, tells_found, told_found, tells_recorded, told_recorded, tells_path, told_path};
 
 use c_answers::word::{bytes_word, forecast_word, path_word, table_word, weight_word};
 use path::record::path_into;
 use table::answer::Counts;
+use table::lent::Table;
+
+// A table as a caller in C lends it: its counts and the bytes of its records.
+fn lent<'a>(
+    tapes: usize,
+    states: usize,
+    arcs: usize,
+    state_bytes: &'a [u8],
+    arc_bytes: &'a [u8],
+) -> Table<'a>
+    ensures { memory result ≡ memory_of tapes states arcs state_bytes.now arc_bytes.now }
+{
+    let counts = Counts {
+        tapes,
+        states,
+        arcs,
+    };
+    Table {
+        counts,
+        states: state_bytes,
+        arcs: arc_bytes,
+    }
+}
 
 // Reads the text of a table.
 pub fn tomchoen_read(text: &[u8], out_states: &mut [u8], out_arcs: &mut [u8]) -> u64
@@ -44,12 +68,8 @@ pub fn tomchoen_write(
         ≡ told_written (write_outcome (memory_of tapes states arcs state_bytes.now arc_bytes.now)
         output.old) }
 {
-    let counts = Counts {
-        tapes,
-        states,
-        arcs,
-    };
-    let answer = text::write(counts, state_bytes, arc_bytes, output);
+    let table = lent(tapes, states, arcs, state_bytes, arc_bytes);
+    let answer = text::write(&table, output);
     bytes_word(answer)
 }
 
@@ -70,20 +90,8 @@ pub fn tomchoen_build(
         arc_bytes.now) (pairs_of pairs.now)
         (slices_of out_states.old out_arcs.old) work.old) }
 {
-    let counts = Counts {
-        tapes,
-        states,
-        arcs,
-    };
-    let answer = intersect::call::intersect(
-        counts,
-        state_bytes,
-        arc_bytes,
-        pairs,
-        out_states,
-        out_arcs,
-        work,
-    );
+    let table = lent(tapes, states, arcs, state_bytes, arc_bytes);
+    let answer = intersect::call::intersect(&table, pairs, out_states, out_arcs, work);
     table_word(answer)
 }
 
@@ -110,27 +118,21 @@ pub fn tomchoen_product(
         second_arc_bytes.now) (slices_of out_states.old out_arcs.old)
         work.old) }
 {
-    let first = Counts {
-        tapes: first_tapes,
-        states: first_states,
-        arcs: first_arcs,
-    };
-    let second = Counts {
-        tapes: second_tapes,
-        states: second_states,
-        arcs: second_arcs,
-    };
-    let answer = product::call::product(
-        first,
+    let first = lent(
+        first_tapes,
+        first_states,
+        first_arcs,
         first_state_bytes,
         first_arc_bytes,
-        second,
+    );
+    let second = lent(
+        second_tapes,
+        second_states,
+        second_arcs,
         second_state_bytes,
         second_arc_bytes,
-        out_states,
-        out_arcs,
-        work,
     );
+    let answer = product::call::product(&first, &second, out_states, out_arcs, work);
     table_word(answer)
 }
 
@@ -161,23 +163,23 @@ pub fn tomchoen_join(
         (slices_of product_states.old product_arcs.old)
         (slices_of out_states.old out_arcs.old) work.old) }
 {
-    let first = Counts {
-        tapes: first_tapes,
-        states: first_states,
-        arcs: first_arcs,
-    };
-    let second = Counts {
-        tapes: second_tapes,
-        states: second_states,
-        arcs: second_arcs,
-    };
-    let answer = join::call::join(
-        first,
+    let first = lent(
+        first_tapes,
+        first_states,
+        first_arcs,
         first_state_bytes,
         first_arc_bytes,
-        second,
+    );
+    let second = lent(
+        second_tapes,
+        second_states,
+        second_arcs,
         second_state_bytes,
         second_arc_bytes,
+    );
+    let answer = join::call::join(
+        &first,
+        &second,
         pairs,
         product_states,
         product_arcs,
@@ -209,26 +211,21 @@ pub fn tomchoen_union(
         second_state_bytes.now second_arc_bytes.now)
         (slices_of out_states.old out_arcs.old)) }
 {
-    let first = Counts {
-        tapes: first_tapes,
-        states: first_states,
-        arcs: first_arcs,
-    };
-    let second = Counts {
-        tapes: second_tapes,
-        states: second_states,
-        arcs: second_arcs,
-    };
-    let answer = tapes::union::union(
-        first,
+    let first = lent(
+        first_tapes,
+        first_states,
+        first_arcs,
         first_state_bytes,
         first_arc_bytes,
-        second,
+    );
+    let second = lent(
+        second_tapes,
+        second_states,
+        second_arcs,
         second_state_bytes,
         second_arc_bytes,
-        out_states,
-        out_arcs,
     );
+    let answer = tapes::union::union(&first, &second, out_states, out_arcs);
     table_word(answer)
 }
 
@@ -247,19 +244,8 @@ pub fn tomchoen_project(
         ≡ told_made (project_outcome (memory_of tapes states arcs state_bytes.now arc_bytes.now)
         chosen.now (slices_of out_states.old out_arcs.old)) }
 {
-    let counts = Counts {
-        tapes,
-        states,
-        arcs,
-    };
-    let answer = tapes::project::project(
-        counts,
-        state_bytes,
-        arc_bytes,
-        chosen,
-        out_states,
-        out_arcs,
-    );
+    let table = lent(tapes, states, arcs, state_bytes, arc_bytes);
+    let answer = tapes::project::project(&table, chosen, out_states, out_arcs);
     table_word(answer)
 }
 
@@ -278,19 +264,8 @@ pub fn tomchoen_drop(
         ≡ told_made (drop_outcome (memory_of tapes states arcs state_bytes.now arc_bytes.now)
         mask (slices_of out_states.old out_arcs.old)) }
 {
-    let counts = Counts {
-        tapes,
-        states,
-        arcs,
-    };
-    let answer = tapes::drop::drop_tapes(
-        counts,
-        state_bytes,
-        arc_bytes,
-        mask,
-        out_states,
-        out_arcs,
-    );
+    let table = lent(tapes, states, arcs, state_bytes, arc_bytes);
+    let answer = tapes::drop::drop_tapes(&table, mask, out_states, out_arcs);
     table_word(answer)
 }
 
@@ -308,12 +283,8 @@ pub fn tomchoen_lookup(
         ≡ told_found (lookup_outcome (memory_of tapes states arcs state_bytes.now arc_bytes.now)
         tuple.now work.old) }
 {
-    let counts = Counts {
-        tapes,
-        states,
-        arcs,
-    };
-    let answer = lookup::call::lookup(counts, state_bytes, arc_bytes, tuple, work);
+    let table = lent(tapes, states, arcs, state_bytes, arc_bytes);
+    let answer = lookup::call::lookup(&table, tuple, work);
     weight_word(answer)
 }
 
@@ -334,12 +305,8 @@ pub fn tomchoen_path(
         ≡ told_path (path_recorded (memory_of tapes states arcs state_bytes.now arc_bytes.now)
         tuple.now res.old list.old work.old) }
 {
-    let counts = Counts {
-        tapes,
-        states,
-        arcs,
-    };
-    let answer = path_into(counts, state_bytes, arc_bytes, tuple, res, list, work);
+    let table = lent(tapes, states, arcs, state_bytes, arc_bytes);
+    let answer = path_into(&table, tuple, res, list, work);
     path_word(answer)
 }
 
@@ -359,11 +326,7 @@ pub fn tomchoen_forecast(
         arc_bytes.now) (tapes_of (pairs_of pairs.now)) res.old
         work.old) }
 {
-    let counts = Counts {
-        tapes,
-        states,
-        arcs,
-    };
-    let answer = forecast::call::forecast_into(counts, state_bytes, arc_bytes, pairs, res, work);
+    let table = lent(tapes, states, arcs, state_bytes, arc_bytes);
+    let answer = forecast::call::forecast_into(&table, pairs, res, work);
     forecast_word(answer)
 }

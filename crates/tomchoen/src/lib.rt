@@ -3,16 +3,17 @@
 
 pub mod c;
 
-pub use forecast_records::{Forecast, ForecastAnswer, ForecastList};
-pub use lookup::call::{WeightAnswer, lookup};
+pub use forecast_records::{Forecast, ForecastList};
+pub use lookup::call::lookup;
 pub use pairs_calls::{intersect, join};
 pub use pairs_forecast::forecast;
 pub use path::call::path;
-pub use path_search::answer::{PathAnswer, PathTold};
+pub use path_search::answer::PathTold;
 pub use product::call::product;
-pub use table::answer::{Counts, Judged, Refusal, TableAnswer};
+pub use table::answer::{Counts, Refusal};
+pub use table::lent::Table;
 pub use table::pair::Pair;
 pub use tapes::drop::drop_tapes;
 pub use tapes::project::project;
 pub use tapes::union::union;
-pub use text::{WriteAnswer, read, write};
+pub use text::{read, write};

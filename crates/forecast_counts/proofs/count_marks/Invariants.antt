@@ -1,8 +1,8 @@
-use Rattle.forecast_counts.specs.Symbols.{marked}
-use lib.ListN.{length, drop}
-use Prim.Native.Nat.{◌+◌, ◌≤◌}
 use mathlib.Core.Path.{◌≡◌}
+use Prim.Native.Nat.{◌+◌, ◌≤◌}
+use lib.ListN.{drop}
+use Rattle.forecast_counts.specs.Symbols.{marked}
 use Rattle.forecast_counts.proofs.count_marks.Given as goal
 
-abbrev pub invariant-loop-i : goal.invariant-loop-i
-invariant-loop-i l = (l.i ≤ length l.seen) × (l.i-end ≡ length l.seen) × (l.found ≤ l.i) × (l.found + marked (drop l.i l.seen) ≡ marked l.seen)
+abbrev pub invariant-loop-mark : goal.invariant-loop-mark
+invariant-loop-mark l = (l.found ≤ l.mark-index) × (l.found + marked (drop l.mark-index l.seen) ≡ marked l.seen)

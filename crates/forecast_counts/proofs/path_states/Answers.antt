@@ -1,19 +1,18 @@
-use Rattle.forecast_counts.proofs.PathFacts.{path_turn, path_end}
+use mathlib.Core.Path.{◌≡◌, ◌∙◌}
+use Prim.Native.Nat.{◌+◌, ◌-◌, ◌*◌}
 use native.Mathlib.Omega.{arith}
-use Prim.Native.Nat.{◌-◌}
-use mathlib.Core.Path.{◌∙◌}
-use borrow.Author.Rules.{rules}
+use Rattle.automata.specs.Layout.{delays_size}
+use Rattle.forecast_counts.proofs.PathFacts.{test-le, path_turn, path_end}
 use Rattle.forecast_counts.proofs.path_states.Goals as goal
 
-pub loop-left-init : goal.loop-left-init
-loop-left-init c = (search rules, search rules, omega arith)
-
-pub loop-left-preserved : goal.loop-left-preserved
-loop-left-preserved c =
-    let l = c.loop-left in
-    let t = c.loop-left-test.true in
-    let o = c.one_if-found.ensures in
-    (omega (arith, l.invariant.0, t, o.1), omega (arith, l.invariant.1, t), path_turn _ l.left (l.left - 1) _ _ _ _ (omega (arith, t)) c.on_path-on.ensures o.0 ∙ l.invariant.2)
+pub loop-q-preserved : goal.loop-q-preserved
+loop-q-preserved c =
+    let l = c.loop-q in
+    let at : delays_size * (l.q + 1) ≡ delays_size * l.q + delays_size = omega arith in (
+      omega (arith, l.invariant.0, c.from-found.ensures, test-le c.on_path.result),
+      rw at
+          (path_turn _ (c.args.states - l.q) (c.args.states - (l.q + 1)) _ _ _ _ (omega arith) c.on_path.ensures c.from-found.ensures ∙ l.invariant.1),
+    )
 
 pub returns : goal.returns
-returns c = let l = c.loop-left in path_end _ l.left _ _ (omega (arith, c.loop-left-test.false)) ∙ l.invariant.2
+returns c = path_end _ (c.args.states - c.loop-q.q) _ _ (omega arith) ∙ c.loop-q.invariant.1

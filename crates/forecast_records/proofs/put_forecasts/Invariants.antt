@@ -1,14 +1,10 @@
-use Prim.Native.Nat.{◌-◌, ◌≤◌}
 use mathlib.Core.Path.{◌≡◌}
 use mathlib.Core.List.{map}
-use lib.ListN.{length, take}
+use lib.ListN.{take}
 use Rattle.automata.specs.Calls.Forecast.{forecast_records}
 use Rattle.table.specs.Region.{splice}
 use Rattle.forecast_records.specs.Values.{forecast_as}
 use Rattle.forecast_records.proofs.put_forecasts.Given as goal
 
 abbrev pub invariant-loop-h : goal.invariant-loop-h
-invariant-loop-h l = (l.h ≤ l.list.used) × (length l.res ≡ length l.initial.res) × (l.res ≡ splice 0 (forecast_records (map forecast_as (take l.h l.list.forecasts))) l.initial.res)
-
-abbrev pub decreases-loop-h : goal.decreases-loop-h
-decreases-loop-h l = l.list.used - l.h
+invariant-loop-h l = l.res ≡ splice 0 (forecast_records (map forecast_as (take l.h l.list.forecasts))) l.initial.res

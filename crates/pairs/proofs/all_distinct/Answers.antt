@@ -1,16 +1,9 @@
-use mathlib.Core.Path.{refl, sym, ◌∙◌}
-use Rattle.pairs.proofs.ListFacts.{distinct-twice, distinct-later, distinct_end}
-use borrow.Author.Rules.{rules}
+use mathlib.Core.Path.{sym, ◌∙◌}
+use Rattle.pairs.proofs.ListFacts.{distinct-twice, distinct-later}
 use Rattle.pairs.proofs.all_distinct.Goals as goal
 
-pub loop-i-init : goal.loop-i-init
-loop-i-init c = (search rules, refl)
-
-pub returns-then-occurs : goal.returns-then-occurs
-returns-then-occurs c = let l = c in sym (distinct-twice _ _ l.loop-i-test.true _ c.occurs.ensures c.if-occurs.true) ∙ l.loop-i.invariant.1
+pub returns-then-contains : goal.returns-then-contains
+returns-then-contains c = sym (distinct-twice c.loop-i.i c.args.numbers.now c.loop-i-test.true _ c.contains.ensures.value c.if-contains.true) ∙ c.loop-i.invariant
 
 pub loop-i-preserved : goal.loop-i-preserved
-loop-i-preserved c = let l = c in (search rules, distinct-later _ _ l.loop-i-test.true _ c.occurs.ensures c.if-occurs.false ∙ l.loop-i.invariant.1)
-
-pub returns : goal.returns
-returns c = sym (distinct_end _ _ c.loop-i-test.false) ∙ c.loop-i.invariant.1
+loop-i-preserved c = distinct-later c.loop-i.i c.args.numbers.now c.loop-i-test.true _ c.contains.ensures.value c.if-contains.false ∙ c.loop-i.invariant

@@ -1,8 +1,5 @@
-use Rattle.pairs.proofs.DecideFacts.{once_few, decides_keep}
+use Rattle.pairs.proofs.DecideFacts.{decides_keep}
 use Rattle.pairs.proofs.decide_keep.Goals as goal
 
-pub decide-requires : goal.decide-requires
-decide-requires c = let s = c in once_few s.args.list _ _ c.keep_once-once.ensures
-
 pub returns : goal.returns
-returns c = decides_keep _ _ _ _ _ c.decide.ensures c.keep_once-once.ensures c.limits_fit-fit.ensures
+returns c = decides_keep _ _ _ _ _ c.decide.ensures c.keep_once.ensures c.limits_fit.ensures

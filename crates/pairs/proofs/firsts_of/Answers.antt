@@ -1,7 +1,8 @@
-use Rattle.pairs.proofs.ListFacts.{length_made}
-use Rattle.pairs.proofs.PairFacts.{side}
 use borrow.Author.Rules.{rules}
+use Rattle.table.specs.Pairs.{no_pair}
+use Rattle.pairs.proofs.PairFacts.{side}
 use Rattle.pairs.proofs.firsts_of.Goals as goal
 
 pub returns : goal.returns
-returns c = let s = c in side (λ p. p.first) s.args.pairs.used s.args.pairs.pairs (search (rules, length_made))
+returns c =
+    side (λ p. p.first) c.args.pairs.used 4 c.map.result c.args.pairs.pairs (search rules) (search rules) (λ i h. let f = (c.map.ensures.items.at i no_pair 0 h).2 in search rules)

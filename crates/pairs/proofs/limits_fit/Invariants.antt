@@ -1,10 +1,9 @@
 use mathlib.Core.Path.{◌≡◌}
-use Prim.Native.Nat.{◌-◌, ◌≤◌}
-use Rattle.pairs.proofs.DecideFacts.{left}
+use mathlib.Core.List.{map}
+use lib.ListN.{take, drop}
+use Rattle.automata.specs.TapePair.{limits_fit}
+use Rattle.table.specs.Pairs.{pair_as, pairs_as}
 use Rattle.pairs.proofs.limits_fit.Given as goal
 
 abbrev pub invariant-loop-h : goal.invariant-loop-h
-invariant-loop-h l = (l.h ≤ 4) × (left l.list.used l.list.pairs l.h ≡ left l.list.used l.list.pairs 0)
-
-abbrev pub decreases-loop-h : goal.decreases-loop-h
-decreases-loop-h l = 4 - l.h
+invariant-loop-h l = limits_fit (map pair_as (drop l.h (take l.list.used l.list.pairs))) ≡ limits_fit (pairs_as l.list)

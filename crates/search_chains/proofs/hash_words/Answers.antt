@@ -1,17 +1,17 @@
-use mathlib.Core.Path.{refl, ◌∙◌}
+use mathlib.Core.Path.{◌≡◌, ◌∙◌}
+use Prim.Native.Nat.{◌+◌, ◌-◌, ◌*◌, ◌<◌}
 use Rattle.search_chains.proofs.HashFacts.{hash_step, hash_end}
 use native.Mathlib.Omega.{arith}
-use borrow.Author.Rules.{rules}
 use Rattle.search_chains.proofs.hash_words.Goals as goal
 
-pub loop-left-init : goal.loop-left-init
-loop-left-init c = (search rules, search rules, refl)
-
-pub loop-left-preserved : goal.loop-left-preserved
-loop-left-preserved c =
-    let l = c.loop-left in
+pub loop-i-preserved : goal.loop-i-preserved
+loop-i-preserved c =
+    let l = c.loop-i in
     let m = c.mix-hash.ensures in
-    (search rules, search rules, rw m.0 (hash_step l.left l.from l.hash _ _ c.loop-left-test.true c.get64.ensures) ∙ l.invariant.2)
+    let more : 0 < c.args.n - l.i = omega arith in
+    let at : c.args.at + 8 * (l.i + 1) ≡ c.args.at + 8 * l.i + 8 = omega arith in
+    let left : c.args.n - (l.i + 1) ≡ c.args.n - l.i - 1 = omega arith in
+    (m.1, rw (at, left, m.0) (hash_step (c.args.n - l.i) (c.args.at + 8 * l.i) l.hash _ _ more c.get64.ensures) ∙ l.invariant.1)
 
 pub returns : goal.returns
-returns c = let l = c.loop-left in (hash_end l.left l.from l.hash _ (omega arith) ∙ l.invariant.2, l.invariant.1)
+returns c = let l = c.loop-i in (hash_end (c.args.n - l.i) (c.args.at + 8 * l.i) l.hash _ (omega arith) ∙ l.invariant.1, l.invariant.0)

@@ -1,11 +1,13 @@
+use mathlib.Core.Path.{refl}
+use Rattle.table.proofs.AnswerFacts.{handed_on}
 use Rattle.agree_line.proofs.LineFacts.{rest_short, rest_refused, rest_fine}
 use Rattle.agree_line.proofs.line.read_rest.Goals as goal
 
 pub returns-then-input-next : goal.returns-then-input-next
-returns-then-input-next c = let s = c in rest_short _ _ s.requires.1 c.if-input-next.true
+returns-then-input-next c = rest_short _ _ c.requires.1 c.if-input-next.true
 
-pub returns-in-Refused : goal.returns-in-Refused
-returns-in-Refused c = let j = c in let e = j in rest_refused _ _ e.requires.1 e.if-input-next.false j.judge_line-judged.result j.judge_line-judged.ensures _ c.in-Refused.is
+pub returns-in_err-judge_line : goal.returns-in_err-judge_line
+returns-in_err-judge_line c = rw (handed_on _ _ c.from_residual.ensures.1) (rest_refused _ _ c.requires.1 c.if-input-next.false _ c.in_err-judge_line.ensures _ refl)
 
-pub returns-in-Fine : goal.returns-in-Fine
-returns-in-Fine c = let j = c in let e = j in rest_fine _ _ e.requires.1 e.if-input-next.false j.judge_line-judged.result j.judge_line-judged.ensures c.in-Fine.is
+pub returns : goal.returns
+returns c = rest_fine _ _ c.requires.1 c.if-input-next.false _ c.in_ok-judge_line.ensures refl

@@ -1,9 +1,11 @@
-use Rattle.table.specs.Answers.{lent}
+use mathlib.Core.Path.{refl}
+use Rattle.std.specs.Prelude.{Ok, Err}
+use Rattle.table.specs.Answers.{memory}
 use Rattle.agree_text.proofs.PrintFacts.{print_done, print-refused}
 use Rattle.agree_text.proofs.keep.print_table.Goals as goal
 
-pub returns-in-Bytes : goal.returns-in-Bytes
-returns-in-Bytes c = let s = c in let m = lent s.args.counts s.args.states.now s.args.arcs.now in let w = c.write-written in print_done m s.requires.0.0 s.requires.0.1 _ s.requires.1 w.result _ w.ensures _ c.in-Bytes.is
+pub returns-in-Ok : goal.returns-in-Ok
+returns-in-Ok c = let m = memory c.args.table.now in print_done m c.requires.0.0 c.requires.0.1 _ c.requires.1 (Ok _) _ c.in-Ok.ensures _ refl
 
-pub returns-in-Refused : goal.returns-in-Refused
-returns-in-Refused c = let s = c in let m = lent s.args.counts s.args.states.now s.args.arcs.now in let w = c.write-written in print-refused m s.requires.0.0 s.requires.0.1 _ s.requires.1 w.result _ w.ensures _ c.in-Refused.is _ _ c.write_refusal.ensures
+pub returns-in-Err : goal.returns-in-Err
+returns-in-Err c = let m = memory c.args.table.now in print-refused m c.requires.0.0 c.requires.0.1 _ c.requires.1 (Err _) _ c.in-Err.ensures _ refl _ _ c.write_refusal.ensures

@@ -1,11 +1,8 @@
 use mathlib.Core.Path.{refl}
 use native.Mathlib.Omega.{arith}
 use Rattle.delays_relaxation.proofs.RunFacts.{joined_at}
-use Rattle.delays_relaxation.proofs.LowerFacts.{lowers_refl, arc_lowers}
+use Rattle.delays_relaxation.proofs.LowerFacts.{arc_lowers}
 use Rattle.delays_relaxation.proofs.settle.lower_by.Goals as goal
-
-pub returns-then-count-k : goal.returns-then-count-k
-returns-then-count-k c = lowers_refl _ _ _ _
 
 pub visit_edge-kept-requires : goal.visit_edge-kept-requires
 visit_edge-kept-requires c =

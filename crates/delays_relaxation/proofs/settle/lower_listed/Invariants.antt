@@ -1,13 +1,6 @@
-use lib.ListN.{length}
-use mathlib.Core.Path.{◌≡◌}
-use Prim.Native.Nat.{◌-◌}
 use Rattle.delays_relaxation.specs.Edges.{edges}
 use Rattle.delays_relaxation.specs.Lowered.{Lowers}
 use Rattle.delays_relaxation.proofs.settle.lower_listed.Given as goal
 
 abbrev pub invariant-loop-i : goal.invariant-loop-i
-invariant-loop-i l =
-    (length l.work ≡ length l.initial.work) × (length l.through ≡ length l.initial.through) × Lowers (edges l.reversed l.first l.second 0 l.count l.arcs) l.at l.states l.work l.initial.work
-
-abbrev pub decreases-loop-i : goal.decreases-loop-i
-decreases-loop-i l = l.count - l.i
+invariant-loop-i l = Lowers (edges l.reversed l.first l.second 0 l.count l.arcs) l.at l.states l.work l.initial.work

@@ -1,20 +1,25 @@
-use Rattle.forecast.proofs.CallFacts.{used_none, answer_refused, may_tell, answer_told}
+use Rattle.table.proofs.AnswerFacts.{handed_on}
+use Rattle.forecast.proofs.CallFacts.{table_refused, pairs_refused, space_refused, may_tell, answer_told}
 use Rattle.forecast.proofs.call.tell.Goals as goal
 
-pub returns-in_default : goal.returns-in_default
-returns-in_default c =
-    let s = c in
-    let f = c.first_refusal-judged in
-    (used_none _ c.no_forecasts.ensures, λ ps k. answer_refused _ ps s.args.room s.args.work.now s.args.listed k f.result f.ensures c.no_forecasts.result c.in_default.field-0 c.in_default.is)
+pub returns-in_err-judge : goal.returns-in_err-judge
+returns-in_err-judge c = rw (handed_on _ _ c.from_residual.ensures.1)
+    (tt, λ ps k. table_refused _ ps c.args.room c.args.work.now c.args.listed k _ c.in_err-judge.ensures)
 
-pub forecasts_of-told-requires : goal.forecasts_of-told-requires
-forecasts_of-told-requires c =
-    let s = c in
-    may_tell _ s.requires.pairs s.args.room s.args.work.now s.args.listed s.requires.judged _ c.first_refusal-judged.ensures c.in-Fine.is
+pub returns-in_err-pairs : goal.returns-in_err-pairs
+returns-in_err-pairs c = rw (handed_on _ _ c.from_residual-in_err-pairs.ensures.1)
+    (tt, λ ps k. pairs_refused _ ps c.args.room c.args.work.now c.args.listed k c.in_ok-judge.ensures _ c.in_err-pairs.was)
+
+pub returns-then-not-has_space : goal.returns-then-not-has_space
+returns-then-not-has_space c =
+    (tt, λ ps k. space_refused _ ps c.args.room c.args.work.now c.args.listed k c.in_ok-judge.ensures _ c.in_ok-pairs.was c.if-not-has_space.ensures)
+
+pub forecasts_of-requires : goal.forecasts_of-requires
+forecasts_of-requires c =
+    may_tell _ c.requires.pairs c.args.room c.args.work.now c.args.listed c.requires.judged c.in_ok-judge.ensures _ c.in_ok-pairs.was c.if-not-has_space.ensures
 
 pub returns : goal.returns
-returns c =
-    let s = c in
-    let f = c.first_refusal-judged in
-    let t = c.forecasts_of-told in
-    (t.ensures.0, λ ps k. answer_told _ ps s.args.room s.args.work.now s.args.listed k f.result f.ensures c.in-Fine.is t.result t.ensures.1)
+returns c = (
+  c.forecasts_of.ensures.0,
+  λ ps k. answer_told _ ps c.args.room c.args.work.now c.args.listed k c.in_ok-judge.ensures _ c.in_ok-pairs.was c.if-not-has_space.ensures c.forecasts_of.result c.forecasts_of.ensures.1,
+)

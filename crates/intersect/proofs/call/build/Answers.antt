@@ -1,21 +1,11 @@
-use Rattle.table.specs.Answers.{lent}
-use Rattle.intersect.proofs.SearchFacts.{explorable}
+use Rattle.table.proofs.AnswerFacts.{handed_on}
 use Rattle.intersect.proofs.CallFacts.{call_refused, call_answered}
 use Rattle.intersect.proofs.call.build.Goals as goal
 
-pub reach-requires : goal.reach-requires
-reach-requires c =
-    let s = c in
-    let p = c.prepare-prepared.ensures s.requires.pairs s.requires.judged in
-    let e = c.in-Fine.is in
-    (explorable _ _ _ _ _ _ _ _ p e, p.divides e)
+pub returns-in_err-plan : goal.returns-in_err-plan
+returns-in_err-plan c = rw (handed_on _ _ c.from_residual.ensures.1)
+    (λ ps k. call_refused c.args.table.now.counts c.args.table.now.states.now c.args.table.now.arcs.now ps c.args.out_states.now c.args.out_arcs.now c.args.work.now _ (c.in_err-plan.ensures ps k))
 
-pub returns-in-Refused : goal.returns-in-Refused
-returns-in-Refused c =
-    let s = c in
-    λ ps k. call_refused (lent s.args.counts s.args.states.now s.args.arcs.now) ps s.args.out_states.now s.args.out_arcs.now s.args.work.now _ (c.prepare-prepared.ensures ps k) _ c.in-Refused.is
-
-pub returns-in-Fine : goal.returns-in-Fine
-returns-in-Fine c =
-    let s = c in
-    λ ps k. call_answered (lent s.args.counts s.args.states.now s.args.arcs.now) ps s.args.out_states.now s.args.out_arcs.now s.args.work.now _ (c.prepare-prepared.ensures ps k) c.in-Fine.is _ _ _ c.reach.ensures
+pub returns : goal.returns
+returns c = λ ps k.
+    call_answered c.args.table.now.counts c.args.table.now.states.now c.args.table.now.arcs.now ps c.args.out_states.now c.args.out_arcs.now c.args.work.now _ (c.in_ok-plan.ensures ps k) _ _ _ c.reach.ensures

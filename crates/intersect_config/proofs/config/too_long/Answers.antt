@@ -1,28 +1,20 @@
-use mathlib.Core.Path.{refl, sym, ◌∙◌}
+use mathlib.Core.Path.{sym, ◌∙◌}
 use native.Mathlib.Omega.{arith}
-use Rattle.intersect_config.proofs.TestFacts.{long_all, long_found, long_next, long_none}
+use Rattle.intersect_config.proofs.TestFacts.{long_all, long_none, long_found, long_next}
 use Rattle.intersect_config.proofs.RowFacts.{len_in_slot}
-use borrow.Author.Rules.{rules}
 use Rattle.intersect_config.proofs.config.too_long.Goals as goal
 
-pub loop-i-init : goal.loop-i-init
-loop-i-init c = (search rules, refl)
-
-pub returns-then-p-row : goal.returns-then-p-row
-returns-then-p-row c =
-    let s = c in
-    let l = c.loop-i in
-    let e = len_in_slot l.i s.args.row.now (omega (arith, s.requires.1)) in
-    sym (long_found _ _ s.requires.0 s.requires.1 s.requires.2 _ c.loop-i-test.true (rw e at c.if-p-row.true)) ∙ l.invariant.1 ∙ long_all _ _ s.requires.0 s.requires.1
+pub returns-then-pairs-i : goal.returns-then-pairs-i
+returns-then-pairs-i c =
+    let r = c.requires in
+    let e = len_in_slot c.loop-i.i c.args.row.now (omega arith) in
+    sym (long_found _ _ r.0 r.1 r.2 _ c.loop-i-test.true (rw e at c.if-pairs-i.true)) ∙ c.loop-i.invariant ∙ long_all _ _ r.0 r.1
 
 pub loop-i-preserved : goal.loop-i-preserved
 loop-i-preserved c =
-    let s = c in
-    let l = c.loop-i in
-    let e = len_in_slot l.i s.args.row.now (omega (arith, s.requires.1)) in
-    (search rules, sym (long_next _ _ s.requires.0 s.requires.1 s.requires.2 _ c.loop-i-test.true (rw e at c.if-p-row.false)) ∙ l.invariant.1)
+    let r = c.requires in
+    let e = len_in_slot c.loop-i.i c.args.row.now (omega arith) in
+    sym (long_next _ _ r.0 r.1 r.2 _ c.loop-i-test.true (rw e at c.if-pairs-i.false)) ∙ c.loop-i.invariant
 
 pub returns : goal.returns
-returns c =
-    let s = c in
-    sym (long_none _ _ s.requires.0 s.requires.1 _ c.loop-i-test.false) ∙ c.loop-i.invariant.1 ∙ long_all _ _ s.requires.0 s.requires.1
+returns c = let r = c.requires in sym (long_none _ _ r.0 r.1 _ c.loop-i-test.false) ∙ c.loop-i.invariant ∙ long_all _ _ r.0 r.1

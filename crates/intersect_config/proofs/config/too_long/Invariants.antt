@@ -1,4 +1,3 @@
-use Prim.Native.Nat.{◌≤◌, ◌-◌}
 use mathlib.Core.Path.{◌≡◌}
 use lib.ListN.{take}
 use Rattle.intersect_config.specs.Configs.{config_at}
@@ -8,7 +7,4 @@ use Rattle.intersect_config.proofs.config.too_long.Given as goal
 abbrev pub invariant-loop-i : goal.invariant-loop-i
 invariant-loop-i l =
     let ls = (config_at 0 l.row).leftovers in
-    (l.i ≤ l.pairs.used) × (long_from l.i (take l.pairs.used l.pairs.pairs) (take l.pairs.used ls) ≡ long_from 0 (take l.pairs.used l.pairs.pairs) (take l.pairs.used ls))
-
-abbrev pub decreases-loop-i : goal.decreases-loop-i
-decreases-loop-i l = l.pairs.used - l.i
+    long_from l.i (take l.pairs.used l.pairs.pairs) (take l.pairs.used ls) ≡ long_from 0 (take l.pairs.used l.pairs.pairs) (take l.pairs.used ls)

@@ -8,14 +8,12 @@ use Rattle.intersect_head.proofs.AgreeFacts.{row_shaped}
 use Rattle.intersect_head.proofs.entry.enter_config.Goals as goal
 
 pub returns-then-room-eq0 : goal.returns-then-room-eq0
-returns-then-room-eq0 c = let s = c in enters_none _ _ _ _ _ _ _ c.if-room-eq0.true s.requires.1
+returns-then-room-eq0 c = enters_none _ _ _ _ _ _ _ c.if-room-eq0.true c.requires.1
 
 pub enter-requires : goal.enter-requires
 enter-requires c =
-    let s = c in
-    (omega (arith, s.requires.0), omega (arith, s.requires.1), c.bucket_of-bucket.ensures.1, omega (arith, length_row _ _ s.requires.3.row_is), row_shaped _ _ s.requires.3.row_is s.requires.3.four)
+    (omega (arith, c.requires.0), omega (arith, c.requires.1), c.bucket_of-bucket.ensures.1, omega (arith, length_row _ _ c.requires.3.row_is), row_shaped _ _ c.requires.3.row_is c.requires.3.four)
 
 pub returns : goal.returns
 returns c =
-    let s = c in
-    entered_row (bucket_by s.args.used s.args.room) _ _ _ _ _ _ _ _ _ _ (sym s.requires.3.row_is.bytes) (c.bucket_of-bucket.ensures.0 ∙ ap (bucket_of s.args.room) c.hash_row.ensures.0) c.enter.ensures
+    entered_row (bucket_by c.args.used c.args.room) _ _ _ _ _ _ _ _ _ _ (sym c.requires.3.row_is.bytes) (c.bucket_of-bucket.ensures.0 ∙ ap (bucket_of c.args.room) c.hash_row.ensures.0) c.enter.ensures

@@ -20,5 +20,4 @@ write_arcs-number-requires c =
 
 pub returns : goal.returns
 returns c =
-    let s = c in
-    λ ps v cs p. finished (lent s.args.plan.counts s.args.states.now s.args.arcs.now) s.requires.sound ps v cs s.args.plan.room s.args.head _ p _ _ _ c.number_kept-kept.ensures _ _ _ _ _ _ refl c.write_states.ensures c.write_arcs-number.ensures
+    λ ps v cs p. finished (lent c.args.plan.counts c.args.states.now c.args.arcs.now) c.requires.sound ps v cs c.args.plan.room c.args.head _ p _ _ _ c.number_kept-kept.ensures _ _ _ _ _ _ refl c.write_states.ensures c.write_arcs-number.ensures

@@ -7,5 +7,4 @@ mark_coaccessible-requires c = (search rules, search rules, search rules, finals
 
 pub returns : goal.returns
 returns c =
-    let s = c in
-    rows_kept s.args.room s.args.head _ _ _ _ c.mark_final.ensures _ _ _ c.mark_coaccessible.ensures c.number_marked.ensures
+    rows_kept c.args.room c.args.head _ _ _ _ c.mark_final.ensures _ _ _ c.mark_coaccessible.ensures c.number_marked.ensures

@@ -1,14 +1,25 @@
-use Rattle.intersect_room.proofs.RoomFacts.{short_states, short_arcs, short_read, whole}
+use native.Mathlib.Omega.{arith}
+use borrow.Author.Rules.{rules}
+use Rattle.intersect_room.proofs.RoomFacts.{short, whole}
 use Rattle.intersect_room.proofs.room.room_for.Goals as goal
 
-pub returns-then-work-states : goal.returns-then-work-states
-returns-then-work-states c = short_states _ _ _ _ _ c.no_room.ensures c.if-work-states.true
+pub returns-in_err-edges : goal.returns-in_err-edges
+returns-in_err-edges c = rw c.from_residual.ensures (short _ _ _ _ (omega (arith, c.in_err-edges.ensures)))
 
-pub returns-then-rest-arcs : goal.returns-then-rest-arcs
-returns-then-rest-arcs c = short_arcs _ _ _ _ _ c.no_room-then-rest-arcs.ensures c.if-work-states.false c.if-rest-arcs.true
+pub returns-in_err-checked_mul : goal.returns-in_err-checked_mul
+returns-in_err-checked_mul c = rw c.from_residual-in_err-checked_mul.ensures (short _ _ _ _ (omega (arith, c.in_err-checked_mul.ensures)))
 
-pub returns-then-rest-arc_bytes : goal.returns-then-rest-arc_bytes
-returns-then-rest-arc_bytes c = short_read _ _ _ _ _ c.no_room-then-rest-arc_bytes.ensures c.if-work-states.false c.if-rest-arcs.false c.if-rest-arc_bytes.true
+pub returns-in_err-delays : goal.returns-in_err-delays
+returns-in_err-delays c = rw c.from_residual-in_err-delays.ensures (short _ _ _ _ (omega (arith, c.in_err-delays.ensures, c.in_ok-edges.ensures, c.in_ok-checked_mul.ensures)))
+
+pub returns-in_err-checked_mul-2 : goal.returns-in_err-checked_mul-2
+returns-in_err-checked_mul-2 c = rw c.from_residual-in_err-checked_mul-2.ensures (short _ _ _ _ (omega (arith, c.in_err-checked_mul-2.ensures)))
+
+pub returns-in_err-end : goal.returns-in_err-end
+returns-in_err-end c = rw c.from_residual-in_err-end.ensures (short _ _ _ _ (omega (arith, c.in_err-end.ensures, c.in_ok-edges.ensures, c.in_ok-checked_mul.ensures, c.in_ok-delays.ensures, c.in_ok-checked_mul-2.ensures)))
+
+pub returns-then-work-end : goal.returns-then-work-end
+returns-then-work-end c = short _ _ _ _ (omega (arith, c.in_ok-edges.ensures, c.in_ok-checked_mul.ensures, c.in_ok-delays.ensures, c.in_ok-checked_mul-2.ensures, c.in_ok-end.ensures))
 
 pub returns : goal.returns
-returns c = whole _ _ _ _ _ _ c.if-work-states.false c.if-rest-arcs.false c.if-rest-arc_bytes.false c.lesser.ensures c.lesser-2.ensures
+returns c = whole _ _ _ _ _ _ _ _ (omega (arith, c.in_ok-edges.ensures)) (omega (arith, c.in_ok-edges.ensures, c.in_ok-checked_mul.ensures, c.in_ok-delays.ensures)) (omega (arith, c.in_ok-checked_mul-2.ensures, c.in_ok-end.ensures)) (search rules) (search rules)

@@ -5,13 +5,13 @@ pub loop-q-init : goal.loop-q-init
 loop-q-init c = begin_start _ _ _
 
 pub start-head-requires : goal.start-head-requires
-start-head-requires c = let s = c in begin_requires _ _ _ s.requires _ _ _ c.loop-q.invariant c.loop-q-test.true
+start-head-requires c = begin_requires _ _ _ c.requires _ _ _ c.loop-q.invariant c.loop-q-test.true
 
 pub returns-then-head : goal.returns-then-head
-returns-then-head c = let s = c in begin_full _ _ _ s.requires _ _ _ c.loop-q.invariant c.loop-q-test.true _ _ c.start-head.ensures c.if-head.true
+returns-then-head c = begin_full _ _ _ c.requires _ _ _ c.loop-q.invariant c.loop-q-test.true _ _ c.start-head.ensures c.if-head.true
 
 pub loop-q-preserved : goal.loop-q-preserved
-loop-q-preserved c = let s = c in begin_next _ _ _ s.requires _ _ _ c.loop-q.invariant c.loop-q-test.true _ _ c.start-head.ensures c.if-head.false
+loop-q-preserved c = begin_next _ _ _ c.requires _ _ _ c.loop-q.invariant c.loop-q-test.true _ _ c.start-head.ensures c.if-head.false
 
 pub returns : goal.returns
-returns c = let s = c in begin_end _ _ _ s.requires _ _ _ c.loop-q.invariant c.loop-q-test.false
+returns c = begin_end _ _ _ c.requires _ _ _ c.loop-q.invariant c.loop-q-test.false

@@ -2,4 +2,4 @@ use Rattle.intersect_search.proofs.RunFacts.{chainable}
 use Rattle.intersect_search.proofs.explore.run.Goals as goal
 
 pub chain_arcs-requires : goal.chain_arcs-requires
-chain_arcs-requires c = let s = c in chainable _ _ _ _ s.requires.explorable
+chain_arcs-requires c = chainable _ _ _ _ c.requires.explorable

@@ -1,15 +1,11 @@
-use mathlib.Core.Path.{◌∙◌}
-use Rattle.intersect_edges.proofs.MarkFacts.{bit-one, bit-none}
-use Rattle.intersect_trim.proofs.RowFacts.{mark_leftover, mark_plain}
-use mathlib.Core.Path.{ap}
-use mathlib.Core.Bool.{not}
+use mathlib.Core.Path.{sym, ap, ◌∙◌}
+use mir.Val.{bool_byte}
+use Rattle.intersect_trim.proofs.RowFacts.{byte_bit, mark_leftover, mark_plain}
 use Rattle.intersect_trim.proofs.final_marks.final_mark.Goals as goal
+use Rattle.intersect_trim.proofs.final_marks.final_mark.Goals.{then-row_plain, else-row_plain}
 
-pub returns-then-not-row_plain : goal.returns-then-not-row_plain
-returns-then-not-row_plain c = mark_leftover _ _ _ c.row_plain.ensures (ap not c.if-not-row_plain.true)
-
-pub returns-then-states-place-eq-PRESENT : goal.returns-then-states-place-eq-PRESENT
-returns-then-states-place-eq-PRESENT c = bit-one _ c.if-states-place-eq-PRESENT.true ∙ mark_plain _ _ _ _ c.row_plain.ensures (ap not c.if-not-row_plain.false) c.record_place-place.ensures
-
-pub returns-else-states-place-eq-PRESENT : goal.returns-else-states-place-eq-PRESENT
-returns-else-states-place-eq-PRESENT c = bit-none _ c.if-states-place-eq-PRESENT.false ∙ mark_plain _ _ _ _ c.row_plain.ensures (ap not c.if-not-row_plain.false) c.record_place-place.ensures
+pub returns : goal.returns
+returns c = c.from.ensures ∙ elim c.if-row_plain.branch [
+  | then-row_plain w ↦ ap bool_byte w.from-is ∙ byte_bit _ ∙ mark_plain _ _ _ (sym w.if-row_plain.true ∙ c.row_plain.ensures) w.record_place.ensures
+  | else-row_plain w ↦ ap bool_byte (w.from-is ∙ w.if-row_plain.false) ∙ mark_leftover _ _ (sym w.if-row_plain.false ∙ c.row_plain.ensures)
+]

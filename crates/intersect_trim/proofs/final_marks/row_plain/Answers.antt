@@ -1,14 +1,10 @@
-use Rattle.intersect_trim.proofs.RowFacts.{plain_first, plain_second, plain_third, plain_all}
+use native.Mathlib.Omega.{arith}
+use Rattle.std.proofs.lemmas.Bool.Decides.{nat_tests}
+use Rattle.intersect_trim.proofs.RowFacts.{plain_is}
 use Rattle.intersect_trim.proofs.final_marks.row_plain.Goals as goal
 
-pub returns-then-work-at-ne0 : goal.returns-then-work-at-ne0
-returns-then-work-at-ne0 c = plain_first _ _ c.if-work-at-ne0.true
+pub returns-then-work-at-eq0-3 : goal.returns-then-work-at-eq0-3
+returns-then-work-at-eq0-3 c = rw (plain_is c.args.at c.args.work.now) (grind (arith, nat_tests))
 
-pub returns-then-work-at-ne0-2 : goal.returns-then-work-at-ne0-2
-returns-then-work-at-ne0-2 c = plain_second _ _ c.if-work-at-ne0-2.true
-
-pub returns-then-work-at-ne0-3 : goal.returns-then-work-at-ne0-3
-returns-then-work-at-ne0-3 c = plain_third _ _ c.if-work-at-ne0-3.true
-
-pub returns : goal.returns
-returns c = plain_all _ _ c.if-work-at-ne0.false c.if-work-at-ne0-2.false c.if-work-at-ne0-3.false
+pub returns-else-work-at-eq0-3 : goal.returns-else-work-at-eq0-3
+returns-else-work-at-eq0-3 c = rw (plain_is c.args.at c.args.work.now) (grind (arith, nat_tests))

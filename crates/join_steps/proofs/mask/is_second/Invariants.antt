@@ -1,11 +1,8 @@
-use mathlib.Core.Path.{◌≡◌}
-use Prim.Native.Nat.{◌≤◌, ◌-◌}
-use lib.ListN.{length}
-use Rattle.join_steps.proofs.MaskFacts.{later}
+use Rattle.std.proofs.Common.{◌≡◌, drop, map}
+use Rattle.automata.specs.TapePair.{tapes_of}
+use Rattle.automata.specs.Tapes.{seconds}
+use Rattle.table.specs.Pairs.{pair_as}
 use Rattle.join_steps.proofs.mask.is_second.Given as goal
 
-abbrev pub invariant-loop-i : goal.invariant-loop-i
-invariant-loop-i l = (l.i ≤ l.pairs.used) × (later l.list l.pairs.used l.place l.i ≡ later l.list l.pairs.used l.place 0) × (l.pairs.used ≤ length l.list)
-
-abbrev pub decreases-loop-i : goal.decreases-loop-i
-decreases-loop-i l = l.pairs.used - l.i
+abbrev pub invariant-loop-p : goal.invariant-loop-p
+invariant-loop-p l = seconds (tapes_of (map pair_as (drop l.p-index l.p-items))) l.place ≡ seconds (tapes_of (map pair_as l.p-items)) l.place

@@ -1,8 +1,14 @@
-use Rattle.automata.specs.Tapes.{seconds}
+use Rattle.std.proofs.Common.{rules}
+use Rattle.automata.specs.Calls.Drop.{mask_of}
 use Rattle.automata.specs.TapePair.{tapes_of}
+use Rattle.automata.specs.Tapes.{seconds}
 use Rattle.table.specs.Pairs.{pairs_as}
-use Rattle.join_steps.proofs.MaskFacts.{eight_bits}
+use Rattle.join_steps.proofs.MaskFacts.{next_bit}
 use Rattle.join_steps.proofs.mask.second_tapes.Goals as goal
 
+pub loop-place-preserved : goal.loop-place-preserved
+loop-place-preserved c = next_bit (seconds (tapes_of (pairs_as c.args.pairs))) c.loop-place.mask c.loop-place.place _ _ c.loop-place-test.true c.from.ensures c.is_second.ensures c.loop-place.invariant.0 c.loop-place.invariant.1
+
 pub returns : goal.returns
-returns c = eight_bits (seconds (tapes_of (pairs_as c.args.pairs))) _ _ c.marks-low.ensures.0 c.marks-high.ensures.0
+unfolding mask_of
+returns c = search rules

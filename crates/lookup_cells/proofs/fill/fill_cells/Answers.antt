@@ -1,7 +1,7 @@
 use Rattle.lookup_cells.proofs.FillFacts.{chains_ask}
 use Rattle.lookup_cells.proofs.RecallFacts.{fresh_none}
 use Rattle.lookup_cells.proofs.QueueFacts.{queue_none}
-use Rattle.table.specs.Answers.{lent}
+use Rattle.table.specs.Answers.{memory}
 use Rattle.table.proofs.SoundFacts.{few_tapes}
 use Rattle.lookup_cells.proofs.fill.fill_cells.Goals as goal
 
@@ -12,9 +12,8 @@ chain_arcs-requires c =
 
 pub number_labels-requires : goal.number_labels-requires
 number_labels-requires c =
-    let s = c in
-    let k = chains_ask _ _ _ _ _ _ s.requires in
-    (k.0, k.1, few_tapes (lent s.args.counts s.args.states.now s.args.arcs.now) s.requires.sound, c.no_numbers-numbers.ensures)
+    let k = chains_ask _ _ _ _ _ _ c.requires in
+    (k.0, k.1, few_tapes (memory c.args.table.now) c.requires.sound, c.no_numbers-numbers.ensures)
 
 pub fill-requires : goal.fill-requires
 fill-requires c = (

@@ -8,7 +8,7 @@ returns-then-v-weight_at c =
     let s = c in
     lowers_stored _ _ _ _ s.requires c.weight_at.ensures _ c.if-v-weight_at.true (search rules) c.put64.ensures
 
-pub returns : goal.returns
-returns c =
+pub returns-else-v-weight_at : goal.returns-else-v-weight_at
+returns-else-v-weight_at c =
     let s = c in
     lowers_kept _ _ _ _ s.requires c.weight_at.ensures (omega (arith, c.if-v-weight_at.false))

@@ -1,20 +1,13 @@
 use Rattle.lookup_moves.proofs.MoveFacts.{move_long, move_differs, move_same}
-use native.Mathlib.Nat.{mul-le-mul}
-use native.Mathlib.Omega.{arith}
-use mathlib.Core.Path.{ap}
-use mathlib.Core.Bool.{not}
 use Rattle.lookup_moves.proofs.moves.move_tape.Goals as goal
+use Rattle.lookup_moves.proofs.moves.move_tape.Goals.{else-n-size-via-then-n-size+else-same_bytes, else-n-size-via-else-n-size}
 
-pub returns-then-size-n : goal.returns-then-size-n
-returns-then-size-n c = move_long _ _ _ _ _ _ c.if-size-n.true
+pub returns-then-same_bytes : goal.returns-then-same_bytes
+returns-then-same_bytes c = move_same _ _ _ _ _ _ c.if-n-size.true _ c.same_bytes.ensures c.if-same_bytes.true
 
-pub returns-then-not-same_bytes : goal.returns-then-not-same_bytes
-returns-then-not-same_bytes c = move_differs _ _ _ _ _ _ (omega (arith, c.if-size-n.false)) _ c.same_bytes.ensures (ap not c.if-not-same_bytes.true)
-
-pub overflow_mul-result : goal.overflow_mul-result
-overflow_mul-result c =
-    let s = c in
-    omega (arith, mul-le-mul s.requires.1 s.requires.4)
-
-pub returns : goal.returns
-returns c = move_same _ _ _ _ _ _ (omega (arith, c.if-size-n.false)) _ c.same_bytes.ensures (ap not c.if-not-same_bytes.false)
+pub returns-else-n-size : goal.returns-else-n-size
+returns-else-n-size c =
+    elim c.else-n-size.branch [
+      | else-n-size-via-then-n-size+else-same_bytes w ↦ move_differs _ _ _ _ _ _ w.if-n-size.true _ w.same_bytes.ensures w.if-same_bytes.false
+      | else-n-size-via-else-n-size w ↦ move_long _ _ _ _ _ _ w.if-n-size.false
+    ]

@@ -1,14 +1,12 @@
-use Rattle.lookup_moves.specs.Moves.{moves_from, spot_with}
-use Prim.Native.Nat.{◌+◌, ◌*◌, ◌≤◌}
 use mathlib.Core.Path.{◌≡◌}
+use Prim.Native.Nat.{◌+◌, ◌-◌, ◌*◌, ◌≤◌}
 use Rattle.automata.specs.Layout.{label_size}
 use Rattle.table.specs.Arcs.{labels_start}
+use Rattle.lookup_moves.specs.Moves.{moves_from, spot_with}
 use Rattle.lookup_moves.proofs.moves.moved_back.Given as goal
 
-abbrev pub invariant-loop-left : goal.invariant-loop-left
-invariant-loop-left l =
-    (l.h + l.left ≡ l.tapes) × (l.from ≡ labels_start l.at + label_size * l.h) × (l.total ≤ l.h * 2549158503125000)
-    × (moves_from l.left l.h l.from l.total l.arcs l.text (spot_with l.starts l.positions l.spans 0 0) ≡ moves_from l.tapes 0 (labels_start l.at) 0 l.arcs l.text (spot_with l.starts l.positions l.spans 0 0))
-
-abbrev pub decreases-loop-left : goal.decreases-loop-left
-decreases-loop-left l = l.left
+abbrev pub invariant-loop-h : goal.invariant-loop-h
+invariant-loop-h l =
+    (l.total ≤ l.h * 2549158503125000)
+    × (moves_from (l.tapes - l.h) l.h (labels_start l.at + label_size * l.h) l.total l.arcs l.text (spot_with l.starts l.positions l.spans 0 0)
+    ≡ moves_from l.tapes 0 (labels_start l.at) 0 l.arcs l.text (spot_with l.starts l.positions l.spans 0 0))

@@ -1,5 +1,5 @@
 use mathlib.Core.Path.{◌≡◌}
-use Prim.Native.Nat.{◌-◌, ◌≤◌}
+use Prim.Native.Nat.{◌≤◌}
 use lib.ListN.{length, drop}
 use Rattle.automata.specs.Answer.{ok}
 use Rattle.automata.specs.Automaton.{Tuple}
@@ -10,7 +10,4 @@ use Rattle.lookup_tuple.proofs.judge.place.Given as goal
 
 abbrev pub invariant-loop-i : goal.invariant-loop-i
 invariant-loop-i l =
-    (l.i ≤ l.count) × (l.at ≤ length l.text) × ((t : Tuple) → lines l.text ≡ ok t → (lines_at l.at l.text ≡ ok (drop l.i t)) × PlacedTo l.text t l.i l.starts l.lengths)
-
-abbrev pub decreases-loop-i : goal.decreases-loop-i
-decreases-loop-i l = l.count - l.i
+    (l.at ≤ length l.text) × ((t : Tuple) → lines l.text ≡ ok t → (lines_at l.at l.text ≡ ok (drop l.i t)) × PlacedTo l.text t l.i l.starts l.lengths)

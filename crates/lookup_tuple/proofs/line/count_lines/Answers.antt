@@ -14,24 +14,6 @@ returns-then-end-text c =
     let l = c.loop-at in
     count_open _ l.at _ l.count c.line_end-end.ensures c.loop-at-test.true c.if-end-text.true ∙ l.invariant.2
 
-pub overflow_add-count : goal.overflow_add-count
-overflow_add-count c =
-    let e = c.line_end-end.ensures in
-    let l = c.loop-at in
-    omega (arith, e.starts, e.within, c.if-end-text.false, l.invariant.0, l.invariant.1, c.loop-at-test.true)
-
-pub overflow_add-at : goal.overflow_add-at
-overflow_add-at c =
-    let e = c.line_end-end.ensures in
-    let l = c.loop-at in
-    omega (arith, e.starts, e.within, c.if-end-text.false, l.invariant.0, l.invariant.1, c.loop-at-test.true)
-
-pub loop-at-smaller : goal.loop-at-smaller
-loop-at-smaller c =
-    let e = c.line_end-end.ensures in
-    let l = c.loop-at in
-    omega (arith, e.starts, e.within, c.if-end-text.false, l.invariant.0, l.invariant.1, c.loop-at-test.true)
-
 pub loop-at-preserved : goal.loop-at-preserved
 loop-at-preserved c =
     let l = c.loop-at in

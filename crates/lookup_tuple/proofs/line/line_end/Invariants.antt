@@ -1,13 +1,10 @@
 use mathlib.Core.Path.{◌≡◌}
-use Prim.Native.Nat.{◌-◌, ◌≤◌}
-use lib.ListN.{length, drop}
+use Prim.Native.Nat.{◌-◌}
+use lib.ListN.{drop}
 use Rattle.automata.specs.Calls.Lookup.{lines_from}
 use Rattle.table.specs.Region.{part}
 use Rattle.lookup_tuple.specs.Lines.{lines_at}
 use Rattle.lookup_tuple.proofs.line.line_end.Given as goal
 
 abbrev pub invariant-loop-i : goal.invariant-loop-i
-invariant-loop-i l = (l.from ≤ l.i) × (l.i ≤ length l.text) × (lines_from (part l.from (l.i - l.from) l.text) (drop l.i l.text) ≡ lines_at l.from l.text)
-
-abbrev pub decreases-loop-i : goal.decreases-loop-i
-decreases-loop-i l = length l.text - l.i
+invariant-loop-i l = lines_from (part l.from (l.i - l.from) l.text) (drop l.i l.text) ≡ lines_at l.from l.text

@@ -11,29 +11,12 @@ use Rattle.lookup_tuple.proofs.line.sizes_fit.Goals as goal
 pub loop-at-init : goal.loop-at-init
 loop-at-init c = (search rules, ap forget (lines_at_lem _) ∙ c.requires, every-start _ _)
 
-pub overflow_sub-end : goal.overflow_sub-end
-overflow_sub-end c = let e = c.line_end-end.ensures in omega (arith, e.starts, e.within)
-
 pub returns-then-end-at-gt-MAX_STRING : goal.returns-then-end-at-gt-MAX_STRING
 returns-then-end-at-gt-MAX_STRING c =
     let l = c.loop-at in
     let e = c.line_end-end.ensures in
     let n = line_closed _ l.at _ e c.loop-at-test.true l.invariant.1 in
     every-stop _ l.at _ e c.loop-at-test.true l.invariant.1 (λ s. leb (length s) max_string) (size-over _ l.at _ e c.if-end-at-gt-MAX_STRING.true) ∙ l.invariant.2
-
-pub overflow_add-at : goal.overflow_add-at
-overflow_add-at c =
-    let l = c.loop-at in
-    let e = c.line_end-end.ensures in
-    let n = line_closed _ l.at _ e c.loop-at-test.true l.invariant.1 in
-    omega (arith, n, e.starts, c.loop-at-test.true)
-
-pub loop-at-smaller : goal.loop-at-smaller
-loop-at-smaller c =
-    let l = c.loop-at in
-    let e = c.line_end-end.ensures in
-    let n = line_closed _ l.at _ e c.loop-at-test.true l.invariant.1 in
-    omega (arith, n, e.starts, c.loop-at-test.true)
 
 pub loop-at-preserved : goal.loop-at-preserved
 loop-at-preserved c =

@@ -11,9 +11,6 @@ use Rattle.lookup_tuple.proofs.line.symbols_fit.Goals as goal
 pub loop-at-init : goal.loop-at-init
 loop-at-init c = (search rules, ap forget (lines_at_lem _) ∙ c.requires, every-start _ _)
 
-pub slice_bounds-all_symbols-count : goal.slice_bounds-all_symbols-count
-slice_bounds-all_symbols-count c = let e = c.line_end-end.ensures in omega (arith, e.starts, e.within)
-
 pub returns-then-not-all_symbols : goal.returns-then-not-all_symbols
 unfolding part
 returns-then-not-all_symbols c =
@@ -21,20 +18,6 @@ returns-then-not-all_symbols c =
     let e = c.line_end-end.ensures in
     let n = line_closed _ l.at _ e c.loop-at-test.true l.invariant.1 in
     every-stop _ l.at _ e c.loop-at-test.true l.invariant.1 (λ s. all is_symbol s) (sym c.all_symbols.ensures ∙ c.if-not-all_symbols.true) ∙ l.invariant.2
-
-pub overflow_add-at : goal.overflow_add-at
-overflow_add-at c =
-    let l = c.loop-at in
-    let e = c.line_end-end.ensures in
-    let n = line_closed _ l.at _ e c.loop-at-test.true l.invariant.1 in
-    omega (arith, n, e.starts, c.loop-at-test.true)
-
-pub loop-at-smaller : goal.loop-at-smaller
-loop-at-smaller c =
-    let l = c.loop-at in
-    let e = c.line_end-end.ensures in
-    let n = line_closed _ l.at _ e c.loop-at-test.true l.invariant.1 in
-    omega (arith, n, e.starts, c.loop-at-test.true)
 
 pub loop-at-preserved : goal.loop-at-preserved
 unfolding part

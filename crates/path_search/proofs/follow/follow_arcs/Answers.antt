@@ -1,20 +1,8 @@
 use Rattle.path_search.proofs.FollowArcsFacts.{following_start, following_turn, following_up, following_end}
-use Rattle.path_search.proofs.ReadFacts.{state_lt, weights_kept}
+use Rattle.path_search.proofs.ReadFacts.{weights_kept}
 use mathlib.Core.Path.{refl}
 use native.Mathlib.Omega.{arith}
 use Rattle.path_search.proofs.follow.follow_arcs.Goals as goal
-
-pub offset_bounds-first-here : goal.offset_bounds-first-here
-offset_bounds-first-here c =
-    let s = c in
-    let q = state_lt _ _ _ s.requires.0.some_combination s.requires.4 in
-    omega (arith, q, (s.requires.0.ready 0 s.requires.0.some_combination).few_states)
-
-pub bounds-first-here : goal.bounds-first-here
-bounds-first-here c =
-    let s = c in
-    let q = state_lt _ _ _ s.requires.0.some_combination s.requires.4 in
-    omega (arith, q, s.requires.3.states_fit)
 
 pub loop-e-init : goal.loop-e-init
 loop-e-init c =
@@ -26,10 +14,6 @@ follow_arc-count-requires c =
     let i = c.loop-e.invariant in
     let l = c.loop-e-test.true in
     (s.requires.0, weights_kept _ _ _ _ i.same_length i.front s.requires.1, i.kept, l, s.requires.4, i.leaves l)
-
-pub bounds-next-e : goal.bounds-next-e
-bounds-next-e c =
-    let s = c in omega (arith, c.loop-e-test.true, s.requires.3.arcs_fit)
 
 pub loop-e-smaller : goal.loop-e-smaller
 loop-e-smaller c =

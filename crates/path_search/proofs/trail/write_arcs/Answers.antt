@@ -1,4 +1,4 @@
-use Rattle.path_search.proofs.TrailFacts.{write_first, write_cell, write_room, write_behind, write_turn, write_end}
+use Rattle.path_search.proofs.TrailFacts.{write_first, write_cell, write_behind, write_turn, write_end}
 use native.Mathlib.Omega.{arith}
 use Rattle.path_search.proofs.trail.write_arcs.Goals as goal
 
@@ -11,16 +11,10 @@ overflow_add-cells c = omega (arith, write_cell c.loop-left.invariant, c.require
 pub weight_at-mark-requires : goal.weight_at-mark-requires
 weight_at-mark-requires c = omega (arith, write_cell c.loop-left.invariant, c.requires.1)
 
-pub overflow_mul-left : goal.overflow_mul-left
-overflow_mul-left c = omega (arith, c.loop-left.invariant.all_are, c.requires.3)
-
 pub overflow_cast-mark : goal.overflow_cast-mark
 overflow_cast-mark c =
     let i = c in
     omega (arith, c.requires.0.few_arcs, (write_behind i.loop-left.invariant i.loop-left-test.true c.weight_at-mark.ensures).arc)
-
-pub put16-requires : goal.put16-requires
-put16-requires c = let i = c in write_room i.loop-left.invariant c.requires.3 i.loop-left-test.true
 
 pub cell_before-at-requires : goal.cell_before-at-requires
 cell_before-at-requires c =

@@ -5,6 +5,3 @@ use Rattle.path_search.proofs.trail.write_arcs.Given as goal
 abbrev pub invariant-loop-left : goal.invariant-loop-left
 invariant-loop-left l =
     Writing l.counts l.arcs l.spans (cells_of l.work) l.count l.end l.initial.list l.list l.at l.left
-
-abbrev pub decreases-loop-left : goal.decreases-loop-left
-decreases-loop-left l = l.left

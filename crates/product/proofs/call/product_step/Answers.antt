@@ -1,4 +1,4 @@
-use Rattle.product.proofs.CallFacts.{limited, answerable, stepped}
+use Rattle.product.proofs.CallFacts.{limited, answerable}
 use mathlib.Core.Path.{refl}
 use Rattle.product.proofs.call.product_step.Goals as goal
 
@@ -7,6 +7,3 @@ explore-head-requires c = limited _ _ _ _ _ _ _ _ _ c.requires _ c.plan_for-plan
 
 pub answer_search-requires : goal.answer_search-requires
 answer_search-requires c = answerable _ _ _ _ _ _ _ _ _ c.requires _ c.plan_for-plan.ensures _ _ _ refl c.explore-head.ensures
-
-pub returns : goal.returns
-returns c = stepped _ _ _ _ _ _ _ _ _ c.requires _ c.plan_for-plan.ensures _ _ c.answer_search.ensures

@@ -1,25 +1,37 @@
-use Rattle.product.proofs.CallFacts.{first-refused, second_refused, tapes_few, too_wide, all_fine, too_short}
+use mathlib.Core.Path.{refl}
 use native.Mathlib.Omega.{arith}
-use Rattle.table.specs.Answers.{lent}
+use Rattle.table.specs.Answers.{memory}
+use Rattle.table.proofs.AnswerFacts.{handed_on}
+use Rattle.product.proofs.CallFacts.{first-refused, second_refused, tapes_few, too_wide, all_fine, too_short}
 use Rattle.product.proofs.prepare.prepare.Goals as goal
 
-pub returns-in_default : goal.returns-in_default
-returns-in_default c = let s = c in first-refused (lent s.args.first s.args.first_states.now s.args.first_arcs.now) (lent s.args.second s.args.second_states.now s.args.second_arcs.now) _ _ _ _ _ c.judge-one.ensures c.in_default.is
+pub returns-in_err-judge : goal.returns-in_err-judge
+returns-in_err-judge c =
+    rw (handed_on _ _ c.from_residual.ensures.1)
+    (first-refused (memory c.args.first.now) (memory c.args.second.now) _ _ _ _ _ c.in_err-judge.ensures refl)
 
-pub returns-in_default-two : goal.returns-in_default-two
-returns-in_default-two c = let s = c in second_refused (lent s.args.first s.args.first_states.now s.args.first_arcs.now) (lent s.args.second s.args.second_states.now s.args.second_arcs.now) _ _ _ _ c.judge-one.ensures c.in-Fine.is _ _ c.judge-two.ensures c.in_default-two.is
+pub returns-in_err-judge-2 : goal.returns-in_err-judge-2
+returns-in_err-judge-2 c =
+    rw (handed_on _ _ c.from_residual-in_err-judge-2.ensures.1)
+    (second_refused (memory c.args.first.now) (memory c.args.second.now) _ _ _ _ c.in_ok-judge.ensures refl _ _ c.in_err-judge-2.ensures
+    refl)
 
 pub overflow_add-first : goal.overflow_add-first
 overflow_add-first c =
-    let s = c in
-    let k = tapes_few (lent s.args.first s.args.first_states.now s.args.first_arcs.now) (lent s.args.second s.args.second_states.now s.args.second_arcs.now) 0 0 0 _ c.judge-one.ensures c.in-Fine.is _ c.judge-two.ensures c.in-Fine-two.is in
+    let k = tapes_few (memory c.args.first.now) (memory c.args.second.now) 0 0 0 _ c.in_ok-judge.ensures refl _ c.in_ok-judge-2.ensures refl in
     omega (arith, k)
 
 pub returns-then-first-second-gt8 : goal.returns-then-first-second-gt8
-returns-then-first-second-gt8 c = let s = c in too_wide (lent s.args.first s.args.first_states.now s.args.first_arcs.now) (lent s.args.second s.args.second_states.now s.args.second_arcs.now) _ _ _ _ c.judge-one.ensures c.in-Fine.is _ c.judge-two.ensures c.in-Fine-two.is c.if-first-second-gt8.true
+returns-then-first-second-gt8 c =
+    too_wide (memory c.args.first.now) (memory c.args.second.now) _ _ _ _ c.in_ok-judge.ensures refl _ c.in_ok-judge-2.ensures refl
+    c.if-first-second-gt8.true
 
 pub returns-then-enough_work : goal.returns-then-enough_work
-returns-then-enough_work c = let s = c in all_fine (lent s.args.first s.args.first_states.now s.args.first_arcs.now) (lent s.args.second s.args.second_states.now s.args.second_arcs.now) _ _ _ _ c.judge-one.ensures c.in-Fine.is _ c.judge-two.ensures c.in-Fine-two.is c.if-first-second-gt8.false _ c.enough_work.ensures c.if-enough_work.true
+returns-then-enough_work c =
+    all_fine (memory c.args.first.now) (memory c.args.second.now) _ _ _ _ c.in_ok-judge.ensures refl _ c.in_ok-judge-2.ensures refl
+    c.if-first-second-gt8.false _ c.enough_work.ensures c.if-enough_work.true
 
 pub returns-else-enough_work : goal.returns-else-enough_work
-returns-else-enough_work c = let s = c in too_short (lent s.args.first s.args.first_states.now s.args.first_arcs.now) (lent s.args.second s.args.second_states.now s.args.second_arcs.now) _ _ _ _ c.judge-one.ensures c.in-Fine.is _ c.judge-two.ensures c.in-Fine-two.is c.if-first-second-gt8.false _ c.enough_work.ensures c.if-enough_work.false
+returns-else-enough_work c =
+    too_short (memory c.args.first.now) (memory c.args.second.now) _ _ _ _ c.in_ok-judge.ensures refl _ c.in_ok-judge-2.ensures refl
+    c.if-first-second-gt8.false _ c.enough_work.ensures c.if-enough_work.false

@@ -1,24 +1,17 @@
-use native.Mathlib.Omega.{arith}
-use Rattle.product_search.proofs.RunFacts.{run_none, run_start, run_requires, run_room, run_next, run_full, run_end}
+use Rattle.product_search.proofs.RunFacts.{run_none, run_start, run_next, run_full, run_end}
 use Rattle.product_search.proofs.explore.run.Goals as goal
 
 pub returns-then-start : goal.returns-then-start
-returns-then-start c = let s = c in run_none _ _ _ _ _ _ _ _ _ _ s.args.work.now s.requires.0 s.requires.1 c.if-start.true
+returns-then-start c = run_none _ _ _ _ _ _ _ _ _ _ c.args.work.now c.requires.0 c.requires.1 c.if-start.true
 
 pub loop-head-init : goal.loop-head-init
-loop-head-init c = let s = c in run_start _ _ _ _ _ _ _ _ _ _ s.args.work.now s.requires.0 s.requires.1 c.if-start.false
-
-pub take_up-head-requires : goal.take_up-head-requires
-take_up-head-requires c = let s = c in run_requires _ _ _ _ _ _ _ _ _ _ s.args.work.now s.requires.0 s.requires.1 _ _ c.loop-head.invariant c.loop-head-test.true
+loop-head-init c = run_start _ _ _ _ _ _ _ _ _ _ c.args.work.now c.requires.0 c.requires.1 c.if-start.false
 
 pub returns-then-head : goal.returns-then-head
-returns-then-head c = let s = c in run_full _ _ _ _ _ _ _ _ _ _ s.args.work.now s.requires.0 s.requires.1 _ _ c.loop-head.invariant c.loop-head-test.true _ _ c.take_up-head.ensures c.if-head.true
-
-pub loop-head-smaller : goal.loop-head-smaller
-loop-head-smaller c = let s = c in omega (arith, run_room _ _ _ _ _ _ _ _ _ _ s.args.work.now s.requires.0 s.requires.1 _ _ c.loop-head.invariant c.loop-head-test.true, c.take_up-head.ensures.taken c.if-head.false)
+returns-then-head c = run_full _ _ _ _ _ _ _ _ _ _ c.args.work.now c.requires.0 c.requires.1 _ _ c.loop-head.invariant c.loop-head-test.true _ _ c.take_up-head.ensures c.if-head.true
 
 pub loop-head-preserved : goal.loop-head-preserved
-loop-head-preserved c = let s = c in run_next _ _ _ _ _ _ _ _ _ _ s.args.work.now s.requires.0 s.requires.1 _ _ c.loop-head.invariant c.loop-head-test.true _ _ c.take_up-head.ensures c.if-head.false
+loop-head-preserved c = run_next _ _ _ _ _ _ _ _ _ _ c.args.work.now c.requires.0 c.requires.1 _ _ c.loop-head.invariant c.loop-head-test.true _ _ c.take_up-head.ensures c.if-head.false
 
 pub returns : goal.returns
-returns c = let s = c in run_end _ _ _ _ _ _ _ _ _ _ s.args.work.now s.requires.0 s.requires.1 _ _ c.loop-head.invariant c.loop-head-test.false
+returns c = run_end _ _ _ _ _ _ _ _ _ _ c.args.work.now c.requires.0 c.requires.1 _ _ c.loop-head.invariant c.loop-head-test.false

@@ -1,25 +1,20 @@
 use Prim.Native.Nat.{◌-◌}
 use native.Mathlib.Omega.{arith}
-use Rattle.search_chains.proofs.FindFacts.{passes_head, finds_nothing}
+use Rattle.search_chains.proofs.FindFacts.{finds_nothing}
 use Rattle.product_search.proofs.KeyFacts.{key_found, key_passed}
 use borrow.Author.Rules.{rules}
 use Rattle.product_search.proofs.vertex.find_vertex.Goals as goal
 
-pub loop-link-init : goal.loop-link-init
-loop-link-init c = (c.link_below-link.ensures.1, passes_head _ _ _ _ _ _ _ c.link_below-link.ensures.0)
-
 pub returns-then-get32-key : goal.returns-then-get32-key
 returns-then-get32-key c =
-    let s = c in
     let l = c.loop-link in
-    key_found _ _ _ _ s.requires.0 (l.link - 1) _ (omega (arith, c.loop-link-test.true, l.invariant.0)) c.get32.ensures (λ i. omega (arith, c.type_inv.work i)) c.if-get32-key.true
+    key_found _ _ _ _ c.requires.0 (l.link - 1) _ (omega (arith, c.loop-link-test.true, l.invariant.0)) c.get32.ensures (λ i. omega (arith, c.type_inv.work i)) c.if-get32-key.true
 
 pub loop-link-preserved : goal.loop-link-preserved
 loop-link-preserved c =
-    let s = c in
     let l = c.loop-link in (
       search rules,
-      key_passed _ _ _ _ s.requires.0 l.link _ c.loop-link-test.true l.invariant.0 c.get32.ensures (search rules) c.if-get32-key.false l.invariant.1 _ c.link_below-link-in-loop-link.ensures.0,
+      key_passed _ _ _ _ c.requires.0 l.link _ c.loop-link-test.true l.invariant.0 c.get32.ensures (search rules) c.if-get32-key.false l.invariant.1 _ c.link_below-link-in-loop-link.ensures.0,
     )
 
 pub returns : goal.returns

@@ -1,14 +1,7 @@
-use Rattle.table.proofs.AnswerFacts.{both_fine, both_first, both-lesser, both_other}
+use mathlib.Core.Path.{ap}
+use Rattle.automata.specs.Answer.{refused}
+use Rattle.table.proofs.AnswerFacts.{lesser}
 use Rattle.table.proofs.answer.both.Goals as goal
 
-pub returns-in_default : goal.returns-in_default
-returns-in_default c = both_fine _ c.args.b c.in_default.is
-
-pub returns-in_default-b : goal.returns-in_default-b
-returns-in_default-b c = both_first _ _ _ c.in-Refused.is c.in_default-b.is
-
-pub returns-then-refusal_number : goal.returns-then-refusal_number
-returns-then-refusal_number c = both-lesser _ _ _ c.in-Refused.is _ c.in-Refused-b.is _ _ c.refusal_number.ensures c.refusal_number-2.ensures c.if-refusal_number.true
-
-pub returns-else-refusal_number : goal.returns-else-refusal_number
-returns-else-refusal_number c = both_other _ _ _ c.in-Refused.is _ c.in-Refused-b.is _ _ c.refusal_number.ensures c.refusal_number-2.ensures c.if-refusal_number.false
+pub returns-in-Err-Err : goal.returns-in-Err-Err
+returns-in-Err-Err c = rw (c.in-Err-Err.is-0, c.in-Err-Err.is-1, c.min.ensures) (ap refused (lesser c.in-Err-Err.m c.in-Err-Err.n))

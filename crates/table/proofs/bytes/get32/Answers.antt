@@ -3,6 +3,4 @@ use Rattle.table.proofs.EndianFacts.{le_four}
 use Rattle.table.proofs.bytes.get32.Goals as goal
 
 pub returns : goal.returns
-returns c =
-    let s = c in
-    omega (arith, le_four s.args.at s.args.bytes.now s.requires)
+returns c = omega (arith, c.from_le_bytes.ensures, le_four c.args.at c.args.bytes.now c.requires)

@@ -1,16 +1,6 @@
-use mathlib.Core.Bool.{false≢true}
 use native.Mathlib.Omega.{arith}
 use Rattle.table.proofs.GoodFacts.{arc_good}
 use Rattle.table.proofs.good.good_arc.Goals as goal
-
-pub returns-then-states-get16 : goal.returns-then-states-get16
-returns-then-states-get16 c = λ e. absurd (false≢true e)
-
-pub returns-then-states-get16-2 : goal.returns-then-states-get16-2
-returns-then-states-get16-2 c = λ e. absurd (false≢true e)
-
-pub returns-then-get32-gt999999999 : goal.returns-then-get32-gt999999999
-returns-then-get32-gt999999999 c = λ e. absurd (false≢true e)
 
 pub returns : goal.returns
 returns c =

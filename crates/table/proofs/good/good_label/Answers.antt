@@ -1,16 +1,9 @@
 use lib.ListN.{get_or}
 use mathlib.Core.Path.{◌∙◌}
-use mathlib.Core.Bool.{false≢true}
 use native.Mathlib.Omega.{arith}
 use Rattle.table.proofs.WordFacts.{Tested}
 use Rattle.table.proofs.GoodFacts.{label_room, label_good}
 use Rattle.table.proofs.good.good_label.Goals as goal
-
-pub returns-then-len-gt8 : goal.returns-then-len-gt8
-returns-then-len-gt8 c = λ e. absurd (false≢true e)
-
-pub returns-then-word-ne0 : goal.returns-then-word-ne0
-returns-then-word-ne0 c = λ e. absurd (false≢true e)
 
 pub overflow_add-word : goal.overflow_add-word
 overflow_add-word c =
@@ -18,26 +11,17 @@ overflow_add-word c =
     let r = label_room s.args.labels.now s.args.at s.requires (λ i. omega (arith, c.type_inv.labels i)) _ c.get64-word.ensures c.if-word-ne0.false in
     omega (arith, r)
 
-pub returns-then-word-within : goal.returns-then-word-within
-returns-then-word-within c = λ e. absurd (false≢true e)
-
 pub overflow_add-word-2 : goal.overflow_add-word-2
 overflow_add-word-2 c =
     let s = c in
     let r = label_room s.args.labels.now s.args.at s.requires (λ i. omega (arith, c.type_inv.labels i)) _ c.get64-word.ensures c.if-word-ne0.false in
     omega (arith, r)
 
-pub returns-then-word-within-2 : goal.returns-then-word-within-2
-returns-then-word-within-2 c = λ e. absurd (false≢true e)
-
 pub overflow_add-word-3 : goal.overflow_add-word-3
 overflow_add-word-3 c =
     let s = c in
     let r = label_room s.args.labels.now s.args.at s.requires (λ i. omega (arith, c.type_inv.labels i)) _ c.get64-word.ensures c.if-word-ne0.false in
     omega (arith, r)
-
-pub returns-then-word-ne0-2 : goal.returns-then-word-ne0-2
-returns-then-word-ne0-2 c = λ e. absurd (false≢true e)
 
 pub overflow_add-word-4 : goal.overflow_add-word-4
 overflow_add-word-4 c =
@@ -50,9 +34,6 @@ overflow_add-word-5 c =
     let s = c in
     let r = label_room s.args.labels.now s.args.at s.requires (λ i. omega (arith, c.type_inv.labels i)) _ c.get64-word.ensures c.if-word-ne0.false in
     omega (arith, r)
-
-pub returns-then-word : goal.returns-then-word
-returns-then-word c = λ e. absurd (false≢true e)
 
 pub returns : goal.returns
 returns c =

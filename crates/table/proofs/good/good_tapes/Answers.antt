@@ -1,9 +1,5 @@
-use mathlib.Core.Bool.{false≢true}
 use Rattle.table.proofs.GoodFacts.{tapes_good}
 use Rattle.table.proofs.good.good_tapes.Goals as goal
-
-pub returns-then-not-good_labels : goal.returns-then-not-good_labels
-returns-then-not-good_labels c = λ e. absurd (false≢true e)
 
 pub returns : goal.returns
 returns c =

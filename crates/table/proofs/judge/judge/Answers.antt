@@ -1,25 +1,18 @@
-use mathlib.Core.Path.{ap}
-use Rattle.table.specs.Answers.{judged_as, lent}
-use Rattle.table.proofs.TableFacts.{tapes_fit, table_counts, table_states, table_arcs}
+use mathlib.Core.Path.{ap, refl}
 use mathlib.Core.Bool.{not}
+use Rattle.table.specs.Answers.{memory}
+use Rattle.table.proofs.AnswerFacts.{handed_on}
+use Rattle.table.proofs.TableFacts.{table_counts, table_states, table_arcs}
 use Rattle.table.proofs.judge.judge.Goals as goal
 
 pub returns-then-not-counts_fit : goal.returns-then-not-counts_fit
-returns-then-not-counts_fit c =
-    let s = c in
-    table_counts (lent s.args.counts s.args.states.now s.args.arcs.now) _ c.counts_fit.ensures (ap not c.if-not-counts_fit.true)
+returns-then-not-counts_fit c = table_counts (memory c.args.table.now) _ c.counts_fit.ensures (ap not c.if-not-counts_fit.true)
 
-pub returns-in_default : goal.returns-in_default
-returns-in_default c =
-    let s = c in
-    table_states (lent s.args.counts s.args.states.now s.args.arcs.now) _ c.counts_fit.ensures (ap not c.if-not-counts_fit.false) _ c.judge_states-judged.ensures _ (ap judged_as c.in_default.is)
-
-pub judge_arcs-requires : goal.judge_arcs-requires
-judge_arcs-requires c =
-    let s = c in
-    tapes_fit s.args.counts.tapes s.args.counts.states s.args.counts.arcs _ c.counts_fit.ensures (ap not c.if-not-counts_fit.false)
+pub returns-in_err-judge_states : goal.returns-in_err-judge_states
+returns-in_err-judge_states c =
+    rw (handed_on _ _ c.from_residual.ensures.1)
+    (table_states (memory c.args.table.now) _ c.counts_fit.ensures (ap not c.if-not-counts_fit.false) _ c.in_err-judge_states.ensures _ refl)
 
 pub returns : goal.returns
 returns c =
-    let s = c in
-    table_arcs (lent s.args.counts s.args.states.now s.args.arcs.now) _ c.counts_fit.ensures (ap not c.if-not-counts_fit.false) _ c.judge_states-judged.ensures (ap judged_as c.in-Fine.is) _ c.judge_arcs.ensures
+    table_arcs (memory c.args.table.now) _ c.counts_fit.ensures (ap not c.if-not-counts_fit.false) _ c.in_ok-judge_states.ensures refl _ c.judge_arcs.ensures

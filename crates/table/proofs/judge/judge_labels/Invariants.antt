@@ -1,14 +1,11 @@
 use mathlib.Core.Path.{◌≡◌}
-use Prim.Native.Nat.{◌+◌, ◌*◌}
-use lib.ListN.{length, drop}
+use Prim.Native.Nat.{◌-◌, ◌*◌}
+use lib.ListN.{drop}
 use Rattle.automata.specs.Answer.{beside, forget}
 use Rattle.automata.specs.Layout.{label_size}
 use Rattle.table.specs.Answers.{judged_as}
 use Rattle.table.specs.Judging.{labels_read}
 use Rattle.table.proofs.judge.judge_labels.Given as goal
 
-abbrev pub invariant-loop-left : goal.invariant-loop-left
-invariant-loop-left l = (l.at + l.left * label_size ≡ length l.labels) × (forget (beside (judged_as l.judged) (labels_read l.left (drop l.at l.labels))) ≡ forget (labels_read l.tapes l.labels))
-
-abbrev pub decreases-loop-left : goal.decreases-loop-left
-decreases-loop-left l = l.left
+abbrev pub invariant-loop-tape : goal.invariant-loop-tape
+invariant-loop-tape l = forget (beside (judged_as l.judged) (labels_read (l.tapes - l.tape) (drop (label_size * l.tape) l.labels))) ≡ forget (labels_read l.tapes l.labels)

@@ -8,20 +8,19 @@ use borrow.Author.Rules.{rules}
 use Rattle.tapes.proofs.drop.drop_in_place.Goals as goal
 
 pub tapes_left-used-requires : goal.tapes_left-used-requires
-tapes_left-used-requires c = let s = c in (few_tapes (lent s.args.counts s.args.states.now s.args.arcs.now) s.requires.sound, refl)
+tapes_left-used-requires c = (few_tapes (lent c.args.counts c.args.states.now c.args.arcs.now) c.requires.sound, refl)
 
 pub choose_arcs-requires : goal.choose_arcs-requires
-choose_arcs-requires c = let s = c in let k = c.tapes_left-used in ((left_choice _ _ _ _ _ (few_tapes (lent s.args.counts s.args.states.now s.args.arcs.now) s.requires.sound) refl k.ensures.0 k.ensures.1).0, arcs_lent (lent s.args.counts s.args.states.now s.args.arcs.now) s.requires.sound)
+choose_arcs-requires c = let k = c.tapes_left-used in ((left_choice _ _ _ _ _ (few_tapes (lent c.args.counts c.args.states.now c.args.arcs.now) c.requires.sound) refl k.ensures.0 k.ensures.1).0, arcs_lent (lent c.args.counts c.args.states.now c.args.arcs.now) c.requires.sound)
 
 pub overflow_cast-result : goal.overflow_cast-result
-overflow_cast-result c = let s = c in let y : s.args.mask < 256 = search rules in let q = fewer_marks (lent s.args.counts s.args.states.now s.args.arcs.now) _ s.requires y in omega (arith, q)
+overflow_cast-result c = let y : c.args.mask < 256 = search rules in let q = fewer_marks (lent c.args.counts c.args.states.now c.args.arcs.now) _ c.requires y in omega (arith, q)
 
 pub overflow_sub-result : goal.overflow_sub-result
-overflow_sub-result c = let s = c in let y : s.args.mask < 256 = search rules in let q = fewer_marks (lent s.args.counts s.args.states.now s.args.arcs.now) _ s.requires y in omega (arith, q)
+overflow_sub-result c = let y : c.args.mask < 256 = search rules in let q = fewer_marks (lent c.args.counts c.args.states.now c.args.arcs.now) _ c.requires y in omega (arith, q)
 
 pub returns : goal.returns
 returns c =
-    let s = c in
-    let y : s.args.mask < 256 = search rules in
+    let y : c.args.mask < 256 = search rules in
     let k = c.tapes_left-used in
-    dropped_in_place (lent s.args.counts s.args.states.now s.args.arcs.now) _ _ _ _ s.requires y (left_choice _ _ _ _ _ (few_tapes (lent s.args.counts s.args.states.now s.args.arcs.now) s.requires.sound) refl k.ensures.0 k.ensures.1).1 refl c.choose_arcs.ensures
+    dropped_in_place (lent c.args.counts c.args.states.now c.args.arcs.now) _ _ _ _ c.requires y (left_choice _ _ _ _ _ (few_tapes (lent c.args.counts c.args.states.now c.args.arcs.now) c.requires.sound) refl k.ensures.0 k.ensures.1).1 refl c.choose_arcs.ensures

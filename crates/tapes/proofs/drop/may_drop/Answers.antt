@@ -1,15 +1,12 @@
-use native.Mathlib.Omega.{arith}
+use mathlib.Core.Path.{◌∙◌}
+use borrow.Author.Tests.{ne_eqb}
 use Prim.Native.Nat.{◌<◌}
-use lib.Count.{ones-le}
 use Rattle.tapes.proofs.DropCall.{marks_beyond, marks_within}
 use borrow.Author.Rules.{rules}
 use Rattle.tapes.proofs.drop.may_drop.Goals as goal
 
-pub returns-then-mask-tapes-ne0 : goal.returns-then-mask-tapes-ne0
-returns-then-mask-tapes-ne0 c = let s = c in let y : s.args.mask < 256 = search rules in marks_beyond _ _ s.requires y c.if-mask-tapes-ne0.true
+pub returns-then-from-tapes-eq0 : goal.returns-then-from-tapes-eq0
+returns-then-from-tapes-eq0 c = let y : c.args.mask < 256 = search rules in marks_within _ _ c.requires y (rw c.from.ensures at c.if-from-tapes-eq0.true)
 
-pub overflow_cast-result : goal.overflow_cast-result
-overflow_cast-result c = let s = c in let y : s.args.mask < 256 = search rules in let o = ones-le 8 s.args.mask y in omega (arith, o)
-
-pub returns : goal.returns
-returns c = let s = c in let y : s.args.mask < 256 = search rules in marks_within _ _ s.requires y c.if-mask-tapes-ne0.false
+pub returns-else-from-tapes-eq0 : goal.returns-else-from-tapes-eq0
+returns-else-from-tapes-eq0 c = let y : c.args.mask < 256 = search rules in ne_eqb _ 0 c.if-from-tapes-eq0.false ∙ marks_beyond _ _ c.requires y (rw c.from.ensures at c.if-from-tapes-eq0.false)

@@ -3,6 +3,5 @@ use Rattle.tapes_records.proofs.choose.choose_arc.Goals as goal
 
 pub returns : goal.returns
 returns c =
-    let s = c in
     let f = c.labels_start.ensures in
-    arc-chosen _ _ _ _ s.args.at s.requires.1 (chosen_few _ _ s.requires.0.few) c.labels_at-labels.ensures (rw (← f) c.copy_into.ensures)
+    arc-chosen _ _ _ _ c.args.at c.requires.1 (chosen_few _ _ c.requires.0.few) c.labels_at-labels.ensures (rw (← f) c.copy_into.ensures)

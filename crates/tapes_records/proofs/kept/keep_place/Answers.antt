@@ -5,5 +5,5 @@ use Rattle.tapes_records.proofs.kept.keep_place.Goals as goal
 pub returns-then-mask-place-eq1 : goal.returns-then-mask-place-eq1
 returns-then-mask-place-eq1 c = place_skipped _ _ _ _ (eq-eqb _ 1 c.if-mask-place-eq1.true)
 
-pub returns : goal.returns
-returns c = place_kept _ _ _ _ (ne_eqb _ 1 c.if-mask-place-eq1.false) c.requires.1
+pub returns-else-mask-place-eq1 : goal.returns-else-mask-place-eq1
+returns-else-mask-place-eq1 c = place_kept _ _ _ _ (ne_eqb _ 1 c.if-mask-place-eq1.false) c.requires.1

@@ -1,11 +1,12 @@
+use Rattle.table.proofs.AnswerFacts.{handed_on}
 use Rattle.text_columns.proofs.LabelFacts.{number-refused, number_beyond, number-within}
 use Rattle.text_columns.proofs.decimal.read_state_number.Goals as goal
 
-pub returns-in_default : goal.returns-in_default
-returns-in_default c = let s = c in number-refused s.args.states _ s.requires _ _ c.read_decimal-read.ensures c.in_default.is
+pub returns-in_err-n : goal.returns-in_err-n
+returns-in_err-n c = rw (handed_on _ _ c.from_residual.ensures.1) (number-refused c.args.states _ c.requires _ c.in_err-n.ensures)
 
-pub returns-then-states-n : goal.returns-then-states-n
-returns-then-states-n c = let s = c in number_beyond s.args.states _ s.requires _ _ c.read_decimal-read.ensures c.in-Value.is c.if-states-n.true
+pub returns-then-n-states : goal.returns-then-n-states
+returns-then-n-states c = number-within c.args.states _ c.requires _ c.in_ok-n.ensures c.if-n-states.true
 
-pub returns : goal.returns
-returns c = let s = c in number-within s.args.states _ s.requires _ _ c.read_decimal-read.ensures c.in-Value.is c.if-states-n.false
+pub returns-else-n-states : goal.returns-else-n-states
+returns-else-n-states c = number_beyond c.args.states _ c.requires _ c.in_ok-n.ensures c.if-n-states.false

@@ -6,6 +6,6 @@ pub returns-then-column-eq45 : goal.returns-then-column-eq45
 unfolding columns_weight
 returns-then-column-eq45 c = rw (eq-eqb _ _ c.if-column-eq45.true)
 
-pub returns : goal.returns
+pub returns-else-column-eq45 : goal.returns-else-column-eq45
 unfolding columns_weight
-returns c = rw (c.columns_value.ensures, ne_eqb _ _ c.if-column-eq45.false)
+returns-else-column-eq45 c = rw (c.columns_value.ensures, ne_eqb _ _ c.if-column-eq45.false)

@@ -1,11 +1,12 @@
+use Rattle.table.proofs.AnswerFacts.{handed_on}
 use Rattle.text_columns.proofs.WeightFacts.{present_refused, present_size, present_value}
 use Rattle.text_columns.proofs.weight.read_present.Goals as goal
 
-pub returns-in_default : goal.returns-in_default
-returns-in_default c = let s = c in present_refused _ s.requires _ _ c.read_decimal-read.ensures c.in_default.is
+pub returns-in_err-n : goal.returns-in_err-n
+returns-in_err-n c = rw (handed_on _ _ c.from_residual.ensures.1) (present_refused _ c.requires _ c.in_err-n.ensures)
 
-pub returns-then-n-gt999999999 : goal.returns-then-n-gt999999999
-returns-then-n-gt999999999 c = let s = c in present_size _ s.requires _ _ c.read_decimal-read.ensures c.in-Value.is c.if-n-gt999999999.true
+pub returns-then-n-le999999999 : goal.returns-then-n-le999999999
+returns-then-n-le999999999 c = present_value _ c.requires _ c.in_ok-n.ensures c.if-n-le999999999.true
 
-pub returns : goal.returns
-returns c = let s = c in present_value _ s.requires _ _ c.read_decimal-read.ensures c.in-Value.is c.if-n-gt999999999.false
+pub returns-else-n-le999999999 : goal.returns-else-n-le999999999
+returns-else-n-le999999999 c = present_size _ c.requires _ c.in_ok-n.ensures c.if-n-le999999999.false

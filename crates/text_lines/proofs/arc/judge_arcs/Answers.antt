@@ -1,20 +1,26 @@
-use mathlib.Core.Path.{refl, ◌∙◌}
+use mathlib.Core.Path.{◌≡◌, ◌∙◌}
+use Prim.Native.Nat.{◌+◌, ◌-◌, ◌*◌, ◌<◌}
 use native.Mathlib.Omega.{arith}
+use Rattle.automata.specs.Layout.{arc_width, label_width}
+use Rattle.table.proofs.AnswerFacts.{handed_on}
 use Rattle.text_lines.proofs.SequenceFacts.{arcs_refused, arcs_turn, arcs_done}
-use borrow.Author.Rules.{rules}
 use Rattle.text_lines.proofs.arc.judge_arcs.Goals as goal
 
-pub loop-left-init : goal.loop-left-init
-loop-left-init c = (search rules, refl, refl)
+pub returns-in_err-judge_arc_at : goal.returns-in_err-judge_arc_at
+returns-in_err-judge_arc_at c =
+    let l = c.loop-i in
+    let width = arc_width + c.args.tapes * label_width in
+    rw (handed_on _ _ c.from_residual.ensures.1) (arcs_refused c.args.tapes c.args.states _ (c.args.start + width * l.i) l.invariant.0 (c.args.count - l.i) (omega arith) _ c.in_err-judge_arc_at.ensures ∙ l.invariant.1)
 
-pub returns-in_default : goal.returns-in_default
-returns-in_default c = let l = c.loop-left in let s = c in arcs_refused s.args.tapes s.args.states _ l.at l.invariant.0 l.left c.loop-left-test.true c.judge_arc_at-judged.result _ c.judge_arc_at-judged.ensures c.in_default.is ∙ l.invariant.2
-
-pub overflow_add-at : goal.overflow_add-at
-overflow_add-at c = let l = c.loop-left in let s = c in let t = arcs_turn s.args.tapes s.args.states _ l.at l.invariant.0 l.left c.loop-left-test.true c.judge_arc_at-judged.result c.judge_arc_at-judged.ensures c.in-Fine.is in omega (arith, t.0)
-
-pub loop-left-preserved : goal.loop-left-preserved
-loop-left-preserved c = let l = c.loop-left in let s = c in let t = arcs_turn s.args.tapes s.args.states _ l.at l.invariant.0 l.left c.loop-left-test.true c.judge_arc_at-judged.result c.judge_arc_at-judged.ensures c.in-Fine.is in (t.0, refl, t.1 ∙ l.invariant.2)
+pub loop-i-preserved : goal.loop-i-preserved
+loop-i-preserved c =
+    let l = c.loop-i in
+    let width = arc_width + c.args.tapes * label_width in
+    let more : 0 < c.args.count - l.i = omega arith in
+    let t = arcs_turn c.args.tapes c.args.states _ (c.args.start + width * l.i) l.invariant.0 (c.args.count - l.i) more c.in_ok-judge_arc_at.ensures in
+    let at : c.args.start + width * (l.i + 1) ≡ c.args.start + width * l.i + width = omega arith in
+    let left : c.args.count - (l.i + 1) ≡ c.args.count - l.i - 1 = omega arith in
+    rw (at, left) (t.0, t.1 ∙ l.invariant.1)
 
 pub returns : goal.returns
-returns c = let l = c.loop-left in let s = c in arcs_done s.args.tapes s.args.states l.left _ (omega arith) ∙ l.invariant.2
+returns c = let l = c.loop-i in arcs_done c.args.tapes c.args.states (c.args.count - l.i) _ (omega arith) ∙ l.invariant.1

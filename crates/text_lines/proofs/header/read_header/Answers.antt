@@ -1,14 +1,10 @@
-use Rattle.text_lines.proofs.HeaderFacts.{header_refused, header_fine}
+use mathlib.Core.Path.{refl}
+use Rattle.text_columns.proofs.WeightFacts.{judged_and}
+use Rattle.text_lines.proofs.HeaderFacts.{header_judged}
 use Rattle.text_lines.proofs.header.read_header.Goals as goal
 
-pub returns-in-Refused : goal.returns-in-Refused
-returns-in-Refused c =
-    let d = c in
-    header_refused _ d.requires d.read_decimal-tapes.result d.read_decimal-states.result d.read_decimal-arcs.result d.judge_number.result d.judge_number-2.result d.judge_number-3.result d.both.result d.both-columns.result d.judge_counts-fits.result d.line_end.result d.both-judged.result d.number_of.result d.number_of-2.result d.number_of-3.result
-    d.read_decimal-tapes.ensures d.read_decimal-states.ensures d.read_decimal-arcs.ensures d.judge_number.ensures d.judge_number-2.ensures d.judge_number-3.ensures d.both.ensures d.both-columns.ensures d.number_of.ensures d.number_of-2.ensures d.number_of-3.ensures d.judge_counts-fits.ensures d.line_end.ensures d.both-judged.ensures _ c.in-Refused.is
-
-pub returns-in-Fine : goal.returns-in-Fine
-returns-in-Fine c =
-    let d = c in
-    header_fine _ d.requires d.read_decimal-tapes.result d.read_decimal-states.result d.read_decimal-arcs.result d.judge_number.result d.judge_number-2.result d.judge_number-3.result d.both.result d.both-columns.result d.judge_counts-fits.result d.line_end.result d.both-judged.result d.number_of.result d.number_of-2.result d.number_of-3.result
-    d.read_decimal-tapes.ensures d.read_decimal-states.ensures d.read_decimal-arcs.ensures d.judge_number.ensures d.judge_number-2.ensures d.judge_number-3.ensures d.both.ensures d.both-columns.ensures d.number_of.ensures d.number_of-2.ensures d.number_of-3.ensures d.judge_counts-fits.ensures d.line_end.ensures d.both-judged.ensures c.in-Fine.is
+pub returns : goal.returns
+returns c =
+    rw c.and-4.ensures
+    (header_judged _ c.requires c.read_decimal-tapes.result c.read_decimal-states.result c.read_decimal-arcs.result c.and.result c.and-2.result c.and-3.result c.both.result c.both-columns.result c.judge_counts-fits.result c.line_end.result c.both-2.result c.unwrap_or.result c.unwrap_or-2.result c.unwrap_or-3.result
+    c.read_decimal-tapes.ensures c.read_decimal-states.ensures c.read_decimal-arcs.ensures (rw c.and.ensures (judged_and _)) (rw c.and-2.ensures (judged_and _)) (rw c.and-3.ensures (judged_and _)) c.both.ensures c.both-columns.ensures c.unwrap_or.ensures c.unwrap_or-2.ensures c.unwrap_or-3.ensures c.judge_counts-fits.ensures c.line_end.ensures c.both-2.ensures _ refl refl refl)

@@ -2,7 +2,7 @@ use Rattle.text_lines.proofs.SequenceFacts.{state-short, state_judged}
 use Rattle.text_lines.proofs.state.judge_state.Goals as goal
 
 pub returns-then-text-at-lt-STATE_WIDTH : goal.returns-then-text-at-lt-STATE_WIDTH
-returns-then-text-at-lt-STATE_WIDTH c = let s = c in state-short _ s.args.at s.requires c.if-text-at-lt-STATE_WIDTH.true
+returns-then-text-at-lt-STATE_WIDTH c = state-short _ c.args.at c.requires c.if-text-at-lt-STATE_WIDTH.true
 
 pub returns : goal.returns
-returns c = let s = c in state_judged _ s.args.at s.requires c.judge_state_line.result c.if-text-at-lt-STATE_WIDTH.false c.judge_state_line.ensures
+returns c = state_judged _ c.args.at c.requires c.judge_state_line.result c.if-text-at-lt-STATE_WIDTH.false c.judge_state_line.ensures

@@ -1,20 +1,24 @@
-use mathlib.Core.Path.{refl, ◌∙◌}
+use mathlib.Core.Path.{◌≡◌, ◌∙◌}
+use Prim.Native.Nat.{◌+◌, ◌-◌, ◌*◌, ◌<◌}
 use native.Mathlib.Omega.{arith}
+use Rattle.automata.specs.Layout.{state_width}
+use Rattle.table.proofs.AnswerFacts.{handed_on}
 use Rattle.text_lines.proofs.SequenceFacts.{states_refused, states_turn, states_done}
-use borrow.Author.Rules.{rules}
 use Rattle.text_lines.proofs.state.judge_states.Goals as goal
 
-pub loop-left-init : goal.loop-left-init
-loop-left-init c = (search rules, refl)
+pub returns-in_err-judge_state : goal.returns-in_err-judge_state
+returns-in_err-judge_state c =
+    let l = c.loop-i in
+    rw (handed_on _ _ c.from_residual.ensures.1) (states_refused _ (c.args.start + state_width * l.i) l.invariant.0 (c.args.count - l.i) (omega arith) _ c.in_err-judge_state.ensures ∙ l.invariant.1)
 
-pub returns-in_default : goal.returns-in_default
-returns-in_default c = let l = c.loop-left in states_refused _ l.at l.invariant.0 l.left c.loop-left-test.true c.judge_state-judged.result _ c.judge_state-judged.ensures c.in_default.is ∙ l.invariant.1
-
-pub overflow_add-at : goal.overflow_add-at
-overflow_add-at c = let l = c.loop-left in let t = states_turn _ l.at l.invariant.0 l.left c.loop-left-test.true c.judge_state-judged.result c.judge_state-judged.ensures c.in-Fine.is in omega (arith, t.0)
-
-pub loop-left-preserved : goal.loop-left-preserved
-loop-left-preserved c = let l = c.loop-left in let t = states_turn _ l.at l.invariant.0 l.left c.loop-left-test.true c.judge_state-judged.result c.judge_state-judged.ensures c.in-Fine.is in (t.0, t.1 ∙ l.invariant.1)
+pub loop-i-preserved : goal.loop-i-preserved
+loop-i-preserved c =
+    let l = c.loop-i in
+    let more : 0 < c.args.count - l.i = omega arith in
+    let t = states_turn _ (c.args.start + state_width * l.i) l.invariant.0 (c.args.count - l.i) more c.in_ok-judge_state.ensures in
+    let at : c.args.start + state_width * (l.i + 1) ≡ c.args.start + state_width * l.i + state_width = omega arith in
+    let left : c.args.count - (l.i + 1) ≡ c.args.count - l.i - 1 = omega arith in
+    rw (at, left) (t.0, t.1 ∙ l.invariant.1)
 
 pub returns : goal.returns
-returns c = let l = c.loop-left in states_done l.left _ (omega arith) ∙ l.invariant.1
+returns c = let l = c.loop-i in states_done (c.args.count - l.i) _ (omega arith) ∙ l.invariant.1

@@ -1,23 +1,6 @@
 use Rattle.text_print.proofs.PrintedFacts.{state_sized}
 use Rattle.text_print.specs.Printed.{line_of_state}
-use Rattle.text_store.proofs.RecodeFacts.{recode_turn, recode_done}
-use native.Mathlib.Omega.{arith}
-use mathlib.Core.Path.{refl, sym, ◌∙◌}
-use borrow.Author.Rules.{rules}
-use Rattle.automata.specs.Layout.{state_size, state_width}
 use Rattle.text_print.proofs.print.print_states.Goals as goal
 
-pub loop-left-init : goal.loop-left-init
-loop-left-init c = (search rules, search rules, search rules, refl)
-
-pub loop-left-preserved : goal.loop-left-preserved
-loop-left-preserved c = let l = c.loop-left in
-    let k = c.print_state.auto.out in (
-      omega arith,
-      omega (arith, k),
-      k ∙ l.invariant.2,
-      recode_turn line_of_state state_size state_width state_sized _ _ _ l.at l.to l.left c.loop-left-test.true l.invariant.0 l.invariant.1 c.print_state.ensures ∙ l.invariant.3,
-    )
-
 pub returns : goal.returns
-returns c = let l = c.loop-left in sym (recode_done line_of_state state_size _ _ l.to l.left (omega arith)) ∙ l.invariant.3
+returns c = c.write_parts.ensures line_of_state (record { sized = state_sized; gives = λ part out left at p. p })

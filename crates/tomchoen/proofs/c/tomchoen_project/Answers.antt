@@ -3,7 +3,7 @@ use Rattle.tomchoen.proofs.FitFacts.{project_counts}
 use Rattle.tomchoen.proofs.c.tomchoen_project.Goals as goal
 
 pub table_word-requires : goal.table_word-requires
-table_word-requires c = project_counts _ _ _ _ _ _ c.project-answer.ensures
+table_word-requires c = project_counts _ _ _ _ _ _ (rw c.lent-table.ensures at c.project-answer.ensures)
 
 pub returns : goal.returns
-returns c = made_told _ _ _ _ _ c.project-answer.ensures c.table_word.ensures
+returns c = made_told _ _ _ _ _ (rw c.lent-table.ensures at c.project-answer.ensures) c.table_word.ensures

@@ -1,7 +1,0 @@
-use Rattle.text.proofs.answer_of.Goals as goal
-
-pub returns-in-Counts : goal.returns-in-Counts
-returns-in-Counts c = rw c.in-Counts.is
-
-pub returns-in-Refused : goal.returns-in-Refused
-returns-in-Refused c = rw c.in-Refused.is
