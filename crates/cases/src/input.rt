@@ -90,7 +90,7 @@ pub fn find(input: &[u8], from: usize, b: u8) -> usize
 }
 
 // Where the next case begins, behind its byte >.
-fn next(input: &[u8], at: usize) -> Option<usize> {
+pub fn next(input: &[u8], at: usize) -> Option<usize> {
     let mark = find(input, at, b'>');
     if mark < input.len() {
         Some(mark + 1)

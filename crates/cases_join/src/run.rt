@@ -38,10 +38,10 @@ struct Joined {
     work: [u8; 31000],
 }
 
-// 2 at a place, if the place is there.
-fn put_two(bytes: &mut [u8], at: usize) {
+// Another byte at a place, if the place is there.
+fn put(bytes: &mut [u8], at: usize, b: u8) {
     if at < bytes.len() {
-        bytes[at] = 2;
+        bytes[at] = b;
     }
 }
 
@@ -49,11 +49,8 @@ fn put_two(bytes: &mut [u8], at: usize) {
 // presence mark 2, 3 has nine tapes, 4 has an arc to a state that is not there.
 fn damaged(input: &[u8], damage: usize, states: &mut [u8], arcs: &mut [u8]) -> Counts {
     let _ = read_string(input, named(input, usize::from(b'X')), states, arcs);
-    match damage {
-        2 => put_two(states, 0),
-        4 => put_two(arcs, 2),
-        _ => {}
-    }
+    put(states, 0, if damage == 2 { 2 } else { 1 });
+    put(arcs, 2, if damage == 4 { 2 } else { 1 });
     Counts {
         tapes: if damage == 3 { 9 } else { 1 },
         states: 2,

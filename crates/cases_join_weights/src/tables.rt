@@ -12,9 +12,9 @@ use tapes::drop::drop_tapes;
 use tapes::union::union;
 
 // The records of a table of at most 60 states and 200 arcs.
-const STATE_SPACE: usize = 60 * STATE_SIZE;
+pub const STATE_SPACE: usize = 60 * STATE_SIZE;
 
-const ARC_SPACE: usize = 200 * ARC_SIZE;
+pub const ARC_SPACE: usize = 200 * ARC_SIZE;
 
 // A table, read or made, with its records.
 #[derive(Clone, Copy)]

@@ -87,8 +87,10 @@ fn put_labels(arcs: &[u8], start: usize, tapes: usize) {
     if 1000000 < start {
         return;
     }
+    let mut at = start;
     for tape in 0..tapes.min(TAPES) {
-        put_label(arcs, start + LABEL_SIZE * tape, tape == 0);
+        put_label(arcs, at, tape == 0);
+        at += LABEL_SIZE;
     }
 }
 

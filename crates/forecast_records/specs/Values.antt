@@ -15,9 +15,12 @@ forecast_as Mixed = mixed
 forecast_as (Over d) = needs d over
 forecast_as (Told d n) = needs d (number n)
 
--- none of four used
+-- a forecast that tells nothing, and none of four used
+abbrev pub no_forecast : Forecast
+no_forecast = Told 0 0
+
 abbrev pub no_forecasts : ForecastList
-no_forecasts = record { forecasts = Mixed ∷ Mixed ∷ Mixed ∷ Mixed ∷ []; used = 0 }
+no_forecasts = record { forecasts = no_forecast ∷ no_forecast ∷ no_forecast ∷ no_forecast ∷ []; used = 0 }
 
 -- the forecasts that are used
 abbrev pub forecasts_as : ForecastList → List automata.Forecast

@@ -34,12 +34,16 @@ pub struct ForecastList {
     pub used: usize,
 }
 
-// No forecasts: none of the four is used.
+// No forecasts: four that tell nothing, none of them used.
 pub fn no_forecasts() -> ForecastList
     ensures { result ≡ no_forecasts }
 {
+    let none = Forecast::Told {
+        delay: 0,
+        number: 0,
+    };
     ForecastList {
-        forecasts: [Forecast::Mixed; 4],
+        forecasts: [none; 4],
         used: 0,
     }
 }

@@ -53,10 +53,11 @@ pub record Prepares (a b : Memory) (ps : List TapePair) (product result : Space)
       ≡ (judgement r >>= λ (u : Unit {0}). join_steps ℕ_sum weight_fits (lent_to product result w) ps (table_of a) (table_of b))
   pub ready : IfOk r (Ready a b ps product result work)
 
--- so for whatever pairs the list was judged
+-- so for whatever pairs the list was judged, and a call goes on only with the list that was not refused
 abbrev pub PreparesFor : Memory → Memory → PairsJudged → Space → Space → ℕ → Result Prepared Refusal → Type 0
 PreparesFor a b listed product result work r =
-    (ps : List TapePair) → JoinJudged ps a.tapes b.tapes listed → Prepares a b ps product result work r
+    IfOk r (λ p. listed ≡ Ok p.pairs)
+    × ((ps : List TapePair) → JoinJudged ps a.tapes b.tapes listed → Prepares a b ps product result work r)
 
 -- pairs were judged for tables with n and m tapes
 pub record Listed (n m : ℕ) (listed : PairsJudged) : Type 0 where

@@ -60,17 +60,11 @@ pub fn moved_back(
     ensures { option_of result ≡ moves_from tapes 0 (labels_start at) 0 arcs.now text.now
         (spot_with starts.now positions.now spans.now 0 0) }
 {
-    let labels = labels_start(at);
     let mut total = 0;
+    let mut from = labels_start(at);
     for h in 0..tapes {
-        total += move_tape(
-            arcs,
-            labels + LABEL_SIZE * h,
-            text,
-            starts[h],
-            positions[h],
-            spans[h],
-        )?;
+        total += move_tape(arcs, from, text, starts[h], positions[h], spans[h])?;
+        from += LABEL_SIZE;
     }
     Some(total)
 }

@@ -24,10 +24,11 @@ pub fn shift_of(counts: Counts, arcs: &[u8], e: usize, spans: Spans) -> usize
     requires { Labelled arcs.now (labels_start (arc_size * e)) × (counts.tapes ≤ 8) × Spannable spans }
     ensures { result ≡ shift_of counts arcs.now spans.spans e }
 {
-    let at = labels_start(ARC_SIZE * e);
+    let mut at = labels_start(ARC_SIZE * e);
     let mut shift: usize = 0;
     for h in 0..counts.tapes {
-        shift += arcs[at + LABEL_SIZE * h] as usize * spans.spans[h];
+        shift += arcs[at] as usize * spans.spans[h];
+        at += LABEL_SIZE;
     }
     shift
 }

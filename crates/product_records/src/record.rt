@@ -38,9 +38,12 @@ fn store_side(arcs: &[u8], arc: u16, tapes: usize, out: &mut [u8], to: usize)
     if arc == NO_ARC {
         return;
     }
-    let from = labels_start(ARC_SIZE * arc as usize);
-    for tape in 0..tapes {
-        copy_label(arcs, from + LABEL_SIZE * tape, out, to + LABEL_SIZE * tape);
+    let mut from = labels_start(ARC_SIZE * arc as usize);
+    let mut at = to;
+    for _tape in 0..tapes {
+        copy_label(arcs, from, out, at);
+        from += LABEL_SIZE;
+        at += LABEL_SIZE;
     }
 }
 

@@ -73,5 +73,8 @@ pub fn copy_into(dst: &mut [u8], at: usize, src: &[u8])
     requires { at + length src.now ≤ length dst.old }
     ensures { dst.new ≡ splice at src.now dst.old }
 {
-    dst[at..at + src.len()].copy_from_slice(src);
+    // no `copy_from_slice`: it compiles to a call of memmove, which the archive for C would need from outside
+    for i in 0..src.len() {
+        dst[at + i] = src[i];
+    }
 }

@@ -107,9 +107,10 @@ fn judge_labels(labels: &[u8], tapes: usize) -> Result<(), Refusal>
     ensures { judged_as result ≡ forget (labels_read tapes labels.now) }
 {
     let mut judged = Ok(());
-    for tape in 0..tapes {
-        let at = LABEL_SIZE * tape;
+    let mut at = 0;
+    for _tape in 0..tapes {
         judged = both(judged, judge_label(&labels[at..at + LABEL_SIZE]));
+        at += LABEL_SIZE;
     }
     judged
 }

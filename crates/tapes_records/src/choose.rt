@@ -25,9 +25,11 @@ fn copy_labels(labels: &[u8], tapes: &[u8], used: usize, out: &mut [u8])
     ensures { out.new ≡ splice 0 (chosen_labels (take used tapes.now) labels.now)
         out.old }
 {
-    for (k, tape) in tapes[..used].iter().enumerate() {
+    let mut to = 0;
+    for tape in &tapes[..used] {
         let from = label_place(*tape);
-        copy_into(out, LABEL_SIZE * k, &labels[from..from + LABEL_SIZE]);
+        copy_into(out, to, &labels[from..from + LABEL_SIZE]);
+        to += LABEL_SIZE;
     }
 }
 

@@ -16,8 +16,11 @@ pub fn write_parts<F: Fn(&[u8], &mut [u8], usize)>(
     requires takes { TakesParts F.Fn write width size }
     ensures { Recodes F.Fn write width size count start parts.now out.old out.new }
 {
-    for i in 0..count {
-        let at = width * i;
-        write(&parts[at..at + width], out, start + size * i);
+    let mut at = 0;
+    let mut to = start;
+    for _part in 0..count {
+        write(&parts[at..at + width], out, to);
+        at += width;
+        to += size;
     }
 }

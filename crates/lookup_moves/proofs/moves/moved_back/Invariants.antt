@@ -7,6 +7,6 @@ use Rattle.lookup_moves.proofs.moves.moved_back.Given as goal
 
 abbrev pub invariant-loop-h : goal.invariant-loop-h
 invariant-loop-h l =
-    (l.total ≤ l.h * 2549158503125000)
-    × (moves_from (l.tapes - l.h) l.h (labels_start l.at + label_size * l.h) l.total l.arcs l.text (spot_with l.starts l.positions l.spans 0 0)
+    (l.from ≡ labels_start l.at + label_size * l.h) × (l.total ≤ l.h * 2549158503125000)
+    × (moves_from (l.tapes - l.h) l.h l.from l.total l.arcs l.text (spot_with l.starts l.positions l.spans 0 0)
     ≡ moves_from l.tapes 0 (labels_start l.at) 0 l.arcs l.text (spot_with l.starts l.positions l.spans 0 0))

@@ -1,4 +1,4 @@
-use mathlib.Core.Path.{◌≡◌, ◌∙◌}
+use mathlib.Core.Path.{◌≡◌, refl, ◌∙◌}
 use Prim.Native.Nat.{◌+◌, ◌-◌, ◌*◌, ◌≤◌}
 use native.Mathlib.Omega.{arith}
 use lib.ListN.{length}
@@ -9,21 +9,25 @@ use Rattle.product_records.proofs.record.store_side.Goals as goal
 pub returns-then-arc-eq-NO_ARC : goal.returns-then-arc-eq-NO_ARC
 returns-then-arc-eq-NO_ARC c = side_ended _ _ _ _ _ c.if-arc-eq-NO_ARC.true
 
+pub loop-tape-init : goal.loop-tape-init
+loop-tape-init c =
+    let f = c.labels_start-from.ensures in
+    let n : c.args.tapes - 0 ≡ c.args.tapes = omega arith in
+    (omega (arith, f), omega arith, rw (f, n) refl)
+
 pub loop-tape-preserved : goal.loop-tape-preserved
 loop-tape-preserved c =
     let l = c.loop-tape in
-    let f = c.labels_start-from.result in
     let known = c.requires.0 c.if-arc-eq-NO_ARC.false in
-    let from : f + label_size * (l.tape + 1) ≡ f + label_size * l.tape + label_size = omega arith in
-    let at : c.args.to + label_size * (l.tape + 1) ≡ c.args.to + label_size * l.tape + label_size = omega arith in
-    let within : f + label_size * l.tape + label_size * (c.args.tapes - l.tape) ≤ length c.args.arcs.now = omega (arith, known, c.labels_start-from.ensures) in
-    let fits : c.args.to + label_size * l.tape + label_size * (c.args.tapes - l.tape) ≤ length l.out = omega (arith, l.auto.out) in
-    rw (from, at)
-    (labels_more _ (f + label_size * l.tape) (c.args.to + label_size * l.tape) (c.args.tapes - l.tape) (c.args.tapes - (l.tape + 1)) _ _ (omega (arith, c.loop-tape-test.true)) within fits c.copy_label.ensures
-    ∙ l.invariant)
+    let within : l.from + label_size * (c.args.tapes - l._tape) ≤ length c.args.arcs.now = omega (arith, known, l.invariant.0) in
+    let fits : l.at + label_size * (c.args.tapes - l._tape) ≤ length l.out = omega (arith, l.auto.out, l.invariant.1) in (
+      omega (arith, l.invariant.0),
+      omega (arith, l.invariant.1),
+      labels_more _ l.from l.at (c.args.tapes - l._tape) (c.args.tapes - (l._tape + 1)) _ _ (omega (arith, c.loop-tape-test.true)) within fits c.copy_label.ensures ∙ l.invariant.2,
+    )
 
 pub returns : goal.returns
 returns c =
     let l = c.loop-tape in
     side_arc _ _ _ _ _ _ c.if-arc-eq-NO_ARC.false
-    (labels_done _ (c.labels_start-from.result + label_size * l.tape) (c.args.to + label_size * l.tape) (c.args.tapes - l.tape) _ _ (omega (arith, c.loop-tape-test.false)) l.invariant)
+    (labels_done _ l.from l.at (c.args.tapes - l._tape) _ _ (omega (arith, c.loop-tape-test.false)) l.invariant.2)

@@ -7,5 +7,6 @@ use Rattle.product_records.proofs.record.store_side.Given as goal
 
 abbrev pub invariant-loop-tape : goal.invariant-loop-tape
 invariant-loop-tape l =
-    splice (l.to + label_size * l.tape) (part (l.from + label_size * l.tape) (label_size * (l.tapes - l.tape)) l.arcs) l.out
-    ≡ splice l.to (part (labels_start (arc_size * l.arc)) (label_size * l.tapes) l.arcs) l.initial.out
+    (l.from ≡ labels_start (arc_size * l.arc) + label_size * l._tape) × (l.at ≡ l.to + label_size * l._tape)
+    × (splice l.at (part l.from (label_size * (l.tapes - l._tape)) l.arcs) l.out
+    ≡ splice l.to (part (labels_start (arc_size * l.arc)) (label_size * l.tapes) l.arcs) l.initial.out)

@@ -8,4 +8,4 @@ use Rattle.table.specs.Judging.{labels_read}
 use Rattle.table.proofs.judge.judge_labels.Given as goal
 
 abbrev pub invariant-loop-tape : goal.invariant-loop-tape
-invariant-loop-tape l = forget (beside (judged_as l.judged) (labels_read (l.tapes - l.tape) (drop (label_size * l.tape) l.labels))) ≡ forget (labels_read l.tapes l.labels)
+invariant-loop-tape l = (l.at ≡ label_size * l._tape) × (forget (beside (judged_as l.judged) (labels_read (l.tapes - l._tape) (drop l.at l.labels))) ≡ forget (labels_read l.tapes l.labels))
