@@ -1,19 +1,20 @@
 -- The record of a move as it is written, over plain lists.
 use mathlib.Core.Path.{◌≡◌, refl, sym, ap, ◌∙◌}
 use mathlib.Core.Bool.{Bool, true, false}
-use mathlib.Core.List.{List, [], ◌++◌}
+use mathlib.Core.List.{List, [], ◌∷◌, ◌++◌}
 use Prim.Native.Nat.{ℕ, ◌+◌, ◌-◌, ◌*◌, ◌≤◌}
 use native.Mathlib.Omega.{arith}
 use lib.Dec.{eqb, eqb_refl}
-use lib.ListN.{length, length-append, length-replicate, replicate-append-replicate}
+use lib.ListN.{length, get_or, set, length-append, length-replicate, replicate-append-replicate}
 use Rattle.automata.specs.Lists.{if}
 use Rattle.automata.specs.Memory.{zeros}
 use Rattle.automata.proofs.TestFacts.{eqb_false, false_not_true, T_true}
 use Rattle.automata.specs.Layout.{arc_size, content_place, label_size, labels_place, labels_size}
 use Rattle.table.specs.Arcs.{labels_start}
 use Rattle.table.specs.Region.{part, splice}
-use Rattle.table.specs.Endian.{to_le}
-use Rattle.table.proofs.RegionFacts.{length_part, part_zero, part-add, length_splice, splice-none, splice-twice, splice_append, splice-behind, splice_swap}
+use Rattle.table.specs.Endian.{le, to_le}
+use Rattle.table.proofs.EndianFacts.{Bytes, to_le-part}
+use Rattle.table.proofs.RegionFacts.{length_part, part_zero, part_suc, part-add, length_splice, splice-none, splice-twice, splice_append, splice-behind, splice_swap, one_store}
 use Rattle.product_search.specs.declared.vertex.Move.{Move}
 use Rattle.product_search.specs.Moves.{no_arc}
 use Rattle.product_records.specs.Sums.{side_labels, side_over, move_sum, move_front, move_labels, move_record, MoveFits}
@@ -31,6 +32,15 @@ zeros_parts a b c = sym (ap (λ (j : List ℕ). zeros a ++ j) (replicate-append-
 -- those of a record: of each side, and behind them
 zeros_split : (n k : ℕ) → n + k ≤ 8 → zeros labels_size ≡ zeros (label_size * n) ++ (zeros (label_size * k) ++ zeros (labels_size - label_size * n - label_size * k))
 zeros_split n k t = let s : labels_size ≡ label_size * n + (label_size * k + (labels_size - label_size * n - label_size * k)) = omega arith in ap zeros s ∙ zeros_parts (label_size * n) (label_size * k) (labels_size - label_size * n - label_size * k)
+
+-- a label copied: its length, and its eight bytes as one number
+pub label_copied : (arcs : List ℕ) (from to w : ℕ) (out out2 : List ℕ) → Bytes arcs → from + label_size ≤ length arcs → to + label_size ≤ length out
+    → w ≡ le (part (from + 1) 8 arcs) → out2 ≡ splice (to + 1) (to_le 8 w) (set out to (get_or arcs from 0)) → out2 ≡ splice to (part from label_size arcs) out
+label_copied arcs from to w out out2 bytes h k e f =
+    let x = get_or arcs from 0 in
+    let b : to_le 8 w ≡ part (from + 1) 8 arcs = ap (to_le 8) e ∙ to_le-part (from + 1) 8 arcs (omega arith) bytes in
+    splice-behind to (to + 1) (x ∷ []) (to_le 8 w) out (set out to x) out2 (one_store to x out (omega arith)) f refl (omega arith)
+    ∙ ap (λ (z : List ℕ). splice to z out) (ap (λ (z : List ℕ). x ∷ z) b ∙ sym (part_suc from 8 arcs 0 (omega arith)))
 
 -- ---- the labels of a side
 

@@ -9,16 +9,19 @@ ghost use Rattle.product_records.specs.Sums.{side_over, move_front, move_labels,
 use crate::sum::move_weight;
 use product_search::vertex::{Move, NO_ARC};
 use table::arc::{labels_start, store_arc_weight, store_ends};
-use table::bytes::copy_into;
-use table::layout::{ARC_SIZE, LABEL_SIZE, LABELS_SIZE};
+use table::bytes::{copy_into, get64, put64};
+use table::layout::{ARC_SIZE, LABEL_SIZE, LABELS_SIZE, SYMBOLS_PLACE};
 use table::record::ResultState;
 
-// A label: its length and its eight bytes.
+// A label: its length and its eight bytes, these as one number, which is less work than byte by byte.
 fn copy_label(arcs: &[u8], from: usize, out: &mut [u8], to: usize)
     requires { (from + label_size ≤ length arcs.now) × (to + label_size ≤ length out.old) }
     ensures { out.new ≡ splice to (part from label_size arcs.now) out.old }
 {
-    copy_into(out, to, &arcs[from..from + LABEL_SIZE]);
+    let len = arcs[from];
+    let symbols = get64(arcs, from + SYMBOLS_PLACE);
+    out[to] = len;
+    put64(out, to + SYMBOLS_PLACE, symbols);
 }
 
 // The labels of a record: 72 zeros.

@@ -1,10 +1,12 @@
-use mathlib.Core.Path.{◌≡◌}
-use Prim.Native.Nat.{◌+◌, ◌-◌}
 use native.Mathlib.Omega.{arith}
-use Rattle.automata.specs.Layout.{label_size}
-use Rattle.table.specs.Region.{part}
+use lib.ListN.{length-set}
+use Rattle.product_records.proofs.RecordFacts.{label_copied}
 use Rattle.product_records.proofs.record.copy_label.Goals as goal
 
+pub put64-requires : goal.put64-requires
+put64-requires c = simp length-set (omega arith)
+
 pub returns : goal.returns
-unfolding part
-returns c = let size : c.args.from + label_size - c.args.from ≡ label_size = omega arith in rw size at c.copy_into.ensures
+returns c =
+    let s = c in
+    label_copied _ s.args.from s.args.to _ _ _ (λ i. omega (arith, c.type_inv.arcs i)) s.requires.0 s.requires.1 c.get64-symbols.ensures c.put64.ensures
