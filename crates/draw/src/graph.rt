@@ -84,11 +84,11 @@ fn put_label(arcs: &[u8], at: usize, first: bool) {
 
 // The labels of an arc on so many tapes, a colon between two.
 fn put_labels(arcs: &[u8], start: usize, tapes: usize) {
-    if 1000000 < start {
-        return;
-    }
     let mut at = start;
     for tape in 0..tapes.min(TAPES) {
+        if 1000000 < at {
+            return;
+        }
         put_label(arcs, at, tape == 0);
         at += LABEL_SIZE;
     }
